@@ -1,0 +1,100 @@
+-- Document 01, "Banks and addresses": where a pixel's word stands.
+-- Assumes nothing.
+use Prim.Native.Nat.{ℕ, _+_, _*_, _/_, _%_}
+use mathlib.Core.Bool.{Bool, true, false, _&&_}
+use mathlib.Core.List.{List, [], _∷_, _++_, foldr}
+use lib.Dec.{ltb}
+use lib.IntN.{ℤ, pos, negsuc, natAbs, _+ℤ_, _-ℤ_, _*ℤ_}
+use lib.ListN.{length, getD, take, drop, replicate, set}
+use Rattle.integers.specs.Division.{floorDiv, floorMod, ceilDiv}
+use Rattle.scope.specs.Plans.{Pixel}
+use Rattle.scope.specs.declared.Plan.{Plan}
+
+-- "j = q × d + r with 0 ≤ r < d, q rounded down"
+unfoldable pub quotient : Plan → Pixel → ℤ
+unfolding floorDiv
+quotient p v = floorDiv (v .row) (p .d)
+
+unfoldable pub remainder : Plan → Pixel → ℕ
+unfolding floorMod
+remainder p v = floorMod (v .row) (p .d)
+
+-- "The bank is r × a + ((i - b × q) mod a), the remainder from 0 to a - 1."
+unfoldable pub bankOf : Plan → Pixel → ℕ
+unfolding quotient remainder floorMod
+bankOf p v = remainder p v * p .a + floorMod (v .column -ℤ pos (p .b) *ℤ quotient p v) (p .a)
+
+-- 0 ≤ z < n
+unfoldable pub below : ℤ → ℕ → Bool
+below (pos i) n = ltb i n
+below (negsuc i) n = false
+
+-- "A picture has width W and height H, [..] its pixels from (0, 0) to (W-1, H-1)."
+unfoldable pub inside : ℕ → ℕ → Pixel → Bool
+unfolding below
+inside W H v = below (v .column) W && below (v .row) H
+
+-- "Let C be W/a rounded up."
+unfoldable pub across : Plan → ℕ → ℕ
+unfolding ceilDiv
+across p W = ceilDiv W (p .a)
+
+-- "The address is q × C + (i/a rounded down)." No coordinate of a picture's pixel is negative, so the address is not
+unfoldable pub addressOf : Plan → ℕ → Pixel → ℕ
+unfolding quotient across floorDiv
+addressOf p W v = natAbs (quotient p v *ℤ pos (across p W) +ℤ floorDiv (v .column) (p .a))
+
+-- "The depth is C × (H/d rounded up)."
+unfoldable pub depthOf : Plan → ℕ → ℕ → ℕ
+unfolding across ceilDiv
+depthOf p W H = across p W * ceilDiv H (p .d)
+
+-- "Bank k has the words k × depth to (k+1) × depth - 1 of the lent memory": the word at a pixel's bank and address
+unfoldable pub wordOf : Plan → ℕ → ℕ → Pixel → ℕ
+unfolding bankOf depthOf addressOf
+wordOf p W H v = bankOf p v * depthOf p W H + addressOf p W v
+
+unfoldable pub wordIn : Plan → ℕ → ℕ → List ℕ → Pixel → ℕ
+unfolding wordOf
+wordIn p W H mem v = getD mem (wordOf p W H v) 0
+
+-- "The reverse map gives the pixel of a bank and address." With bank = r × a + c and address = q × C + u:
+-- the row is q × d + r, and the column is the one from u × a to u × a + a - 1 that is c + b × q modulo a
+unfoldable pub pixelOf : Plan → ℕ → ℕ → ℕ → Pixel
+unfolding across
+pixelOf p W bank address =
+    let r : ℕ = bank / p .a in
+    let c : ℕ = bank % p .a in
+    let q : ℕ = address / across p W in
+    let u : ℕ = address % across p W in
+    record { column = pos (u * p .a + (c + p .b * q) % p .a); row = pos (q * p .d + r) }
+
+-- the words of bank k
+unfoldable pub bankWords : Plan → ℕ → ℕ → List ℕ → ℕ → List ℕ
+unfolding depthOf
+bankWords p W H mem k = take (depthOf p W H) (drop (k * depthOf p W H) mem)
+
+-- "A store puts its word at its pixel's bank and address [..] neither changes another word of the memory."
+unfoldable pub afterStore : Plan → ℕ → ℕ → List ℕ → Pixel → ℕ → List ℕ
+unfolding wordOf
+afterStore p W H mem v x = set mem (wordOf p W H v) x
+
+-- "a clear puts 0 in every word of its bank"
+unfoldable pub afterClear : Plan → ℕ → ℕ → List ℕ → ℕ → List ℕ
+unfolding depthOf
+afterClear p W H mem k =
+    take (k * depthOf p W H) mem ++ (replicate (depthOf p W H) 0 ++ drop (k * depthOf p W H + depthOf p W H) mem)
+
+-- "the exact sum of one bank's words"
+unfoldable pub bankSum : Plan → ℕ → ℕ → List ℕ → ℕ → ℕ
+unfolding bankWords
+bankSum p W H mem k = foldr _+_ 0 (bankWords p W H mem k)
+
+-- xs "at the start of a lent output, the rest unchanged"
+unfoldable pub overStart : List ℕ → List ℕ → List ℕ
+overStart xs out = xs ++ drop (length xs) out
+
+-- "A ring fetch reduces columns modulo W and rows modulo H."
+unfoldable pub wrapped : ℕ → ℕ → Pixel → Pixel
+unfolding floorMod
+wrapped W H v = record { column = pos (floorMod (v .column) W); row = pos (floorMod (v .row) H) }

@@ -1,0 +1,11 @@
+pub mod Search
+pub mod Plans
+pub mod Finding
+pub mod Banks
+pub mod Books
+pub mod Numbers
+pub mod Calls
+pub mod Program
+pub mod Demand
+pub mod Promises
+pub mod Figures

@@ -1,0 +1,37 @@
+-- Searches and lists that the definitions are made of. Nothing here is of document 01.
+-- Assumes nothing.
+use Prim.Native.Nat.{ℕ, zero, suc}
+use mathlib.Core.Bool.{Bool, true, false, _||_}
+use mathlib.Core.Option.{Option, none, some}
+use mathlib.Core.List.{List, [], _∷_}
+
+-- the first of f k, f (k + 1), .., n of them, that gives something
+unfoldable pub first : {A : Type 0} → (ℕ → Option A) → ℕ → ℕ → Option A
+first f zero k = none
+first f (suc n) k = elim (f k) [ none ↦ first f n (suc k) | some x ↦ some x ]
+
+-- the list of f k, f (k + 1), .., n of them; what a `let` binds is worked out only when it is asked for
+unfoldable pub gather : {A : Type 0} → (ℕ → A) → ℕ → ℕ → List A
+gather f zero k = []
+gather {A} f (suc n) k = let x : A = f k in let xs : List A = gather f n (suc k) in x ∷ xs
+
+-- x if the test holds
+unfoldable pub whenever : {A : Type 0} → Bool → A → Option A
+whenever true x = some x
+whenever false x = none
+
+-- the first entry that gives something
+unfoldable pub firstOf : {A : Type 0} → List (Option A) → Option A
+firstOf [] = none
+firstOf (none ∷ xs) = firstOf xs
+firstOf (some x ∷ xs) = some x
+
+-- the test holds of every entry
+unfoldable pub every : {A : Type 0} → (A → Bool) → List A → Bool
+every f [] = true
+every f (x ∷ xs) = elim (f x) [ true ↦ every f xs | false ↦ false ]
+
+-- the test holds of some number below n
+unfoldable pub someBelow : (ℕ → Bool) → ℕ → Bool
+someBelow f zero = false
+someBelow f (suc n) = someBelow f n || f n

@@ -1,0 +1,107 @@
+// Document 01's types. What each call does with them is defined in specs/.
+
+// A pattern: the columns and rows of its pixels, of which the first `used` count.
+pub struct Pattern {
+    pub columns: [i8; 64],
+    pub rows: [i8; 64],
+    pub used: usize,
+}
+
+// A book record: the patterns numbered from 0, of which the first `count` count.
+pub struct Book {
+    pub patterns: [Pattern; 16],
+    pub count: usize,
+}
+
+// A plan. Any three numbers can stand here; a call refuses by 11 those that are no plan.
+pub struct Plan {
+    pub a: u32,
+    pub b: u32,
+    pub d: u32,
+}
+
+// Two pixels of one pattern in one bank: the pattern's number and the positions of both.
+pub struct Clash {
+    pub pattern: usize,
+    pub earlier: usize,
+    pub later: usize,
+}
+
+// A row of a record list. A call fills in the bank and the address.
+pub struct PixelRecord {
+    pub column: i16,
+    pub row: i16,
+    pub bank: u32,
+    pub address: u32,
+}
+
+// The 18 refusals in document 01's order. A number in 1 to 5 is the place in a book's bytes.
+pub enum Refusal {
+    Ends(usize),
+    Count(usize),
+    Coordinate(usize),
+    Repeat(usize),
+    Extra(usize),
+    Limit,
+    NoPlan,
+    Dependent,
+    Large,
+    Unsuited(Clash),
+    NotPlan,
+    Sides,
+    Memory,
+    Outside,
+    Cell,
+    Output,
+    NoPattern,
+    Ring,
+}
+
+// A plan and how many banks it has above the least count.
+pub struct Checked {
+    pub plan: Plan,
+    pub surplus: u32,
+}
+
+// What the check says of a supplier's two vectors.
+pub enum Verdict {
+    Suits(Checked),
+    Clashes(Clash),
+    Refused(Refusal),
+}
+
+// The answer of the finder and of the normal form.
+pub enum Planned {
+    Plan(Plan),
+    Refused(Refusal),
+}
+
+// The answer of the bank, the depth, the address, the sum, and the counts of bytes written and words fetched.
+pub enum Counted {
+    Number(u64),
+    Refused(Refusal),
+}
+
+// The answer of a load.
+pub enum Loaded {
+    Word(u16),
+    Refused(Refusal),
+}
+
+// The answer of the reverse map: column and row.
+pub enum Located {
+    Pixel(i16, i16),
+    Refused(Refusal),
+}
+
+// The answer of a call that has nothing to tell but that it was done.
+pub enum Outcome {
+    Done,
+    Refused(Refusal),
+}
+
+// The answer of the reader. The book holds an array, so it stands beside the enum; on a refusal it is empty.
+pub struct Reading {
+    pub book: Book,
+    pub outcome: Outcome,
+}
