@@ -1,21 +1,20 @@
 -- What is promised of the definitions, as named statements. Demand 3's list has its own file, Demand.antt.
 -- Assumes nothing.
-use Prim.Native.Nat.{ℕ, suc, _+_, _*_, _≤_, _<_}
+use Prim.Native.Nat.{ℕ, _+_, _*_, _≤_, _<_}
 use mathlib.Core.Path.{_≡_}
 use mathlib.Core.Logic.{_↔_, _⊎_}
 use mathlib.Core.Bool.{Bool, true, false}
 use mathlib.Core.Option.{Option, none, some}
 use mathlib.Core.List.{List, [], _∷_, map, flatMap, List·Memᴰ}
 use lib.IntN.{ℤ, pos, negsuc}
-use lib.ListN.{length, getD}
+use lib.ListN.{length, getD, drop}
 use lib.Signed.{_≤ℤ_}
-use Rattle.scope.specs.Search.{every}
 use Rattle.scope.specs.Plans.{Pixel, minus, pixelAt, patternAt, pixels, patterns, banks, isPlan, Combination, along, up, InLattice, latticeTest, suits, suitsAll, determinant, determinantSize, normalForm}
 use Rattle.scope.specs.Finding.{width, height, clashIn}
-use Rattle.scope.specs.Banks.{bankOf, addressOf, depthOf, inside, wordOf, pixelOf, wrapped}
+use Rattle.scope.specs.Banks.{bankOf, addressOf, depthOf, inside, wordOf, wordIn, bankSum, wrapped}
 use Rattle.scope.specs.Books.{byte, bookOf, pixelBytes, bookBytes}
-use Rattle.scope.specs.Numbers.{Answer, value, refusal, ofPlanned, ofLocated, ofVerdict, isSide, recordTest, ringTest}
-use Rattle.scope.specs.Calls.{readBook, partTest, patternPart, findTest, find, checkTest, check, locate, fetchTest, moved}
+use Rattle.scope.specs.Numbers.{Answer, value, refusal, ofPlanned, ofLocated, ofVerdict, isSide, recordTest, outsideTest, ringTest}
+use Rattle.scope.specs.Calls.{readBook, partTest, patternPart, findTest, find, checkTest, check, locate, wordTest, store, wholeBankTest, clear, fetchTest, moved}
 use Rattle.scope.specs.Demand.{AllDifferent}
 use Rattle.scope.specs.declared.Plan.{Plan}
 use Rattle.scope.specs.declared.Pattern.{Pattern}
@@ -174,6 +173,45 @@ pub record WordsOf (p : Plan) (W H : ℕ) : Type 0 where
 abbrev pub PixelsHaveWords : Type 0
 PixelsHaveWords = (p : Plan) (W H : ℕ) → isPlan p ≡ true → isSide W ≡ true → isSide H ≡ true → WordsOf p W H
 
+-- "A store puts its word at its pixel's bank and address, [..] and neither changes another word of the memory." "Words past
+-- N × depth are never touched."
+pub record OneWordChanged (p : Plan) (W H : ℕ) (v : Pixel) (x : ℕ) (old new : List ℕ) : Type 0 where
+  pub put : wordIn p W H new v ≡ x
+  pub elsewhere : (t : ℕ) → (t ≡ wordOf p W H v → ⊥) → getD new t 0 ≡ getD old t 0
+  pub as-long : length new ≡ length old
+  pub past : drop (banks p * depthOf p W H) new ≡ drop (banks p * depthOf p W H) old
+
+abbrev pub StoreChangesOneWord : Type 0
+StoreChangesOneWord =
+    (p : Plan) (W H : ℕ) (mem : List ℕ) (v : Pixel) (x : ℕ) → wordTest p W H (length mem) v ≡ none
+    → OneWordChanged p W H v x mem (store p W H mem v x .content)
+
+-- "a clear puts 0 in every word of its bank"
+pub record OneBankCleared (p : Plan) (W H k : ℕ) (old new : List ℕ) : Type 0 where
+  pub zero : (t : ℕ) → t < depthOf p W H → getD new (k * depthOf p W H + t) 0 ≡ 0
+  pub before : (t : ℕ) → t < k * depthOf p W H → getD new t 0 ≡ getD old t 0
+  pub after : (t : ℕ) → k * depthOf p W H + depthOf p W H ≤ t → getD new t 0 ≡ getD old t 0
+  pub as-long : length new ≡ length old
+  pub past : drop (banks p * depthOf p W H) new ≡ drop (banks p * depthOf p W H) old
+
+abbrev pub ClearChangesOneBank : Type 0
+ClearChangesOneBank =
+    (p : Plan) (W H : ℕ) (mem : List ℕ) (k : ℕ) → wholeBankTest p W H (length mem) k ≡ none
+    → OneBankCleared p W H k mem (clear p W H mem k .content)
+
+-- "the exact sum of one bank's words, in 64 bits": the words have 16 bits, and the sum stays below 2 ^ 64
+abbrev pub SumFits : Type 0
+SumFits =
+    (p : Plan) (W H : ℕ) (mem : List ℕ) (k : ℕ) → wholeBankTest p W H (length mem) k ≡ none
+    → ((t : ℕ) → getD mem t 0 < 65536) → bankSum p W H mem k < 0x1_0000_0000_0000_0000
+
+-- "that there is at most one from each bank means that these banks are all different", under every plan
+abbrev pub FetchReadsApart : Type 0
+FetchReadsApart =
+    (k : Book) (p : Plan) (W H words n room : ℕ) (o : Pixel)
+    → fetchTest k p W H words n (outsideTest W H (moved k n o)) room ≡ none
+    → AllDifferent (map (bankOf p) (moved k n o))
+
 -- Document 000, Theorem 2.6, for both sides: where W and H are multiples of N, wrapping keeps the bank, and a ring fetch
 -- that is not turned down reads pixels of the picture from banks that are all different
 pub record RingFor (p : Plan) (W H : ℕ) : Type 0 where
@@ -206,6 +244,10 @@ pub record IsBook (k : Book) : Type 0 where
 
 abbrev pub RecordTest : Type 0
 RecordTest = (k : Book) → (recordTest k ≡ none) ↔ IsBook k
+
+-- "The unused entries don't count": the record with its unused entries 0 is as legal and has the same patterns
+abbrev pub UnusedDontCount : Type 0
+UnusedDontCount = (k : Book) → recordTest k ≡ none → (recordTest (bookOf (patterns k)) ≡ none) × (patterns (bookOf (patterns k)) ≡ patterns k)
 
 -- reading what was written gives the record, its unused entries 0
 abbrev pub ReadAfterWrite : Type 0
