@@ -25,24 +25,25 @@ unfolding quotient remainder floorMod
 bankOf p v = remainder p v * p .a + floorMod (v .column -ℤ pos (p .b) *ℤ quotient p v) (p .a)
 
 -- 0 ≤ z < n
-unfoldable pub below : ℤ → ℕ → Bool
-below (pos i) n = ltb i n
-below (negsuc i) n = false
+unfoldable pub within : ℤ → ℕ → Bool
+within (pos i) n = ltb i n
+within (negsuc i) n = false
 
 -- "A picture has width W and height H, [..] its pixels from (0, 0) to (W-1, H-1)."
 unfoldable pub inside : ℕ → ℕ → Pixel → Bool
-unfolding below
-inside W H v = below (v .column) W && below (v .row) H
+unfolding within
+inside W H v = within (v .column) W && within (v .row) H
 
 -- "Let C be W/a rounded up."
 unfoldable pub across : Plan → ℕ → ℕ
 unfolding ceilDiv
 across p W = ceilDiv W (p .a)
 
--- "The address is q × C + (i/a rounded down)." No coordinate of a picture's pixel is negative, so the address is not
-unfoldable pub addressOf : Plan → ℕ → Pixel → ℕ
+-- "The address is q × C + (i/a rounded down)." No coordinate of a picture's pixel is negative, so the address is not.
+-- It is given the picture, W and H, though H does not tell in it
+unfoldable pub addressOf : Plan → ℕ → ℕ → Pixel → ℕ
 unfolding quotient across floorDiv
-addressOf p W v = natAbs (quotient p v *ℤ pos (across p W) +ℤ floorDiv (v .column) (p .a))
+addressOf p W H v = natAbs (quotient p v *ℤ pos (across p W) +ℤ floorDiv (v .column) (p .a))
 
 -- "The depth is C × (H/d rounded up)."
 unfoldable pub depthOf : Plan → ℕ → ℕ → ℕ
@@ -52,7 +53,7 @@ depthOf p W H = across p W * ceilDiv H (p .d)
 -- "Bank k has the words k × depth to (k+1) × depth - 1 of the lent memory": the word at a pixel's bank and address
 unfoldable pub wordOf : Plan → ℕ → ℕ → Pixel → ℕ
 unfolding bankOf depthOf addressOf
-wordOf p W H v = bankOf p v * depthOf p W H + addressOf p W v
+wordOf p W H v = bankOf p v * depthOf p W H + addressOf p W H v
 
 unfoldable pub wordIn : Plan → ℕ → ℕ → List ℕ → Pixel → ℕ
 unfolding wordOf
@@ -60,9 +61,9 @@ wordIn p W H mem v = getD mem (wordOf p W H v) 0
 
 -- "The reverse map gives the pixel of a bank and address." With bank = r × a + c and address = q × C + u:
 -- the row is q × d + r, and the column is the one from u × a to u × a + a - 1 that is c + b × q modulo a
-unfoldable pub pixelOf : Plan → ℕ → ℕ → ℕ → Pixel
+unfoldable pub pixelOf : Plan → ℕ → ℕ → ℕ → ℕ → Pixel
 unfolding across
-pixelOf p W bank address =
+pixelOf p W H bank address =
     let r : ℕ = bank / p .a in
     let c : ℕ = bank % p .a in
     let q : ℕ = address / across p W in

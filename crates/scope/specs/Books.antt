@@ -40,16 +40,16 @@ unfoldable pub pixelIn : List ℕ → ℕ → ℕ → Pixel
 unfolding signed byte place
 pixelIn s n e = record { column = signed (byte s (place s n e)); row = signed (byte s (place s n e + 1)) }
 
--- "that pattern's pixel bytes as the part of the book where they stand"
+-- "that pattern's pixel bytes as the part of the book where they stand": from the first pixel's place on, two to a pixel
 unfoldable pub partIn : List ℕ → ℕ → List ℕ
-unfolding byte start
-partIn s n = take (2 * byte s (start s n)) (drop (start s n + 1) s)
+unfolding byte start place
+partIn s n = take (2 * byte s (start s n)) (drop (place s n 0) s)
 
 -- "a fixed array of 16 patterns, each with its arrays of 64 columns and rows and a count": the record of a list of
 -- patterns. "The unused entries don't count; a reader sets them to 0."
 unfoldable pub filled : {A : Type 0} → ℕ → A → List A → List A
 unfolding gather
-filled n x xs = gather (λ i. getD xs i x) n 0
+filled n x xs = gather 0 n λ i. getD xs i x
 
 unfoldable pub patternOf : List Pixel → Pattern
 unfolding filled
@@ -62,12 +62,12 @@ patternOf t =
 
 unfoldable pub bookOf : List (List Pixel) → Book
 unfolding filled patternOf
-bookOf k = record { patterns = filled 16 (patternOf []) (map patternOf k); count = length k }
+bookOf ts = record { patterns = filled 16 (patternOf []) (map patternOf ts); count = length ts }
 
 -- the record of a book's bytes
 unfoldable pub bookIn : List ℕ → Book
 unfolding bookOf gather pixelIn byte start
-bookIn s = bookOf (gather (λ n. gather (pixelIn s n) (byte s (start s n)) 0) (byte s 0) 0)
+bookIn s = bookOf (gather 0 (byte s 0) λ n. gather 0 (byte s (start s n)) (pixelIn s n))
 
 -- and the bytes of a record
 unfoldable pub pixelBytes : Pixel → List ℕ
@@ -80,4 +80,4 @@ patternBytes t = length t ∷ flatMap pixelBytes t
 
 unfoldable pub bookBytes : Book → List ℕ
 unfolding flatMap patternBytes patterns
-bookBytes k = k .count ∷ flatMap patternBytes (patterns k)
+bookBytes book = book .count ∷ flatMap patternBytes (patterns book)

@@ -62,10 +62,10 @@ partOutcome s n = answered (partTest s n) Outcome.Refused Outcome.Done
 -- Write a record, and tell how many bytes: 2, 3, 4, "the writer then 16".
 unfoldable pub writeBook : Book → List ℕ → Result Counted (List ℕ)
 unfolding changed firstOf recordTest outputTest bookBytes overStart
-writeBook k out =
-    changed (firstOf (recordTest k ∷ outputTest (length (bookBytes k)) (length out) ∷ [])) Counted.Refused out
-    (Counted.Number (length (bookBytes k)))
-    (overStart (bookBytes k) out)
+writeBook book out =
+    changed (firstOf (recordTest book ∷ outputTest (length (bookBytes book)) (length out) ∷ [])) Counted.Refused out
+    (Counted.Number (length (bookBytes book)))
+    (overStart (bookBytes book) out)
 
 -- The normal form of two vectors: "the call for it refuses by 8 and 9".
 unfoldable pub normal : Pixel → Pixel → Planned
@@ -76,7 +76,7 @@ normal x y =
 -- Find: 2, 3, 4, 6, "with 7 last".
 unfoldable pub findTest : Book → ℕ → Option Refusal
 unfolding firstOf recordTest limitTest
-findTest k limit = firstOf (recordTest k ∷ limitTest limit ∷ [])
+findTest book limit = firstOf (recordTest book ∷ limitTest limit ∷ [])
 
 unfoldable pub found : Option Plan → Planned
 found none = Planned.Refused Refusal.NoPlan
@@ -84,25 +84,25 @@ found (some p) = Planned.Plan p
 
 unfoldable pub find : Book → ℕ → Planned
 unfolding answered findTest found leastPlan patterns
-find k limit = answered (findTest k limit) Planned.Refused (found (leastPlan (patterns k) limit))
+find book limit = answered (findTest book limit) Planned.Refused (found (leastPlan (patterns book) limit))
 
 -- Check a supplier's vectors: 2, 3, 4, 8, 9, then the clash, which is 10. "the normal form together with the surplus, N
 -- minus the least count, or a clash, or a refusal"
 unfoldable pub checkTest : Book → Pixel → Pixel → Option Refusal
 unfolding firstOf recordTest dependentTest largeTest
-checkTest k x y = firstOf (recordTest k ∷ dependentTest x y ∷ largeTest x y ∷ [])
+checkTest book x y = firstOf (recordTest book ∷ dependentTest x y ∷ largeTest x y ∷ [])
 
 unfoldable pub judged : List (List Pixel) → Plan → Verdict
 unfolding clash banks leastCount
-judged k p =
-    elim (clash p k) [
+judged ts p =
+    elim (clash p ts) [
       | some c ↦ Verdict.Clashes c
-      | none ↦ Verdict.Suits (record { plan = p; surplus = banks p - leastCount k })
+      | none ↦ Verdict.Suits (record { plan = p; surplus = banks p - leastCount ts })
     ]
 
 unfoldable pub check : Book → Pixel → Pixel → Verdict
 unfolding answered checkTest judged patterns normalForm
-check k x y = answered (checkTest k x y) Verdict.Refused (judged (patterns k) (normalForm x y))
+check book x y = answered (checkTest book x y) Verdict.Refused (judged (patterns book) (normalForm x y))
 
 -- The bank of a pixel: 11.
 unfoldable pub bank : Plan → Pixel → Counted
@@ -119,14 +119,14 @@ unfoldable pub address : Plan → ℕ → ℕ → Pixel → Counted
 unfolding answered firstOf planTest sidesTest outsideTest addressOf
 address p W H v =
     answered (firstOf (planTest p ∷ sidesTest W H ∷ outsideTest W H (v ∷ []) ∷ [])) Counted.Refused
-    (Counted.Number (addressOf p W v))
+    (Counted.Number (addressOf p W H v))
 
--- The reverse map, of bank k and address t: 11, 12, 15.
+-- The reverse map, of bank k and address i: 11, 12, 15.
 unfoldable pub locate : Plan → ℕ → ℕ → ℕ → ℕ → Located
 unfolding answered firstOf planTest sidesTest cellTest pixelOf
-locate p W H k t =
-    answered (firstOf (planTest p ∷ sidesTest W H ∷ cellTest p W H k t ∷ [])) Located.Refused
-    (Located.Pixel (pixelOf p W k t .column) (pixelOf p W k t .row))
+locate p W H k i =
+    answered (firstOf (planTest p ∷ sidesTest W H ∷ cellTest p W H k i ∷ [])) Located.Refused
+    (Located.Pixel (pixelOf p W H k i .column) (pixelOf p W H k i .row))
 
 -- Store and load a word: 11, 12, 13, 14. `words` is the memory's length.
 unfoldable pub wordTest : Plan → ℕ → ℕ → ℕ → Pixel → Option Refusal
@@ -162,52 +162,68 @@ sum p W H mem k =
 -- "a pattern with (0, 0) moved to a signed 16-bit position", pattern n to position o, "in the book's pixel order"
 unfoldable pub moved : Book → ℕ → Pixel → List Pixel
 unfolding plus pixels patternAt
-moved k n o = map (plus o) (pixels (patternAt k n))
+moved book n o = map (plus o) (pixels (patternAt book n))
 
--- A fetch, plain or ring: 2, 3, 4, 11, 12, 13, 17, "10 for its own pattern only", then 18 or 14, given as `positionTest`, and 16.
--- It reads the words at the pixels vs and tells how many. `room` is the output's length.
-unfoldable pub fetchTest : Book → Plan → ℕ → ℕ → ℕ → ℕ → Option Refusal → ℕ → Option Refusal
-unfolding firstOf recordTest planTest sidesTest memoryTest numberTest suitsTest outputTest
-fetchTest k p W H words n positionTest room =
+-- Fetch, and tell how many words: 2, 3, 4, 11, 12, 13, 17, "10 for its own pattern only", 14, 16. `room` is the output's length.
+unfoldable pub fetchTest : Book → Plan → ℕ → ℕ → ℕ → ℕ → Pixel → ℕ → Option Refusal
+unfolding firstOf recordTest planTest sidesTest memoryTest numberTest suitsTest outsideTest outputTest moved patternAt
+fetchTest book p W H words n o room =
     firstOf
-    (recordTest k
+    (recordTest book
     ∷ planTest p
     ∷ sidesTest W H
     ∷ memoryTest p W H words
-    ∷ numberTest (k .count) n
-    ∷ suitsTest p k n
-    ∷ positionTest
-    ∷ outputTest (patternAt k n .used) room
+    ∷ numberTest (book .count) n
+    ∷ suitsTest p book n
+    ∷ outsideTest W H (moved book n o)
+    ∷ outputTest (patternAt book n .used) room
     ∷ [])
 
-unfoldable pub fetchAt : Book → Plan → ℕ → ℕ → List ℕ → ℕ → Option Refusal → List Pixel → List ℕ → Result Counted (List ℕ)
-unfolding changed fetchTest overStart wordIn
-fetchAt k p W H mem n positionTest vs out =
-    changed (fetchTest k p W H (length mem) n positionTest (length out)) Counted.Refused out
-    (Counted.Number (length vs))
-    (overStart (map (wordIn p W H mem) vs) out)
-
 unfoldable pub fetch : Book → Plan → ℕ → ℕ → List ℕ → ℕ → Pixel → List ℕ → Result Counted (List ℕ)
-unfolding fetchAt outsideTest moved
-fetch k p W H mem n o out = fetchAt k p W H mem n (outsideTest W H (moved k n o)) (moved k n o) out
+unfolding changed fetchTest overStart wordIn moved
+fetch book p W H mem n o out =
+    changed (fetchTest book p W H (length mem) n o (length out)) Counted.Refused out
+    (Counted.Number (length (moved book n o)))
+    (overStart (map (wordIn p W H mem) (moved book n o)) out)
 
--- "a ring fetch has 18 and no 14"
+-- Ring fetch: "a ring fetch has 18 and no 14".
+unfoldable pub ringFetchTest : Book → Plan → ℕ → ℕ → ℕ → ℕ → ℕ → Option Refusal
+unfolding firstOf recordTest planTest sidesTest memoryTest numberTest suitsTest ringTest outputTest patternAt
+ringFetchTest book p W H words n room =
+    firstOf
+    (recordTest book
+    ∷ planTest p
+    ∷ sidesTest W H
+    ∷ memoryTest p W H words
+    ∷ numberTest (book .count) n
+    ∷ suitsTest p book n
+    ∷ ringTest p W H
+    ∷ outputTest (patternAt book n .used) room
+    ∷ [])
+
+unfoldable pub ringMoved : Book → ℕ → ℕ → ℕ → Pixel → List Pixel
+unfolding wrapped moved
+ringMoved book W H n o = map (wrapped W H) (moved book n o)
+
 unfoldable pub ringFetch : Book → Plan → ℕ → ℕ → List ℕ → ℕ → Pixel → List ℕ → Result Counted (List ℕ)
-unfolding fetchAt ringTest wrapped moved
-ringFetch k p W H mem n o out = fetchAt k p W H mem n (ringTest p W H) (map (wrapped W H) (moved k n o)) out
+unfolding changed ringFetchTest overStart wordIn ringMoved
+ringFetch book p W H mem n o out =
+    changed (ringFetchTest book p W H (length mem) n (length out)) Counted.Refused out
+    (Counted.Number (length (ringMoved book W H n o)))
+    (overStart (map (wordIn p W H mem) (ringMoved book W H n o)) out)
 
 -- Fill a record list: 11, 12, 14. "every record's bank and address are filled in; if any pixel is outside, no record changes"
 unfoldable pub recordPixel : PixelRecord → Pixel
 recordPixel r = record { column = r .column; row = r .row }
 
-unfoldable pub placed : Plan → ℕ → PixelRecord → PixelRecord
+unfoldable pub placed : Plan → ℕ → ℕ → PixelRecord → PixelRecord
 unfolding bankOf addressOf recordPixel
-placed p W r =
+placed p W H r =
     record {
       column = r .column;
       row = r .row;
       bank = bankOf p (recordPixel r);
-      address = addressOf p W (recordPixel r);
+      address = addressOf p W H (recordPixel r);
     }
 
 unfoldable pub fillRecords : Plan → ℕ → ℕ → List PixelRecord → Result Outcome (List PixelRecord)
@@ -215,4 +231,4 @@ unfolding changed firstOf planTest sidesTest outsideTest recordPixel placed
 fillRecords p W H rs =
     changed (firstOf (planTest p ∷ sidesTest W H ∷ outsideTest W H (map recordPixel rs) ∷ [])) Outcome.Refused rs
     Outcome.Done
-    (map (placed p W) rs)
+    (map (placed p W H) rs)

@@ -15,40 +15,40 @@ use Rattle.scope.specs.declared.Clash.{Clash}
 -- the plan a, b, d, if it suits
 unfoldable pub trial : List (List Pixel) → ℕ → ℕ → ℕ → Option Plan
 unfolding whenever suitsAll plan
-trial k a d b = whenever (suitsAll (plan a b d) k) (plan a b d)
+trial ts a d b = whenever (suitsAll (plan a b d) ts) (plan a b d)
 
 -- of the suiting plans with n banks and this d, the one with least b
 unfoldable pub leastB : List (List Pixel) → ℕ → ℕ → Option Plan
 unfolding first trial
-leastB k n d = elim (eqb (n % d) 0) [ true ↦ first (trial k (n / d) d) (n / d) 0 | false ↦ none ]
+leastB ts n d = elim (eqb (n % d) 0) [ true ↦ first 0 (n / d) (trial ts (n / d) d) | false ↦ none ]
 
 -- of the suiting plans with n banks, the one with least d, "then the least b"
 unfoldable pub leastD : List (List Pixel) → ℕ → Option Plan
 unfolding first leastB
-leastD k n = first (leastB k n) n 1
+leastD ts n = first 1 n (leastB ts n)
 
 -- "It gives the suiting plan with least N; among equal N the least d, then the least b", N from 1 to the limit
 unfoldable pub leastPlan : List (List Pixel) → ℕ → Option Plan
 unfolding first leastD
-leastPlan k limit = first (leastD k) limit 1
+leastPlan ts limit = first 1 limit (leastD ts)
 
 -- "the least count": the N of that plan. "So limit 1024 is always enough", and `none` does not occur for a legal book
 unfoldable pub leastCount : List (List Pixel) → ℕ
 unfolding leastPlan banks
-leastCount k = elim (leastPlan k 1024) [ none ↦ 1024 | some p ↦ banks p ]
+leastCount ts = elim (leastPlan ts 1024) [ none ↦ 1024 | some p ↦ banks p ]
 
 -- "w is 1 plus the greatest column difference and h is 1 plus the greatest row difference (1 where there is no difference)"
 -- With p - q a pattern has q - p, so the greatest is the greatest without sign
 unfoldable pub greatest : List ℕ → ℕ
 greatest = foldr max 0
 
-unfoldable pub width : List (List Pixel) → ℕ
+unfoldable pub boxWidth : List (List Pixel) → ℕ
 unfolding greatest flatMap differences
-width k = 1 + greatest (map (λ v. natAbs (v .column)) (flatMap differences k))
+boxWidth ts = 1 + greatest (map (λ v. natAbs (v .column)) (flatMap differences ts))
 
-unfoldable pub height : List (List Pixel) → ℕ
+unfoldable pub boxHeight : List (List Pixel) → ℕ
 unfolding greatest flatMap differences
-height k = 1 + greatest (map (λ v. natAbs (v .row)) (flatMap differences k))
+boxHeight ts = 1 + greatest (map (λ v. natAbs (v .row)) (flatMap differences ts))
 
 -- "two pixels whose difference is in the lattice", at positions e and l of pattern n
 unfoldable pub meeting : Plan → List Pixel → ℕ → ℕ → ℕ → Option Clash
@@ -60,9 +60,9 @@ meeting p t n e l =
 -- "the one with the least earlier position, then the least later one", in pattern n
 unfoldable pub clashIn : Plan → ℕ → List Pixel → Option Clash
 unfolding first meeting
-clashIn p n t = first (λ e. first (meeting p t n e) (length t - suc e) (suc e)) (length t) 0
+clashIn p n t = first 0 (length t) λ e. first (suc e) (length t - suc e) (meeting p t n e)
 
 -- "the lowest pattern number that has one"
 unfoldable pub clash : Plan → List (List Pixel) → Option Clash
 unfolding first clashIn
-clash p k = first (λ n. clashIn p n (getD k n [])) (length k) 0
+clash p ts = first 0 (length ts) λ n. clashIn p n (getD ts n [])

@@ -6,6 +6,11 @@ pub mod Books
 pub mod Numbers
 pub mod Calls
 pub mod Program
+pub mod Meaning
 pub mod Demand
-pub mod Promises
+pub mod PlanPromises
+pub mod PicturePromises
+pub mod BookPromises
+pub mod Rows
 pub mod Figures
+pub mod Edges

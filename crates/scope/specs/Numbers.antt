@@ -1,5 +1,5 @@
 -- Document 01, "Numbers for what is turned down": the number and the place of every refusal, what an answer says in
--- this paper's numbers and values, and the table's conditions in the order of the table.
+-- this paper's numbers and values, and the table's conditions. Calls.antt has the order in which a call tests them.
 -- Assumes nothing.
 use Prim.Native.Nat.{ℕ, suc, _+_, _*_, _%_}
 use mathlib.Core.Bool.{Bool, true, false, not, _&&_, _||_}
@@ -105,7 +105,7 @@ small (negsuc n) = leb (suc n) 16
 -- position e has a pixel that an earlier position of the pattern has
 unfoldable pub repeats : (ℕ → Pixel) → ℕ → Bool
 unfolding someBelow samePixel
-repeats pixel e = someBelow (λ l. samePixel (pixel l) (pixel e)) e
+repeats pixel e = someBelow e λ l. samePixel (pixel l) (pixel e)
 
 -- 3 and 4: "its column, its row, then repetition are tested"; i and j are the places of column and row
 unfoldable pub pixelTest : ℕ → ℕ → (ℕ → Pixel) → ℕ → Option Refusal
@@ -120,15 +120,15 @@ pixelTest i j pixel e =
 -- "A call given a book record tests 2, 3, 4 in book order"; the place is 0
 unfoldable pub patternTest : Book → ℕ → Option Refusal
 unfolding firstOf first countTest pixelTest pixelAt patternAt
-patternTest k n =
+patternTest book n =
     firstOf
-    (countTest 64 (patternAt k n .used) 0
-    ∷ first (pixelTest 0 0 (pixelAt (patternAt k n))) (patternAt k n .used) 0
+    (countTest 64 (patternAt book n .used) 0
+    ∷ first 0 (patternAt book n .used) (pixelTest 0 0 (pixelAt (patternAt book n)))
     ∷ [])
 
 unfoldable pub recordTest : Book → Option Refusal
 unfolding firstOf first countTest patternTest
-recordTest k = firstOf (countTest 16 (k .count) 0 ∷ first (patternTest k) (k .count) 0 ∷ [])
+recordTest book = firstOf (countTest 16 (book .count) 0 ∷ first 0 (book .count) (patternTest book) ∷ [])
 
 -- "A book is read left to right: a count is tested when reached"; 1: "book ends early", at the book's length
 unfoldable pub countRead : List ℕ → ℕ → ℕ → Option Refusal
@@ -146,7 +146,7 @@ pixelRead s n e =
 
 unfoldable pub patternRead : List ℕ → ℕ → Option Refusal
 unfolding firstOf first countRead pixelRead byte start
-patternRead s n = firstOf (countRead s 64 (start s n) ∷ first (pixelRead s n) (byte s (start s n)) 0 ∷ [])
+patternRead s n = firstOf (countRead s 64 (start s n) ∷ first 0 (byte s (start s n)) (pixelRead s n) ∷ [])
 
 -- 5: "bytes after the last pattern", at the first extra byte
 unfoldable pub extraTest : List ℕ → Option Refusal
@@ -155,7 +155,7 @@ extraTest s = whenever (ltb (start s (byte s 0)) (length s)) (Extra (start s (by
 
 unfoldable pub bytesTest : List ℕ → Option Refusal
 unfolding firstOf first countRead patternRead extraTest byte
-bytesTest s = firstOf (countRead s 16 0 ∷ first (patternRead s) (byte s 0) 0 ∷ extraTest s ∷ [])
+bytesTest s = firstOf (countRead s 16 0 ∷ first 0 (byte s 0) (patternRead s) ∷ extraTest s ∷ [])
 
 -- 6: "limit not 1-1024"
 unfoldable pub limitTest : ℕ → Option Refusal
@@ -174,7 +174,7 @@ largeTest x y = whenever (ltb 1024 (determinantSize x y)) Large
 -- 10: "plan doesn't suit", for pattern n
 unfoldable pub suitsTest : Plan → Book → ℕ → Option Refusal
 unfolding clashIn pixels patternAt
-suitsTest p k n = elim (clashIn p n (pixels (patternAt k n))) [ none ↦ none | some c ↦ some (Unsuited c) ]
+suitsTest p book n = elim (clashIn p n (pixels (patternAt book n))) [ none ↦ none | some c ↦ some (Unsuited c) ]
 
 -- 11: "not a plan as defined"
 unfoldable pub planTest : Plan → Option Refusal
@@ -199,15 +199,15 @@ unfoldable pub outsideTest : ℕ → ℕ → List Pixel → Option Refusal
 unfolding whenever every inside
 outsideTest W H vs = whenever (not (every (inside W H) vs)) Outside
 
--- 15: "bank ≥ N, address ≥ depth, or their pixel outside"; a call with a bank alone tests the bank
+-- 15: "bank ≥ N, address ≥ depth, or their pixel outside", for bank k and address i; a call with a bank alone tests the bank
 unfoldable pub bankTest : Plan → ℕ → Option Refusal
 unfolding whenever banks
 bankTest p k = whenever (leb (banks p) k) Cell
 
 unfoldable pub cellTest : Plan → ℕ → ℕ → ℕ → ℕ → Option Refusal
 unfolding whenever banks depthOf inside pixelOf
-cellTest p W H k t =
-    whenever (leb (banks p) k || leb (depthOf p W H) t || not (inside W H (pixelOf p W k t))) Cell
+cellTest p W H k i =
+    whenever (leb (banks p) k || leb (depthOf p W H) i || not (inside W H (pixelOf p W H k i))) Cell
 
 -- 16: "output too short", with the room given and n entries to write
 unfoldable pub outputTest : ℕ → ℕ → Option Refusal

@@ -47,15 +47,15 @@ noPattern = record { columns = []; rows = []; used = 0 }
 
 unfoldable pub patternAt : Book → ℕ → Pattern
 unfolding noPattern
-patternAt k n = getD (k .patterns) n noPattern
+patternAt book n = getD (book .patterns) n noPattern
 
 unfoldable pub pixels : Pattern → List Pixel
 unfolding gather pixelAt
-pixels t = gather (pixelAt t) (t .used) 0
+pixels t = gather 0 (t .used) (pixelAt t)
 
 unfoldable pub patterns : Book → List (List Pixel)
 unfolding gather pixels patternAt
-patterns k = gather (λ n. pixels (patternAt k n)) (k .count) 0
+patterns book = gather 0 (book .count) λ n. pixels (patternAt book n)
 
 -- "A difference is p - q for two different pixels p, q of the same pattern."
 unfoldable pub differences : List Pixel → List Pixel
@@ -104,7 +104,7 @@ suits p t = every (λ v. not (latticeTest p v)) (differences t)
 -- and it suits a book if it suits each pattern
 unfoldable pub suitsAll : Plan → List (List Pixel) → Bool
 unfolding every suits
-suitsAll p k = every (suits p) k
+suitsAll p ts = every (suits p) ts
 
 -- "Two vectors (x1, x2), (y1, y2) have determinant x1 × y2 - x2 × y1."
 unfoldable pub determinant : Pixel → Pixel → ℤ
@@ -120,16 +120,16 @@ unfoldable pub upright : Pixel → Pixel
 unfolding times
 upright v = elim (v .row) [ pos n ↦ v | negsuc n ↦ times (negsuc 0) v ]
 
--- Euclid's falling remainders on the rows of two upright vectors, the columns carried along:
--- at most the given number of steps; the result is a combination of x and y whose row is gcd(x2, y2)
+-- Euclid's falling remainders on the rows of two upright vectors, the columns carried along: at most the given number of
+-- steps. Each step takes a multiple of y off x, so the result is a combination of x and y, and its row is gcd(x2, y2)
 unfoldable pub falling : ℕ → Pixel → Pixel → Pixel
 unfolding minus times floorDiv
 falling zero x y = x
-falling (suc k) x y =
-    elim (natAbs (y .row)) [ zero ↦ x | suc r ↦ falling k y (minus x (times (floorDiv (x .row) (suc r)) y)) ]
+falling (suc steps) x y =
+    elim (natAbs (y .row)) [ zero ↦ x | suc r ↦ falling steps y (minus x (times (floorDiv (x .row) (suc r)) y)) ]
 
 -- "exactly one a, b, d generates the same lattice: d = gcd(x2, y2), a = |determinant|/d. That is their normal form"
--- b is the column over row d, taken modulo a
+-- (b, d) is the combination of x and y with row d that Euclid's steps find, its column taken modulo a
 unfoldable pub normalForm : Pixel → Pixel → Plan
 unfolding plan determinantSize gcd floorMod falling upright
 normalForm x y =

@@ -16,7 +16,7 @@ use Rattle.scope.specs.declared.Outcome.{Outcome}
 -- the decimal digits of n in ASCII, in front of `rest`; n has at most as many digits as the steps given
 unfoldable pub digits : ℕ → ℕ → List ℕ → List ℕ
 digits zero n rest = rest
-digits (suc k) n rest = elim (n / 10) [ zero ↦ (48 + n % 10) ∷ rest | suc m ↦ digits k (suc m) ((48 + n % 10) ∷ rest) ]
+digits (suc steps) n rest = elim (n / 10) [ zero ↦ (48 + n % 10) ∷ rest | suc m ↦ digits steps (suc m) ((48 + n % 10) ∷ rest) ]
 
 unfoldable pub decimal : ℕ → List ℕ
 unfolding digits

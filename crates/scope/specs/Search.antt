@@ -6,14 +6,14 @@ use mathlib.Core.Option.{Option, none, some}
 use mathlib.Core.List.{List, [], _∷_}
 
 -- the first of f k, f (k + 1), .., n of them, that gives something
-unfoldable pub first : {A : Type 0} → (ℕ → Option A) → ℕ → ℕ → Option A
-first f zero k = none
-first f (suc n) k = elim (f k) [ none ↦ first f n (suc k) | some x ↦ some x ]
+unfoldable pub first : {A : Type 0} → ℕ → ℕ → (ℕ → Option A) → Option A
+first k zero f = none
+first k (suc n) f = elim (f k) [ none ↦ first (suc k) n f | some x ↦ some x ]
 
 -- the list of f k, f (k + 1), .., n of them; what a `let` binds is worked out only when it is asked for
-unfoldable pub gather : {A : Type 0} → (ℕ → A) → ℕ → ℕ → List A
-gather f zero k = []
-gather {A} f (suc n) k = let x : A = f k in let xs : List A = gather f n (suc k) in x ∷ xs
+unfoldable pub gather : {A : Type 0} → ℕ → ℕ → (ℕ → A) → List A
+gather k zero f = []
+gather {A} k (suc n) f = let x : A = f k in let xs : List A = gather (suc k) n f in x ∷ xs
 
 -- x if the test holds
 unfoldable pub whenever : {A : Type 0} → Bool → A → Option A
@@ -32,6 +32,6 @@ every f [] = true
 every f (x ∷ xs) = elim (f x) [ true ↦ every f xs | false ↦ false ]
 
 -- the test holds of some number below n
-unfoldable pub someBelow : (ℕ → Bool) → ℕ → Bool
-someBelow f zero = false
-someBelow f (suc n) = someBelow f n || f n
+unfoldable pub someBelow : ℕ → (ℕ → Bool) → Bool
+someBelow zero f = false
+someBelow (suc n) f = someBelow n f || f n

@@ -1,0 +1,117 @@
+-- What the tests of the definitions mean, in plain numbers, and that a legal call is never refused. Statements to be proved.
+-- Assumes nothing.
+use Prim.Native.Nat.{ℕ, _+_, _*_, _≤_, _<_}
+use mathlib.Core.Path.{_≡_}
+use mathlib.Core.Logic.{_↔_}
+use mathlib.Core.Bool.{Bool, true, false}
+use mathlib.Core.Option.{Option, none, some}
+use mathlib.Core.List.{List, [], _∷_, _++_, List·Memᴰ}
+use lib.IntN.{ℤ, pos, negsuc}
+use lib.ListN.{length}
+use lib.Signed.{_≤ℤ_}
+use Rattle.integers.specs.Gcd.{Multiple}
+use Rattle.scope.specs.Search.{firstOf}
+use Rattle.scope.specs.Plans.{Pixel, minus, pixelAt, patternAt, pixels, banks, InLattice, latticeTest, suits, determinant, determinantSize, normalForm}
+use Rattle.scope.specs.Banks.{bankOf, addressOf, depthOf, pixelOf, inside}
+use Rattle.scope.specs.Books.{bookBytes}
+use Rattle.scope.specs.Numbers.{value, ofPlanned, ofCounted, recordTest, limitTest, dependentTest, largeTest, suitsTest, planTest, sidesTest, memoryTest, outsideTest, bankTest, cellTest, outputTest, numberTest, ringTest}
+use Rattle.scope.specs.Calls.{writeBook, normal, bank, depth, address}
+use Rattle.scope.specs.declared.Plan.{Plan}
+use Rattle.scope.specs.declared.Pattern.{Pattern}
+use Rattle.scope.specs.declared.Book.{Book}
+use Rattle.scope.specs.declared.Refusal.{Refusal}
+
+-- "A plan is a, b, d with a and d at least 1, 0 ≤ b < a, and a × d at most 1024."
+pub record IsPlan (p : Plan) : Type 0 where
+  pub a-least : 1 ≤ p .a
+  pub d-least : 1 ≤ p .d
+  pub b-below : p .b < p .a
+  pub most : p .a * p .d ≤ 1024
+
+-- "width W and height H, each 1 to 4096"
+abbrev pub IsSide : ℕ → Type 0
+IsSide n = (1 ≤ n) × (n ≤ 4096)
+
+-- "its pixels from (0, 0) to (W-1, H-1)"
+pub record Inside (W H : ℕ) (v : Pixel) : Type 0 where
+  pub i : ℕ
+  pub j : ℕ
+  pub column : v .column ≡ pos i
+  pub row : v .row ≡ pos j
+  pub i-below : i < W
+  pub j-below : j < H
+
+abbrev pub AllInside : ℕ → ℕ → List Pixel → Type 0
+AllInside W H vs = (v : Pixel) → List·Memᴰ v vs → Inside W H v
+
+-- a plan, a picture and a memory that is long enough
+pub record IsPicture (p : Plan) (W H words : ℕ) : Type 0 where
+  pub plan : IsPlan p
+  pub W-side : IsSide W
+  pub H-side : IsSide H
+  pub memory : banks p * depthOf p W H ≤ words
+
+-- "each coordinate from -16 to 15"
+abbrev pub InRange : ℤ → Type 0
+InRange z = (negsuc 15 ≤ℤ z) × (z ≤ℤ pos 15)
+
+-- "A pattern is 1 to 64 different pixels"
+pub record IsPattern (t : Pattern) : Type 0 where
+  pub least : 1 ≤ t .used
+  pub most : t .used ≤ 64
+  pub column : (e : ℕ) → e < t .used → InRange (pixelAt t e .column)
+  pub row : (e : ℕ) → e < t .used → InRange (pixelAt t e .row)
+  pub different : (e l : ℕ) → e < l → l < t .used → pixelAt t e ≡ pixelAt t l → ⊥
+
+-- "A book has 1 to 16 patterns, numbered from 0."
+pub record IsBook (book : Book) : Type 0 where
+  pub least : 1 ≤ book .count
+  pub most : book .count ≤ 16
+  pub each : (n : ℕ) → n < book .count → IsPattern (patternAt book n)
+
+-- "they are independent if their determinant isn't 0"
+abbrev pub Independent : Pixel → Pixel → Type 0
+Independent x y = determinant x y ≡ pos 0 → ⊥
+
+-- "Pixel (i, j) is in the lattice exactly if d divides j and a divides i - b × (j/d)."
+abbrev pub LatticeMeans : Type 0
+LatticeMeans = (p : Plan) → 1 ≤ p .a → 1 ≤ p .d → (v : Pixel) → (latticeTest p v ≡ true) ↔ InLattice p v
+
+-- a plan suits a pattern exactly if no two different pixels of it differ by a combination
+abbrev pub SuitsMeans : Type 0
+SuitsMeans =
+    (p : Plan) → 1 ≤ p .a → 1 ≤ p .d → (t : List Pixel)
+    → (suits p t ≡ true) ↔ ((v w : Pixel) → List·Memᴰ v t → List·Memᴰ w t → (v ≡ w → ⊥) → InLattice p (minus v w) → ⊥)
+
+abbrev pub InsideMeans : Type 0
+InsideMeans = (W H : ℕ) (v : Pixel) → (inside W H v ≡ true) ↔ Inside W H v
+
+-- a chain of tests gives the first refusal whose condition holds, and none exactly where no condition holds
+pub record ChainIsFirst : Type 0 where
+  pub none-holds : (tests : List (Option Refusal)) → (firstOf tests ≡ none) ↔ ((t : Option Refusal) → List·Memᴰ t tests → t ≡ none)
+  pub first-holds : (before after : List (Option Refusal)) (r : Refusal) → firstOf before ≡ none → firstOf (before ++ (some r ∷ after)) ≡ some r
+
+-- for each number, its test finds nothing exactly where the table's condition does not hold
+pub record TestsMean : Type 0 where
+  pub book-2-3-4 : (book : Book) → (recordTest book ≡ none) ↔ IsBook book
+  pub limit-6 : (limit : ℕ) → (limitTest limit ≡ none) ↔ ((1 ≤ limit) × (limit ≤ 1024))
+  pub dependent-8 : (x y : Pixel) → (dependentTest x y ≡ none) ↔ Independent x y
+  pub large-9 : (x y : Pixel) → (largeTest x y ≡ none) ↔ (determinantSize x y ≤ 1024)
+  pub suits-10 : (book : Book) (p : Plan) (n : ℕ) → IsBook book → IsPlan p → n < book .count → (suitsTest p book n ≡ none) ↔ (suits p (pixels (patternAt book n)) ≡ true)
+  pub plan-11 : (p : Plan) → (planTest p ≡ none) ↔ IsPlan p
+  pub sides-12 : (W H : ℕ) → (sidesTest W H ≡ none) ↔ (IsSide W × IsSide H)
+  pub memory-13 : (p : Plan) (W H words : ℕ) → (memoryTest p W H words ≡ none) ↔ (banks p * depthOf p W H ≤ words)
+  pub outside-14 : (W H : ℕ) (vs : List Pixel) → (outsideTest W H vs ≡ none) ↔ AllInside W H vs
+  pub bank-15 : (p : Plan) (k : ℕ) → (bankTest p k ≡ none) ↔ (k < banks p)
+  pub cell-15 : (p : Plan) (W H k i : ℕ) → (cellTest p W H k i ≡ none) ↔ ((k < banks p) × (i < depthOf p W H) × Inside W H (pixelOf p W H k i))
+  pub output-16 : (n room : ℕ) → (outputTest n room ≡ none) ↔ (n ≤ room)
+  pub number-17 : (count n : ℕ) → (numberTest count n ≡ none) ↔ (n < count)
+  pub ring-18 : (p : Plan) (W H : ℕ) → IsPlan p → (ringTest p W H ≡ none) ↔ (Multiple (banks p) W × Multiple (banks p) H)
+
+-- A legal call is never refused: plans and the writer. (The finder's, the check's and the picture's calls: PlanPromises, PicturePromises.)
+pub record LegalCallsAnswer : Type 0 where
+  pub write : (book : Book) (out : List ℕ) → IsBook book → length (bookBytes book) ≤ length out → ofCounted (writeBook book out .answer) ≡ value (length (bookBytes book))
+  pub normal-form : (x y : Pixel) → Independent x y → determinantSize x y ≤ 1024 → ofPlanned (normal x y) ≡ value (normalForm x y)
+  pub bank-is : (p : Plan) (v : Pixel) → IsPlan p → ofCounted (bank p v) ≡ value (bankOf p v)
+  pub depth-is : (p : Plan) (W H : ℕ) → IsPlan p → IsSide W → IsSide H → ofCounted (depth p W H) ≡ value (depthOf p W H)
+  pub address-is : (p : Plan) (W H : ℕ) (v : Pixel) → IsPlan p → IsSide W → IsSide H → Inside W H v → ofCounted (address p W H v) ≡ value (addressOf p W H v)

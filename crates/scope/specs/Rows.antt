@@ -1,0 +1,136 @@
+-- Rows of figures: what a call gives beside what is stated, and the patterns that the figures speak of.
+-- Assumes nothing.
+use Prim.Native.Nat.{ℕ, _/_, _%_}
+use mathlib.Core.Path.{_≡_}
+use mathlib.Core.Option.{Option, none, some}
+use mathlib.Core.List.{List, [], _∷_, _++_, map, flatMap}
+use lib.IntN.{ℤ, pos, negℤ}
+use lib.ListN.{replicate}
+use Rattle.scope.specs.Search.{gather}
+use Rattle.scope.specs.Plans.{Pixel, at, plan}
+use Rattle.scope.specs.Books.{bookOf}
+use Rattle.scope.specs.Numbers.{Answer, value, refusal, ofPlanned, ofCounted, ofLoaded, ofLocated, ofOutcome, ofVerdict}
+use Rattle.scope.specs.Calls.{readBook, writeBook, find, check, fetch, ringFetch}
+use Rattle.scope.specs.declared.PixelRecord.{PixelRecord}
+use Rattle.scope.specs.declared.Planned.{Planned}
+use Rattle.scope.specs.declared.Counted.{Counted}
+use Rattle.scope.specs.declared.Loaded.{Loaded}
+use Rattle.scope.specs.declared.Located.{Located}
+use Rattle.scope.specs.declared.Outcome.{Outcome}
+use Rattle.scope.specs.declared.Verdict.{Verdict}
+
+-- What a call gives, and what document 01 states: the values in a list, or the refusal.
+pub record Row : Type 0 where
+  pub computed : Answer (List ℤ)
+  pub stated : Answer (List ℤ)
+
+unfoldable pub row : Answer (List ℤ) → Answer (List ℤ) → Row
+row x y = record { computed = x; stated = y }
+
+-- what the rows compute is what they state
+abbrev pub Hold : List Row → Type 0
+Hold rows = map (λ r. r .computed) rows ≡ map (λ r. r .stated) rows
+
+-- these numbers; number n at place i; number 10 with a clash
+unfoldable pub is : List ℕ → Answer (List ℤ)
+is xs = value (map pos xs)
+
+unfoldable pub no : ℕ → ℕ → Answer (List ℤ)
+no n i = refusal n i none
+
+unfoldable pub clashes : ℕ → ℕ → ℕ → Answer (List ℤ)
+clashes n e l = refusal 10 0 (some (record { pattern = n; earlier = e; later = l }))
+
+-- answers as such values
+unfoldable pub values : {A : Type 0} → (A → List ℤ) → Answer A → Answer (List ℤ)
+values f (value x) = value (f x)
+values f (refusal n i c) = refusal n i c
+
+unfoldable pub planned : Planned → Answer (List ℤ)
+unfolding values
+planned r = values (λ p. pos (p .a) ∷ pos (p .b) ∷ pos (p .d) ∷ []) (ofPlanned r)
+
+unfoldable pub counted : Counted → Answer (List ℤ)
+unfolding values
+counted r = values (λ n. pos n ∷ []) (ofCounted r)
+
+unfoldable pub loaded : Loaded → Answer (List ℤ)
+unfolding values
+loaded r = values (λ n. pos n ∷ []) (ofLoaded r)
+
+unfoldable pub located : Located → Answer (List ℤ)
+unfolding values
+located r = values (λ v. v .column ∷ v .row ∷ []) (ofLocated r)
+
+unfoldable pub done : Outcome → Answer (List ℤ)
+unfolding values
+done r = values (λ u. []) (ofOutcome r)
+
+unfoldable pub verdict : Verdict → Answer (List ℤ)
+unfolding values
+verdict r = values (λ c. pos (c .plan .a) ∷ pos (c .plan .b) ∷ pos (c .plan .d) ∷ pos (c .surplus) ∷ []) (ofVerdict r)
+
+unfoldable pub records : List PixelRecord → Answer (List ℤ)
+unfolding flatMap
+records rs = value (flatMap (λ r. r .column ∷ r .row ∷ pos (r .bank) ∷ pos (r .address) ∷ []) rs)
+
+-- -n, the pixel (i, j), and the list of pixels with these coordinates
+unfoldable pub neg : ℕ → ℤ
+neg n = negℤ (pos n)
+
+unfoldable pub px : ℕ → ℕ → Pixel
+unfolding at
+px i j = at (pos i) (pos j)
+
+unfoldable pub one : List Pixel
+unfolding px
+one = px 0 0 ∷ []
+
+unfoldable pub two : List Pixel
+unfolding px
+two = px 0 0 ∷ px 1 0 ∷ []
+
+unfoldable pub three : List (List Pixel)
+unfolding px
+three = (px 0 0 ∷ px 1 0 ∷ px 2 0 ∷ []) ∷ []
+
+unfoldable pub threeAndThree : List (List Pixel)
+unfolding three px
+threeAndThree = three ++ ((px 0 0 ∷ px 0 1 ∷ px 0 2 ∷ []) ∷ [])
+
+unfoldable pub gap : List (List Pixel)
+unfolding px
+gap = (px 0 0 ∷ px 1 0 ∷ px 3 0 ∷ []) ∷ []
+
+unfoldable pub square : List (List Pixel)
+unfolding px
+square = (px 0 0 ∷ px 1 0 ∷ px 0 1 ∷ px 1 1 ∷ []) ∷ []
+
+unfoldable pub cross : List (List Pixel)
+unfolding px at neg
+cross = (px 0 0 ∷ at (neg 1) (pos 0) ∷ px 1 0 ∷ at (pos 0) (neg 1) ∷ px 0 1 ∷ []) ∷ []
+
+unfoldable pub sixPairs : List (List Pixel)
+unfolding px at neg
+sixPairs = map (λ v. px 0 0 ∷ v ∷ []) (px 0 1 ∷ px 1 1 ∷ px 2 1 ∷ at (neg 1) (pos 1) ∷ px 1 2 ∷ px 1 0 ∷ [])
+
+unfoldable pub finds : List (List Pixel) → ℕ → Answer (List ℤ)
+unfolding planned find bookOf
+finds ts limit = planned (find (bookOf ts) limit)
+
+unfoldable pub reads : List ℕ → Answer (List ℤ)
+unfolding done readBook
+reads s = done (readBook s .outcome)
+
+unfoldable pub checks : List (List Pixel) → Pixel → Pixel → Answer (List ℤ)
+unfolding verdict check bookOf
+checks ts x y = verdict (check (bookOf ts) x y)
+
+-- a plain and a ring fetch of pattern n, moved to (0, 0), under plan 5, 2, 1 with 50 words
+unfoldable pub fetches : List (List Pixel) → ℕ → ℕ → ℕ → List ℕ → Answer (List ℤ)
+unfolding counted fetch bookOf plan px
+fetches ts W H n out = counted (fetch (bookOf ts) (plan 5 2 1) W H (replicate 50 0) n (px 0 0) out .answer)
+
+unfoldable pub rings : List (List Pixel) → ℕ → ℕ → ℕ → List ℕ → Answer (List ℤ)
+unfolding counted ringFetch bookOf plan px
+rings ts W H n out = counted (ringFetch (bookOf ts) (plan 5 2 1) W H (replicate 50 0) n (px 0 0) out .answer)
