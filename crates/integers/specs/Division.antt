@@ -50,5 +50,5 @@ abbrev pub CeilingDivision : Type 0
 CeilingDivision = (n d : ℕ) → 0 < d → (m : ℕ) → (ceilDiv n d ≤ m) ↔ (n ≤ m * d)
 
 -- `sameNumber` is equality
-abbrev pub SameNumber : Type 0
-SameNumber = (y z : ℤ) → (sameNumber y z ≡ true) ↔ (y ≡ z)
+abbrev pub SameNumberMeans : Type 0
+SameNumberMeans = (y z : ℤ) → (sameNumber y z ≡ true) ↔ (y ≡ z)

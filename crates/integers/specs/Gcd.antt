@@ -6,8 +6,8 @@ use mathlib.Core.Path.{_≡_}
 -- at most the given number of steps, each of them gcd(a, b) = gcd(b, a mod b)
 unfoldable pub gcdSteps : ℕ → ℕ → ℕ → ℕ
 gcdSteps zero a b = a
-gcdSteps (suc k) a zero = a
-gcdSteps (suc k) a (suc b) = gcdSteps k (suc b) (a % suc b)
+gcdSteps (suc steps) a zero = a
+gcdSteps (suc steps) a (suc b) = gcdSteps steps (suc b) (a % suc b)
 
 -- the second number falls at each step, so b + 1 steps reach 0
 unfoldable pub gcd : ℕ → ℕ → ℕ

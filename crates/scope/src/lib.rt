@@ -35,7 +35,8 @@ pub struct PixelRecord {
     pub address: u32,
 }
 
-// The 18 refusals in document 01's order. A number in 1 to 5 is the place in a book's bytes.
+// The 18 refusals in document 01's order. The number in the first five is the place: a byte offset where the call was
+// given a book's bytes, and 0 where it was given a record.
 pub enum Refusal {
     Ends(usize),
     Count(usize),
@@ -76,7 +77,7 @@ pub enum Planned {
     Refused(Refusal),
 }
 
-// The answer of the bank, the depth, the address, the sum, and the counts of bytes written and words fetched.
+// The answer of the bank, the depth, the address and the sum, and of the writer and the fetches, which count what they put.
 pub enum Counted {
     Number(u64),
     Refused(Refusal),
