@@ -33,22 +33,26 @@ pub record BankIsClass (p : Plan) : Type 0 where
 abbrev pub BanksAreClasses : Type 0
 BanksAreClasses = (p : Plan) → IsPlan p → BankIsClass p
 
--- the picture's pixels, its words and the reverse map
+-- Each pixel of a picture of any size has a word of its own, in its bank's stretch and below N × depth.
 pub record WordsOf (p : Plan) (W H : ℕ) : Type 0 where
-  -- the address is below the depth, so that a pixel's word is one of its bank's, below N × depth
   pub address-below : (v : Pixel) → Inside W H v → addressOf p W H v < depthOf p W H
   pub word-below : (v : Pixel) → Inside W H v → wordOf p W H v < banks p * depthOf p W H
-  -- each pixel has a word of its own
   pub own : (v w : Pixel) → Inside W H v → Inside W H w → wordOf p W H v ≡ wordOf p W H w → v ≡ w
-  -- the reverse map undoes bank and address
+
+abbrev pub PixelsHaveWords : Type 0
+PixelsHaveWords = (p : Plan) (W H : ℕ) → IsPlan p → WordsOf p W H
+
+-- "The reverse map gives the pixel of a bank and address."
+pub record ReverseOf (p : Plan) (W H : ℕ) : Type 0 where
+  -- it undoes bank and address
   pub undone : (v : Pixel) → Inside W H v → ofLocated (locate p W H (bankOf p v) (addressOf p W H v)) ≡ value v
   -- and the other way round: what it gives is a pixel of the picture with that bank and address
   pub given : (k i : ℕ) (v : Pixel) → ofLocated (locate p W H k i) ≡ value v → Inside W H v × (bankOf p v ≡ k) × (addressOf p W H v ≡ i)
   -- 15 exactly where no pixel of the picture has that bank and address
   pub refused : (k i : ℕ) → (ofLocated (locate p W H k i) ≡ refusal 15 0 none) ↔ ((v : Pixel) → Inside W H v → bankOf p v ≡ k → addressOf p W H v ≡ i → ⊥)
 
-abbrev pub PixelsHaveWords : Type 0
-PixelsHaveWords = (p : Plan) (W H : ℕ) → IsPlan p → IsSide W → IsSide H → WordsOf p W H
+abbrev pub ReverseMap : Type 0
+ReverseMap = (p : Plan) (W H : ℕ) → IsPlan p → IsSide W → IsSide H → ReverseOf p W H
 
 -- the word at bank × depth + address
 abbrev pub wordAt : Plan → ℕ → ℕ → List ℕ → Pixel → ℕ
