@@ -13,4 +13,5 @@ pub mod PicturePromises
 pub mod BookPromises
 pub mod Rows
 pub mod Figures
-pub mod Edges
+pub mod BookEdges
+pub mod PictureEdges
