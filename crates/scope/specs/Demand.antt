@@ -6,7 +6,7 @@ use Prim.Native.Nat.{ℕ, _*_, _≤_, _<_}
 use mathlib.Core.Path.{_≡_}
 use mathlib.Core.Bool.{Bool, true, false, cond}
 use mathlib.Core.Option.{Option, none, some}
-use mathlib.Core.List.{List, [], _∷_, _++_, map}
+use mathlib.Core.List.{List, [], _∷_, _++_, map, List·Memᴰ}
 use lib.Dec.{eqb}
 use lib.ListN.{length, getD, take, drop, replicate}
 use Rattle.scope.specs.Plans.{Pixel, samePixel, patternAt, banks}
@@ -89,6 +89,21 @@ storedSince g words v old (c ∷ cs) =
 unfoldable pub lastStored : Setting → ℕ → List Call → Pixel → ℕ
 unfolding storedSince
 lastStored g words calls v = storedSince g words v 0 calls
+
+-- The same in plain words, to be proved: `later` holds no store at v and no clear of its bank that was not turned down.
+abbrev pub Touches : Setting → ℕ → Pixel → Call → Type 0
+Touches g words v (store w x) = (test g words (store w x) ≡ none) × (w ≡ v)
+Touches g words v (clear k) = (test g words (clear k) ≡ none) × (k ≡ bankOf (g .plan) v)
+Touches g words v (load w) = ⊥
+Touches g words v (fetch n o out) = ⊥
+
+abbrev pub Untouched : Setting → ℕ → Pixel → List Call → Type 0
+Untouched g words v later = (c : Call) → List·Memᴰ c later → Touches g words v c → ⊥
+
+pub record LastStoredMeans : Type 0 where
+  pub latest : (g : Setting) (words : ℕ) (v : Pixel) (past later : List Call) (x : ℕ) → test g words (store v x) ≡ none → Untouched g words v later → lastStored g words (past ++ (store v x ∷ later)) v ≡ x
+  pub cleared-since : (g : Setting) (words : ℕ) (v : Pixel) (past later : List Call) (k : ℕ) → test g words (clear k) ≡ none → k ≡ bankOf (g .plan) v → Untouched g words v later → lastStored g words (past ++ (clear k ∷ later)) v ≡ 0
+  pub never : (g : Setting) (words : ℕ) (v : Pixel) (calls : List Call) → Untouched g words v calls → lastStored g words calls v ≡ 0
 
 -- What call c is to give after the calls `past`: the refusal that the conditions tell, or what it is for, with the words last stored.
 unfoldable pub told : Setting → ℕ → List Call → Call → Reply
