@@ -5,14 +5,15 @@ use Prim.Native.Nat.{ℕ, _/_, _%_}
 use mathlib.Core.Path.{refl}
 use mathlib.Core.List.{List, [], _∷_, _++_, flatMap}
 use lib.IntN.{ℤ, pos}
-use lib.ListN.{replicate}
+use lib.ListN.{take, replicate}
 use Rattle.scope.specs.Search.{gather}
-use Rattle.scope.specs.Plans.{Pixel, at, plan}
+use Rattle.scope.specs.Plans.{Pixel, at, plan, patternAt}
+use Rattle.scope.specs.Finding.{boxWidth, boxHeight}
 use Rattle.scope.specs.Books.{bookOf}
-use Rattle.scope.specs.Numbers.{Answer}
+use Rattle.scope.specs.Numbers.{Answer, value}
 use Rattle.scope.specs.Calls.{readBook, patternPart, partOutcome, writeBook, normal, find, bank, depth, address, locate}
-use Rattle.scope.specs.Program.{ascii, programText}
-use Rattle.scope.specs.Rows.{Row, Hold, row, is, no, clashes, planned, counted, located, done, neg, px, one, two, cross, finds, reads, checks}
+use Rattle.scope.specs.Program.{ascii, decimal, programText}
+use Rattle.scope.specs.Rows.{Row, Hold, row, is, no, clashes, planned, counted, located, done, neg, px, one, two, gap, threeAndThree, cross, finds, reads, checks}
 use Rattle.scope.specs.declared.Plan.{Plan}
 
 -- A book's five pixels of the cross, and the book of two patterns of three pixels.
@@ -73,21 +74,45 @@ reading =
     ∷ row (reads (2 ∷ 1 ∷ 0 ∷ 0 ∷ 65 ∷ [])) (no 2 4)
     ∷ row (reads (17 ∷ [])) (no 2 0)
     ∷ row (reads (1 ∷ 3 ∷ 0 ∷ 0 ∷ 1 ∷ 0 ∷ 1 ∷ 0 ∷ [])) (no 4 6)
+    ∷ row (reads (1 ∷ 1 ∷ [])) (no 1 2)
     ∷ []
 
 reading-hold : Hold reading
 unfolding reading
 reading-hold = refl
 
+-- Two conditions at once: the one that document 01 tests first is told, "in book order" and "left to right".
+bookOrders : List Row
+unfolding row no finds checks writes reads two px
+bookOrders =
+    row (finds [] 0) (no 2 0)
+    ∷ row (checks [] (px 2 1) (px 4 2)) (no 2 0)
+    ∷ row (checks [] (px 32 0) (px 0 33)) (no 2 0)
+    ∷ row (checks (two ∷ []) (px 1 0) (px 0 2000)) (no 9 0)
+    ∷ row (writes ((px 16 0 ∷ []) ∷ [] ∷ []) []) (no 3 0)
+    ∷ row (writes ((px 0 0 ∷ px 0 0 ∷ px 16 0 ∷ []) ∷ []) []) (no 4 0)
+    ∷ row (reads (1 ∷ 1 ∷ 0x10 ∷ 0 ∷ 0 ∷ [])) (no 3 2)
+    ∷ row (reads (1 ∷ 2 ∷ 0x10 ∷ 0 ∷ [])) (no 3 2)
+    ∷ row (reads (1 ∷ 3 ∷ 0 ∷ 0 ∷ 0 ∷ 0 ∷ 0x10 ∷ 0 ∷ [])) (no 4 4)
+    ∷ []
+
+bookOrders-hold : Hold bookOrders
+unfolding bookOrders
+bookOrders-hold = refl
+
 -- What was read, and a pattern's part of the bytes.
 parts : List Row
-unfolding row is no planned find readBook done patternPart partOutcome book33
+unfolding row is no planned find readBook done patternPart partOutcome book33 patternAt
 parts =
     row (planned (find (readBook book33 .book) 1024)) (is (3 ∷ 1 ∷ 1 ∷ []))
     ∷ row (is (patternPart book33 1)) (is (0 ∷ 0 ∷ 0 ∷ 1 ∷ 0 ∷ 2 ∷ []))
     ∷ row (is (patternPart book33 2)) (is [])
     ∷ row (done (partOutcome book33 2)) (no 17 0)
     ∷ row (done (partOutcome (book33 ++ (0 ∷ [])) 2)) (no 5 15)
+    ∷ row (is (patternPart (1 ∷ 1 ∷ 3 ∷ 4 ∷ 0 ∷ []) 0)) (is [])
+    ∷ row (value (take 3 (patternAt (readBook (1 ∷ 1 ∷ 3 ∷ 4 ∷ []) .book) 0 .columns))) (is (3 ∷ 0 ∷ 0 ∷ []))
+    ∷ row (value (take 3 (patternAt (readBook (1 ∷ 1 ∷ 3 ∷ 4 ∷ []) .book) 0 .rows))) (is (4 ∷ 0 ∷ 0 ∷ []))
+    ∷ row (is (patternAt (readBook (1 ∷ 1 ∷ 3 ∷ 4 ∷ []) .book) 1 .used ∷ readBook (1 ∷ 1 ∷ 3 ∷ 4 ∷ 0 ∷ []) .book .count ∷ [])) (is (0 ∷ 0 ∷ []))
     ∷ []
 
 parts-hold : Hold parts
@@ -109,16 +134,33 @@ writing-hold = refl
 
 -- The program. Nine patterns (0,0), (i,0), i from 1 to 9, need 10 banks.
 programs : List Row
-unfolding row is programText ascii book5 gather flatMap
+unfolding row is programText ascii book5 gather flatMap decimal
 programs =
     row (is (programText book5)) (is (ascii "banks 5\nplan 5 2 1\n"))
     ∷ row (is (programText [])) (is (ascii "refused 1\n"))
     ∷ row (is (programText (9 ∷ flatMap (λ i. 2 ∷ 0 ∷ 0 ∷ i ∷ 0 ∷ []) (gather 1 9 λ i. i)))) (is (ascii "banks 10\nplan 10 0 1\n"))
+    ∷ row (is (programText (6 ∷ flatMap (λ v. 2 ∷ 0 ∷ 0 ∷ v) ((0 ∷ 1 ∷ []) ∷ (1 ∷ 1 ∷ []) ∷ (2 ∷ 1 ∷ []) ∷ (0xff ∷ 1 ∷ []) ∷ (1 ∷ 2 ∷ []) ∷ (1 ∷ 0 ∷ []) ∷ [])))) (is (ascii "banks 4\nplan 2 0 2\n"))
+    ∷ row (is (programText (1 ∷ 1 ∷ 0x10 ∷ 0 ∷ []))) (is (ascii "refused 3\n"))
+    ∷ row (is (decimal 1024 ++ decimal 0)) (is (ascii "10240"))
     ∷ []
 
 programs-hold : Hold programs
 unfolding programs
 programs-hold = refl
+
+-- The sides w and h of the box that bounds N.
+boxes : List Row
+unfolding row is boxWidth boxHeight gap threeAndThree one px
+boxes =
+    row (is (boxWidth gap ∷ boxHeight gap ∷ [])) (is (4 ∷ 1 ∷ []))
+    ∷ row (is (boxWidth threeAndThree ∷ boxHeight threeAndThree ∷ [])) (is (3 ∷ 3 ∷ []))
+    ∷ row (is (boxWidth ((px 0 0 ∷ px 1 4 ∷ []) ∷ one ∷ []) ∷ boxHeight ((px 0 0 ∷ px 1 4 ∷ []) ∷ one ∷ []) ∷ [])) (is (2 ∷ 5 ∷ []))
+    ∷ row (is (boxWidth (one ∷ []) ∷ boxHeight (one ∷ []) ∷ [])) (is (1 ∷ 1 ∷ []))
+    ∷ []
+
+boxes-hold : Hold boxes
+unfolding boxes
+boxes-hold = refl
 
 -- Determinants of size 1024, 1025 and 0, and negative rows.
 normalForms : List Row
@@ -135,9 +177,9 @@ unfolding normalForms
 normalForms-hold = refl
 
 -- Plans at both edges of their range, sides 0, 1, 4096, 4097.
-limits : List Row
+planLimits : List Row
 unfolding row is no counted bank depth plan px at neg
-limits =
+planLimits =
     row (counted (bank (plan 1024 1023 1) (px 0 0))) (is (0 ∷ []))
     ∷ row (counted (bank (plan 1025 0 1) (px 0 0))) (no 11 0)
     ∷ row (counted (bank (plan 32 0 32) (at (neg 1) (neg 1)))) (is (1023 ∷ []))
@@ -150,9 +192,9 @@ limits =
     ∷ row (counted (depth (plan 1 0 1) 1 0)) (no 12 0)
     ∷ []
 
-limits-hold : Hold limits
-unfolding limits
-limits-hold = refl
+planLimits-hold : Hold planLimits
+unfolding planLimits
+planLimits-hold = refl
 
 -- Plan 6, 4, 2 on 7 by 5 has C = 2 and depth 6; (6,4) has q = 2, r = 0.
 layout : List Row

@@ -1,18 +1,22 @@
--- What is promised of reading and writing books. Statements to be proved.
+-- What is promised of reading and writing books, and of the program. Statements to be proved.
 -- Assumes nothing.
-use Prim.Native.Nat.{ℕ, _≤_, _<_}
+use Prim.Native.Nat.{ℕ, _+_, _*_, _-_, _≤_, _<_}
 use mathlib.Core.Path.{_≡_}
 use mathlib.Core.Logic.{_↔_}
 use mathlib.Core.Option.{Option, none}
-use mathlib.Core.List.{List, flatMap}
-use lib.ListN.{length, take, drop}
-use Rattle.scope.specs.Plans.{Pixel, pixelAt, patternAt, pixels, patterns}
+use mathlib.Core.List.{List, [], _∷_, _++_, flatMap, List·Memᴰ}
+use lib.IntN.{ℤ, pos}
+use lib.ListN.{length, getD, take, drop}
+use Rattle.scope.specs.Plans.{Pixel, pixelAt, patternAt, pixels, patterns, banks}
 use Rattle.scope.specs.Banks.{overStart}
 use Rattle.scope.specs.Books.{byte, bookOf, pixelBytes, bookBytes}
-use Rattle.scope.specs.Numbers.{value, ofCounted, ofOutcome, recordTest}
-use Rattle.scope.specs.Calls.{readBook, patternPart, partOutcome, writeBook}
+use Rattle.scope.specs.Numbers.{value, refusal, ofPlanned, ofCounted, ofOutcome, recordTest}
+use Rattle.scope.specs.Calls.{readBook, patternPart, partOutcome, writeBook, find}
+use Rattle.scope.specs.Program.{ascii, decimal, programText}
 use Rattle.scope.specs.Meaning.{IsBook}
+use Rattle.scope.specs.declared.Plan.{Plan}
 use Rattle.scope.specs.declared.Book.{Book}
+use Rattle.scope.specs.declared.Clash.{Clash}
 
 abbrev pub Bytes : List ℕ → Type 0
 Bytes s = (i : ℕ) → byte s i < 256
@@ -46,6 +50,7 @@ WriteAfterRead = (s : List ℕ) → Bytes s → ofOutcome (readBook s .outcome) 
 pub record PartsAre : Type 0 where
   pub taken : (s : List ℕ) (n : ℕ) → (ofOutcome (partOutcome s n) ≡ value tt) ↔ ((ofOutcome (readBook s .outcome) ≡ value tt) × (n < readBook s .book .count))
   pub bytes : (s : List ℕ) → Bytes s → (n : ℕ) → ofOutcome (partOutcome s n) ≡ value tt → patternPart s n ≡ flatMap pixelBytes (pixels (patternAt (readBook s .book) n))
+  pub empty : (s : List ℕ) (n m i : ℕ) (c : Option Clash) → ofOutcome (partOutcome s n) ≡ refusal m i c → patternPart s n ≡ []
 
 -- two records agree where it counts
 pub record SameUsed (book other : Book) : Type 0 where
@@ -57,4 +62,29 @@ pub record SameUsed (book other : Book) : Type 0 where
 pub record UnusedDontCount : Type 0 where
   pub refused : (book other : Book) → SameUsed book other → recordTest book ≡ recordTest other
   pub same : (book other : Book) → SameUsed book other → patterns book ≡ patterns other
-  pub zeroed : (book : Book) → IsBook book → SameUsed book (bookOf (patterns book))
+  pub rebuilt : (book : Book) → IsBook book → SameUsed book (bookOf (patterns book))
+
+-- "a reader sets them to 0", in arrays of 16 and 64; the 1 is what would be found past an array's end
+pub record ReaderSetsZero : Type 0 where
+  pub patterns-16 : (s : List ℕ) → length (readBook s .book .patterns) ≡ 16
+  pub columns-64 : (s : List ℕ) (n : ℕ) → n < 16 → length (patternAt (readBook s .book) n .columns) ≡ 64
+  pub rows-64 : (s : List ℕ) (n : ℕ) → n < 16 → length (patternAt (readBook s .book) n .rows) ≡ 64
+  pub used : (s : List ℕ) (n : ℕ) → readBook s .book .count ≤ n → patternAt (readBook s .book) n .used ≡ 0
+  pub column : (s : List ℕ) (n e : ℕ) → n < 16 → e < 64 → patternAt (readBook s .book) n .used ≤ e → getD (patternAt (readBook s .book) n .columns) e (pos 1) ≡ pos 0
+  pub row : (s : List ℕ) (n e : ℕ) → n < 16 → e < 64 → patternAt (readBook s .book) n .used ≤ e → getD (patternAt (readBook s .book) n .rows) e (pos 1) ≡ pos 0
+
+-- The number that decimal digits in ASCII tell.
+unfoldable pub numberIn : ℕ → List ℕ → ℕ
+numberIn n [] = n
+numberIn n (c ∷ cs) = numberIn (n * 10 + (c - 48)) cs
+
+-- `decimal n` is digits that tell n, and begins with 0 only where it is one digit
+pub record DecimalMeans : Type 0 where
+  pub tells : (n : ℕ) → numberIn 0 (decimal n) ≡ n
+  pub digit : (n c : ℕ) → List·Memᴰ c (decimal n) → (48 ≤ c) × (c ≤ 57)
+  pub no-zero-first : (n : ℕ) → getD (decimal n) 0 0 ≡ 48 → length (decimal n) ≡ 1
+
+-- "The program reads a book from standard input and uses limit 1024": a plan's two lines, or the reader's refusal
+pub record ProgramWrites : Type 0 where
+  pub plan-lines : (s : List ℕ) (p : Plan) → ofOutcome (readBook s .outcome) ≡ value tt → ofPlanned (find (readBook s .book) 1024) ≡ value p → programText s ≡ ascii "banks " ++ decimal (banks p) ++ ascii "\nplan " ++ decimal (p .a) ++ ascii " " ++ decimal (p .b) ++ ascii " " ++ decimal (p .d) ++ ascii "\n"
+  pub refused-line : (s : List ℕ) (n i : ℕ) (c : Option Clash) → ofOutcome (readBook s .outcome) ≡ refusal n i c → programText s ≡ ascii "refused " ++ decimal n ++ ascii "\n"

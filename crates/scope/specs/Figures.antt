@@ -1,5 +1,5 @@
 -- Document 01, "Figures to agree with": the starred figures and the examples of the table of refusals, row by row, and the
--- one theorem that checks the definitions on them by computation. Edges.antt has more rows.
+-- one theorem that checks the definitions on them by computation. BookEdges.antt and PictureEdges.antt have more rows.
 -- Assumes nothing.
 use Prim.Native.Nat.{ℕ}
 use mathlib.Core.Path.{refl}

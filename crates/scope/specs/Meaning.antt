@@ -91,7 +91,7 @@ pub record ChainIsFirst : Type 0 where
   pub none-holds : (tests : List (Option Refusal)) → (firstOf tests ≡ none) ↔ ((t : Option Refusal) → List·Memᴰ t tests → t ≡ none)
   pub first-holds : (before after : List (Option Refusal)) (r : Refusal) → firstOf before ≡ none → firstOf (before ++ (some r ∷ after)) ≡ some r
 
--- for each number, its test finds nothing exactly where the table's condition does not hold
+-- For each number but 1 and 5 (BytesMean) and 7 (FinderNone), its test finds nothing exactly where the condition does not hold.
 pub record TestsMean : Type 0 where
   pub book-2-3-4 : (book : Book) → (recordTest book ≡ none) ↔ IsBook book
   pub limit-6 : (limit : ℕ) → (limitTest limit ≡ none) ↔ ((1 ≤ limit) × (limit ≤ 1024))

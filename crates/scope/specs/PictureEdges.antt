@@ -1,5 +1,5 @@
--- Rows beyond document 01's figures for the calls on a picture, worked out by hand from its sentences: what is lent, and for
--- each order of two checks an input that breaks both conditions. The must-fail edits lean on them.
+-- Rows beyond document 01's figures for the calls on a picture, worked out by hand from its sentences: what is lent, and
+-- inputs that break two conditions, so that the order of the checks tells. The must-fail edits lean on them.
 -- Assumes nothing.
 use Prim.Native.Nat.{ℕ}
 use mathlib.Core.Path.{refl}
@@ -13,6 +13,7 @@ use Rattle.scope.specs.Calls.{bank, depth, address, locate, store, load,
 use Rattle.scope.specs.Demand as Demand
 use Rattle.scope.specs.Rows.{Row, Hold, row, is, no, clashes, counted, loaded, located, done, records, neg, px, one, two, finds, checks}
 use Rattle.scope.specs.declared.Plan.{Plan}
+use Rattle.scope.specs.declared.Book.{Book}
 use Rattle.scope.specs.declared.PixelRecord.{PixelRecord}
 
 -- Plan 2, 0, 1 on 2 by 2 has depth 2: (0,0), (0,1), (1,0), (1,1) are the words 0, 1, 2, 3. The memory holds 1, 2, 3, ..
@@ -36,8 +37,13 @@ ringAnswer : List (List Pixel) → Plan → ℕ → ℕ → ℕ → ℕ → Pixe
 unfolding counted ringFetch bookOf upTo
 ringAnswer ts p W H words n o out = counted (ringFetch (bookOf ts) p W H (upTo words) n o out .answer)
 
-at7 : ℕ → ℕ → PixelRecord
-at7 i j = record { column = pos i; row = pos j; bank = 3; address = 9 }
+-- a book of one pattern whose record has a second one, unused
+unusedTwo : Book
+unfolding bookOf one two
+unusedTwo = record { patterns = bookOf (one ∷ two ∷ []) .patterns; count = 1 }
+
+recordAt : ℕ → ℕ → PixelRecord
+recordAt i j = record { column = pos i; row = pos j; bank = 3; address = 9 }
 
 -- two pixels in a row, whose plan of least N is 2, 0, 1, on 2 by 2
 setting : Demand.Setting
@@ -81,6 +87,7 @@ fetching =
     ∷ row (fetched (two ∷ one ∷ []) (plan 1 0 1) 2 2 4 1 (px 1 1) (8 ∷ [])) (is (4 ∷ []))
     ∷ row (fetchAnswer (two ∷ one ∷ []) (plan 1 0 1) 2 2 4 0 (px 0 0) (8 ∷ 8 ∷ [])) (clashes 0 0 1)
     ∷ row (fetchAnswer (one ∷ two ∷ []) (plan 1 0 1) 2 2 4 1 (px 0 0) (8 ∷ 8 ∷ [])) (clashes 1 0 1)
+    ∷ row (fetched ((px 0 0 ∷ px 0 1 ∷ []) ∷ []) (plan 1 0 2) 2 2 4 0 (px 1 0) (8 ∷ 8 ∷ [])) (is (2 ∷ 4 ∷ []))
     ∷ []
 
 fetching-hold : Hold fetching
@@ -104,11 +111,11 @@ ringFetching-hold = refl
 
 -- The record list: filled whole, or not at all.
 filling : List Row
-unfolding row is no done records fillRecords plan at7
+unfolding row is no done records fillRecords plan recordAt
 filling =
-    row (records (fillRecords (plan 5 2 1) 7 4 (at7 6 3 ∷ at7 1 0 ∷ at7 5 1 ∷ []) .content)) (is (6 ∷ 3 ∷ 0 ∷ 7 ∷ 1 ∷ 0 ∷ 1 ∷ 0 ∷ 5 ∷ 1 ∷ 3 ∷ 3 ∷ []))
-    ∷ row (records (fillRecords (plan 5 2 1) 7 4 (at7 6 3 ∷ at7 7 3 ∷ []) .content)) (is (6 ∷ 3 ∷ 3 ∷ 9 ∷ 7 ∷ 3 ∷ 3 ∷ 9 ∷ []))
-    ∷ row (done (fillRecords (plan 5 2 1) 7 4 (at7 6 3 ∷ at7 7 3 ∷ []) .answer)) (no 14 0)
+    row (records (fillRecords (plan 5 2 1) 7 4 (recordAt 6 3 ∷ recordAt 1 0 ∷ recordAt 5 1 ∷ []) .content)) (is (6 ∷ 3 ∷ 0 ∷ 7 ∷ 1 ∷ 0 ∷ 1 ∷ 0 ∷ 5 ∷ 1 ∷ 3 ∷ 3 ∷ []))
+    ∷ row (records (fillRecords (plan 5 2 1) 7 4 (recordAt 6 3 ∷ recordAt 7 3 ∷ []) .content)) (is (6 ∷ 3 ∷ 3 ∷ 9 ∷ 7 ∷ 3 ∷ 3 ∷ 9 ∷ []))
+    ∷ row (done (fillRecords (plan 5 2 1) 7 4 (recordAt 6 3 ∷ recordAt 7 3 ∷ []) .answer)) (no 14 0)
     ∷ []
 
 filling-hold : Hold filling
@@ -129,11 +136,9 @@ lists-hold = refl
 
 -- Two conditions at once: the one that document 01 tests first is told. 5000 is no side, and needs more memory than there is.
 orders : List Row
-unfolding row no finds checks done counted loaded located depth address locate load clear fillRecords plan px upTo at7
+unfolding row no finds checks done counted loaded located depth address locate load clear fillRecords plan px upTo recordAt store sum
 orders =
-    row (finds [] 0) (no 2 0)
-    ∷ row (checks [] (px 2 1) (px 4 2)) (no 2 0)
-    ∷ row (counted (depth (plan 0 0 1) 0 0)) (no 11 0)
+    row (counted (depth (plan 0 0 1) 0 0)) (no 11 0)
     ∷ row (counted (address (plan 0 0 1) 0 0 (px 0 0))) (no 11 0)
     ∷ row (counted (address (plan 5 2 1) 0 4 (px 9 9))) (no 12 0)
     ∷ row (located (locate (plan 0 0 1) 0 0 0 0)) (no 11 0)
@@ -144,8 +149,14 @@ orders =
     ∷ row (done (clear (plan 0 0 1) 0 0 [] 9 .answer)) (no 11 0)
     ∷ row (done (clear (plan 1 0 1) 5000 1 [] 9 .answer)) (no 12 0)
     ∷ row (done (clear (plan 2 0 1) 2 2 (upTo 3) 2 .answer)) (no 13 0)
-    ∷ row (done (fillRecords (plan 0 0 1) 0 0 (at7 9 9 ∷ []) .answer)) (no 11 0)
-    ∷ row (done (fillRecords (plan 5 2 1) 0 4 (at7 9 9 ∷ []) .answer)) (no 12 0)
+    ∷ row (done (fillRecords (plan 0 0 1) 0 0 (recordAt 9 9 ∷ []) .answer)) (no 11 0)
+    ∷ row (done (fillRecords (plan 5 2 1) 0 4 (recordAt 9 9 ∷ []) .answer)) (no 12 0)
+    ∷ row (done (store (plan 0 0 1) 0 0 [] (px 0 0) 9 .answer)) (no 11 0)
+    ∷ row (done (store (plan 1 0 1) 5000 1 [] (px 0 0) 9 .answer)) (no 12 0)
+    ∷ row (done (store (plan 2 0 1) 2 2 (upTo 3) (px 9 9) 9 .answer)) (no 13 0)
+    ∷ row (counted (sum (plan 0 0 1) 0 0 [] 9)) (no 11 0)
+    ∷ row (counted (sum (plan 1 0 1) 5000 1 [] 9)) (no 12 0)
+    ∷ row (counted (sum (plan 2 0 1) 2 2 (upTo 3) 2)) (no 13 0)
     ∷ []
 
 orders-hold : Hold orders
@@ -154,7 +165,7 @@ orders-hold = refl
 
 -- The same for a fetch.
 fetchOrders : List Row
-unfolding row no clashes plan one two px fetchAnswer
+unfolding row no clashes plan one two px fetchAnswer fetch unusedTwo counted
 fetchOrders =
     row (fetchAnswer [] (plan 0 0 1) 0 0 0 0 (px 0 0) []) (no 2 0)
     ∷ row (fetchAnswer (one ∷ []) (plan 0 0 1) 0 0 0 0 (px 0 0) []) (no 11 0)
@@ -162,6 +173,10 @@ fetchOrders =
     ∷ row (fetchAnswer (one ∷ []) (plan 2 0 1) 2 2 3 1 (px 0 0) []) (no 13 0)
     ∷ row (fetchAnswer (two ∷ []) (plan 1 0 1) 2 2 4 0 (px 9 9) []) (clashes 0 0 1)
     ∷ row (fetchAnswer (two ∷ []) (plan 2 0 1) 2 2 4 0 (px 1 1) []) (no 14 0)
+    ∷ row (fetchAnswer (two ∷ []) (plan 1 1 1) 2 2 4 0 (px 9 9) []) (no 11 0)
+    ∷ row (fetchAnswer (two ∷ []) (plan 1 0 1) 0 1 0 0 (px 0 0) []) (no 12 0)
+    ∷ row (fetchAnswer (two ∷ []) (plan 1 0 1) 2 2 3 0 (px 9 9) []) (no 13 0)
+    ∷ row (counted (fetch unusedTwo (plan 1 0 1) 2 2 (upTo 4) 1 (px 9 9) [] .answer)) (no 17 0)
     ∷ []
 
 fetchOrders-hold : Hold fetchOrders
@@ -170,7 +185,7 @@ fetchOrders-hold = refl
 
 -- And for a ring fetch.
 ringOrders : List Row
-unfolding row no clashes plan one two px ringAnswer
+unfolding row no clashes plan one two px ringAnswer ringFetch unusedTwo counted
 ringOrders =
     row (ringAnswer [] (plan 0 0 1) 0 0 0 0 (px 0 0) []) (no 2 0)
     ∷ row (ringAnswer (one ∷ []) (plan 0 0 1) 0 0 0 0 (px 0 0) []) (no 11 0)
@@ -178,6 +193,13 @@ ringOrders =
     ∷ row (ringAnswer (one ∷ []) (plan 2 0 1) 2 2 3 1 (px 0 0) []) (no 13 0)
     ∷ row (ringAnswer ((px 0 0 ∷ px 2 0 ∷ []) ∷ []) (plan 2 0 1) 3 2 9 0 (px 0 0) []) (clashes 0 0 1)
     ∷ row (ringAnswer (two ∷ []) (plan 2 0 1) 3 2 9 0 (px 0 0) []) (no 18 0)
+    ∷ row (ringAnswer (two ∷ []) (plan 1 1 1) 2 2 4 0 (px 0 0) []) (no 11 0)
+    ∷ row (ringAnswer (two ∷ []) (plan 1 0 1) 0 1 0 0 (px 0 0) []) (no 12 0)
+    ∷ row (ringAnswer (one ∷ []) (plan 2 0 1) 4097 1 0 0 (px 0 0) []) (no 12 0)
+    ∷ row (ringAnswer (two ∷ []) (plan 1 0 1) 2 2 3 0 (px 0 0) []) (no 13 0)
+    ∷ row (ringAnswer (one ∷ []) (plan 2 0 1) 3 2 0 0 (px 0 0) []) (no 13 0)
+    ∷ row (counted (ringFetch unusedTwo (plan 1 0 1) 2 2 (upTo 4) 1 (px 0 0) [] .answer)) (no 17 0)
+    ∷ row (counted (ringFetch unusedTwo (plan 2 0 1) 3 2 (upTo 9) 1 (px 0 0) [] .answer)) (no 17 0)
     ∷ []
 
 ringOrders-hold : Hold ringOrders

@@ -5,18 +5,18 @@ use mathlib.Core.Path.{_≡_}
 use mathlib.Core.Logic.{_↔_, _⊎_}
 use mathlib.Core.Bool.{Bool, true, false}
 use mathlib.Core.Option.{Option, none, some}
-use mathlib.Core.List.{List, List·Memᴰ}
+use mathlib.Core.List.{List, flatMap, List·Memᴰ}
+use lib.IntN.{natAbs}
 use lib.ListN.{length}
-use Rattle.scope.specs.Plans.{Pixel, minus, pixelAt, patternAt, patterns, banks, Combination, along, up, InLattice, suitsAll, determinantSize, normalForm}
+use Rattle.scope.specs.Plans.{Pixel, minus, differences, pixelAt, patternAt, patterns, banks, Combination, along, up, InLattice, suitsAll, determinantSize, normalForm}
 use Rattle.scope.specs.Finding.{boxWidth, boxHeight}
-use Rattle.scope.specs.Numbers.{value, refusal, ofPlanned, ofVerdict, suitsTest}
-use Rattle.scope.specs.Calls.{find, check}
+use Rattle.scope.specs.Numbers.{value, refusal, ofPlanned, ofCounted, ofVerdict}
+use Rattle.scope.specs.Calls.{find, check, fetch, ringFetch}
 use Rattle.scope.specs.Meaning.{IsPlan, IsBook, Independent}
 use Rattle.scope.specs.declared.Plan.{Plan}
 use Rattle.scope.specs.declared.Book.{Book}
 use Rattle.scope.specs.declared.Clash.{Clash}
 use Rattle.scope.specs.declared.Checked.{Checked}
-use Rattle.scope.specs.declared.Refusal.{Refusal}
 
 -- p is a plan but for the limit on its banks, and "generates the same lattice" as x and y
 pub record Generates (p : Plan) (x y : Pixel) : Type 0 where
@@ -74,6 +74,16 @@ pub record FirstAmongEqual (book : Book) (p : Plan) : Type 0 where
 abbrev pub FinderOrder : Type 0
 FinderOrder = (book : Book) (limit : ℕ) (p : Plan) → ofPlanned (find book limit) ≡ value p → FirstAmongEqual book p
 
+-- "w is 1 plus the greatest column difference and h is 1 plus the greatest row difference (1 where there is no difference)"
+pub record BoxMeans (ts : List (List Pixel)) : Type 0 where
+  pub columns : (v : Pixel) → List·Memᴰ v (flatMap differences ts) → 1 + natAbs (v .column) ≤ boxWidth ts
+  pub rows : (v : Pixel) → List·Memᴰ v (flatMap differences ts) → 1 + natAbs (v .row) ≤ boxHeight ts
+  pub widest : (boxWidth ts ≡ 1) ⊎ ((v : Pixel) × List·Memᴰ v (flatMap differences ts) × (boxWidth ts ≡ 1 + natAbs (v .column)))
+  pub highest : (boxHeight ts ≡ 1) ⊎ ((v : Pixel) × List·Memᴰ v (flatMap differences ts) × (boxHeight ts ≡ 1 + natAbs (v .row)))
+
+abbrev pub BoxIsGreatest : Type 0
+BoxIsGreatest = (ts : List (List Pixel)) → BoxMeans ts
+
 -- "N is never below the pixel count of any pattern. It is never above w × h"
 pub record FinderBounds (book : Book) (p : Plan) : Type 0 where
   pub pixel-count : (t : List Pixel) → List·Memᴰ t (patterns book) → length t ≤ banks p
@@ -114,7 +124,8 @@ pub record FirstClashIn (book : Book) (p : Plan) (c : Clash) : Type 0 where
 pub record ClashIsFirst : Type 0 where
   pub in-pattern : (book : Book) (x y : Pixel) (c : Clash) → ofVerdict (check book x y) ≡ refusal 10 0 (some c) → FirstClashIn book (normalForm x y) c
   pub lowest : (book : Book) (x y : Pixel) (c : Clash) → ofVerdict (check book x y) ≡ refusal 10 0 (some c) → (n e l : ℕ) → Meets book (normalForm x y) n e l → c .pattern ≤ n
-  pub of-fetch : (book : Book) (p : Plan) (n : ℕ) (c : Clash) → IsPlan p → n < book .count → suitsTest p book n ≡ some (Refusal.Unsuited c) → FirstClashIn book p c × (c .pattern ≡ n)
+  pub of-fetch : (book : Book) (p : Plan) (W H : ℕ) (mem : List ℕ) (n : ℕ) (o : Pixel) (out : List ℕ) (c : Clash) → ofCounted (fetch book p W H mem n o out .answer) ≡ refusal 10 0 (some c) → FirstClashIn book p c × (c .pattern ≡ n)
+  pub of-ring-fetch : (book : Book) (p : Plan) (W H : ℕ) (mem : List ℕ) (n : ℕ) (o : Pixel) (out : List ℕ) (c : Clash) → ofCounted (ringFetch book p W H mem n o out .answer) ≡ refusal 10 0 (some c) → FirstClashIn book p c × (c .pattern ≡ n)
 
 -- Legal vectors get the surplus if their normal form suits, and 10 with a clash if it does not, and nothing else.
 abbrev pub CheckDecides : Type 0

@@ -1,16 +1,15 @@
 -- Rows of figures: what a call gives beside what is stated, and the patterns that the figures speak of.
 -- Assumes nothing.
-use Prim.Native.Nat.{ℕ, _/_, _%_}
+use Prim.Native.Nat.{ℕ}
 use mathlib.Core.Path.{_≡_}
 use mathlib.Core.Option.{Option, none, some}
 use mathlib.Core.List.{List, [], _∷_, _++_, map, flatMap}
 use lib.IntN.{ℤ, pos, negℤ}
 use lib.ListN.{replicate}
-use Rattle.scope.specs.Search.{gather}
 use Rattle.scope.specs.Plans.{Pixel, at, plan}
 use Rattle.scope.specs.Books.{bookOf}
 use Rattle.scope.specs.Numbers.{Answer, value, refusal, ofPlanned, ofCounted, ofLoaded, ofLocated, ofOutcome, ofVerdict}
-use Rattle.scope.specs.Calls.{readBook, writeBook, find, check, fetch, ringFetch}
+use Rattle.scope.specs.Calls.{readBook, find, check, fetch, ringFetch}
 use Rattle.scope.specs.declared.PixelRecord.{PixelRecord}
 use Rattle.scope.specs.declared.Planned.{Planned}
 use Rattle.scope.specs.declared.Counted.{Counted}
@@ -19,7 +18,7 @@ use Rattle.scope.specs.declared.Located.{Located}
 use Rattle.scope.specs.declared.Outcome.{Outcome}
 use Rattle.scope.specs.declared.Verdict.{Verdict}
 
--- What a call gives, and what document 01 states: the values in a list, or the refusal.
+-- What a call gives, and what it should give: the values in a list, or the refusal.
 pub record Row : Type 0 where
   pub computed : Answer (List ℤ)
   pub stated : Answer (List ℤ)
@@ -74,7 +73,7 @@ unfoldable pub records : List PixelRecord → Answer (List ℤ)
 unfolding flatMap
 records rs = value (flatMap (λ r. r .column ∷ r .row ∷ pos (r .bank) ∷ pos (r .address) ∷ []) rs)
 
--- -n, the pixel (i, j), and the list of pixels with these coordinates
+-- -n, the pixel (i, j), and the patterns
 unfoldable pub neg : ℕ → ℤ
 neg n = negℤ (pos n)
 
