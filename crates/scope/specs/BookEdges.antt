@@ -13,7 +13,7 @@ use Rattle.scope.specs.Books.{bookOf}
 use Rattle.scope.specs.Numbers.{Answer, value}
 use Rattle.scope.specs.Calls.{readBook, patternPart, partOutcome, writeBook, normal, find, bank, depth, address, locate}
 use Rattle.scope.specs.Program.{ascii, decimal, programText}
-use Rattle.scope.specs.Rows.{Row, Hold, row, is, no, clashes, planned, counted, located, done, neg, px, one, two, gap, threeAndThree, cross, finds, reads, checks}
+use Rattle.scope.specs.Rows.{Row, Hold, row, is, refused, clashes, planned, counted, located, done, neg, px, one, two, gap, threeAndThree, cross, finds, reads, checks}
 use Rattle.scope.specs.declared.Plan.{Plan}
 
 -- A book's five pixels of the cross, and the book of two patterns of three pixels.
@@ -33,14 +33,14 @@ writes ts out = counted (writeBook (bookOf ts) out .answer)
 
 -- Limits 1 and 1025; 0, 1, 16 and 17 patterns, 0 pixels.
 counts : List Row
-unfolding row is no finds one
+unfolding row is refused finds one
 counts =
     row (finds (one ∷ []) 1) (is (1 ∷ 0 ∷ 1 ∷ []))
-    ∷ row (finds (one ∷ []) 1025) (no 6 0)
-    ∷ row (finds [] 1) (no 2 0)
-    ∷ row (finds ([] ∷ []) 1) (no 2 0)
+    ∷ row (finds (one ∷ []) 1025) (refused 6 0)
+    ∷ row (finds [] 1) (refused 2 0)
+    ∷ row (finds ([] ∷ []) 1) (refused 2 0)
     ∷ row (finds (replicate 16 one) 1) (is (1 ∷ 0 ∷ 1 ∷ []))
-    ∷ row (finds (replicate 17 one) 1) (no 2 0)
+    ∷ row (finds (replicate 17 one) 1) (refused 2 0)
     ∷ []
 
 counts-hold : Hold counts
@@ -49,12 +49,12 @@ counts-hold = refl
 
 -- Coordinates -17, -16, 15, 16, and a repeat, in a record.
 coordinates : List Row
-unfolding row no writes one px at neg
+unfolding row refused writes one px at neg
 coordinates =
-    row (writes ((at (neg 16) (pos 15) ∷ at (pos 15) (neg 16) ∷ []) ∷ []) []) (no 16 0)
-    ∷ row (writes ((px 16 0 ∷ []) ∷ []) []) (no 3 0)
-    ∷ row (writes ((at (pos 0) (neg 17) ∷ []) ∷ []) []) (no 3 0)
-    ∷ row (writes (one ∷ (px 0 0 ∷ px 1 0 ∷ px 1 0 ∷ []) ∷ []) []) (no 4 0)
+    row (writes ((at (neg 16) (pos 15) ∷ at (pos 15) (neg 16) ∷ []) ∷ []) []) (refused 16 0)
+    ∷ row (writes ((px 16 0 ∷ []) ∷ []) []) (refused 3 0)
+    ∷ row (writes ((at (pos 0) (neg 17) ∷ []) ∷ []) []) (refused 3 0)
+    ∷ row (writes (one ∷ (px 0 0 ∷ px 1 0 ∷ px 1 0 ∷ []) ∷ []) []) (refused 4 0)
     ∷ []
 
 coordinates-hold : Hold coordinates
@@ -63,18 +63,18 @@ coordinates-hold = refl
 
 -- The reader: numbers and places.
 reading : List Row
-unfolding row is no reads
+unfolding row is refused reads
 reading =
     row (reads (1 ∷ 2 ∷ 0xf0 ∷ 0x0f ∷ 0x0f ∷ 0xf0 ∷ [])) (is [])
-    ∷ row (reads (1 ∷ 1 ∷ 0 ∷ 0xef ∷ [])) (no 3 3)
-    ∷ row (reads (1 ∷ 1 ∷ 0x10 ∷ 0x10 ∷ [])) (no 3 2)
-    ∷ row (reads (1 ∷ 1 ∷ 0x10 ∷ [])) (no 1 3)
-    ∷ row (reads (1 ∷ [])) (no 1 1)
-    ∷ row (reads (2 ∷ 1 ∷ 0 ∷ 0 ∷ [])) (no 1 4)
-    ∷ row (reads (2 ∷ 1 ∷ 0 ∷ 0 ∷ 65 ∷ [])) (no 2 4)
-    ∷ row (reads (17 ∷ [])) (no 2 0)
-    ∷ row (reads (1 ∷ 3 ∷ 0 ∷ 0 ∷ 1 ∷ 0 ∷ 1 ∷ 0 ∷ [])) (no 4 6)
-    ∷ row (reads (1 ∷ 1 ∷ [])) (no 1 2)
+    ∷ row (reads (1 ∷ 1 ∷ 0 ∷ 0xef ∷ [])) (refused 3 3)
+    ∷ row (reads (1 ∷ 1 ∷ 0x10 ∷ 0x10 ∷ [])) (refused 3 2)
+    ∷ row (reads (1 ∷ 1 ∷ 0x10 ∷ [])) (refused 1 3)
+    ∷ row (reads (1 ∷ [])) (refused 1 1)
+    ∷ row (reads (2 ∷ 1 ∷ 0 ∷ 0 ∷ [])) (refused 1 4)
+    ∷ row (reads (2 ∷ 1 ∷ 0 ∷ 0 ∷ 65 ∷ [])) (refused 2 4)
+    ∷ row (reads (17 ∷ [])) (refused 2 0)
+    ∷ row (reads (1 ∷ 3 ∷ 0 ∷ 0 ∷ 1 ∷ 0 ∷ 1 ∷ 0 ∷ [])) (refused 4 6)
+    ∷ row (reads (1 ∷ 1 ∷ [])) (refused 1 2)
     ∷ []
 
 reading-hold : Hold reading
@@ -83,17 +83,18 @@ reading-hold = refl
 
 -- Two conditions at once: the one that document 01 tests first is told, "in book order" and "left to right".
 bookOrders : List Row
-unfolding row no finds checks writes reads two px
+unfolding row refused finds checks writes reads two px
 bookOrders =
-    row (finds [] 0) (no 2 0)
-    ∷ row (checks [] (px 2 1) (px 4 2)) (no 2 0)
-    ∷ row (checks [] (px 32 0) (px 0 33)) (no 2 0)
-    ∷ row (checks (two ∷ []) (px 1 0) (px 0 2000)) (no 9 0)
-    ∷ row (writes ((px 16 0 ∷ []) ∷ [] ∷ []) []) (no 3 0)
-    ∷ row (writes ((px 0 0 ∷ px 0 0 ∷ px 16 0 ∷ []) ∷ []) []) (no 4 0)
-    ∷ row (reads (1 ∷ 1 ∷ 0x10 ∷ 0 ∷ 0 ∷ [])) (no 3 2)
-    ∷ row (reads (1 ∷ 2 ∷ 0x10 ∷ 0 ∷ [])) (no 3 2)
-    ∷ row (reads (1 ∷ 3 ∷ 0 ∷ 0 ∷ 0 ∷ 0 ∷ 0x10 ∷ 0 ∷ [])) (no 4 4)
+    row (finds [] 0) (refused 2 0)
+    ∷ row (finds (replicate 17 (px 16 0 ∷ [])) 1) (refused 2 0)
+    ∷ row (checks [] (px 2 1) (px 4 2)) (refused 2 0)
+    ∷ row (checks [] (px 32 0) (px 0 33)) (refused 2 0)
+    ∷ row (checks (two ∷ []) (px 1 0) (px 0 2000)) (refused 9 0)
+    ∷ row (writes ((px 16 0 ∷ []) ∷ [] ∷ []) []) (refused 3 0)
+    ∷ row (writes ((px 0 0 ∷ px 0 0 ∷ px 16 0 ∷ []) ∷ []) []) (refused 4 0)
+    ∷ row (reads (1 ∷ 1 ∷ 0x10 ∷ 0 ∷ 0 ∷ [])) (refused 3 2)
+    ∷ row (reads (1 ∷ 2 ∷ 0x10 ∷ 0 ∷ [])) (refused 3 2)
+    ∷ row (reads (1 ∷ 3 ∷ 0 ∷ 0 ∷ 0 ∷ 0 ∷ 0x10 ∷ 0 ∷ [])) (refused 4 4)
     ∷ []
 
 bookOrders-hold : Hold bookOrders
@@ -102,13 +103,13 @@ bookOrders-hold = refl
 
 -- What was read, and a pattern's part of the bytes.
 parts : List Row
-unfolding row is no planned find readBook done patternPart partOutcome book33 patternAt
+unfolding row is refused planned find readBook done patternPart partOutcome book33 patternAt
 parts =
     row (planned (find (readBook book33 .book) 1024)) (is (3 ∷ 1 ∷ 1 ∷ []))
     ∷ row (is (patternPart book33 1)) (is (0 ∷ 0 ∷ 0 ∷ 1 ∷ 0 ∷ 2 ∷ []))
     ∷ row (is (patternPart book33 2)) (is [])
-    ∷ row (done (partOutcome book33 2)) (no 17 0)
-    ∷ row (done (partOutcome (book33 ++ (0 ∷ [])) 2)) (no 5 15)
+    ∷ row (done (partOutcome book33 2)) (refused 17 0)
+    ∷ row (done (partOutcome (book33 ++ (0 ∷ [])) 2)) (refused 5 15)
     ∷ row (is (patternPart (1 ∷ 1 ∷ 3 ∷ 4 ∷ 0 ∷ []) 0)) (is [])
     ∷ row (value (take 3 (patternAt (readBook (1 ∷ 1 ∷ 3 ∷ 4 ∷ []) .book) 0 .columns))) (is (3 ∷ 0 ∷ 0 ∷ []))
     ∷ row (value (take 3 (patternAt (readBook (1 ∷ 1 ∷ 3 ∷ 4 ∷ []) .book) 0 .rows))) (is (4 ∷ 0 ∷ 0 ∷ []))
@@ -164,11 +165,11 @@ boxes-hold = refl
 
 -- Determinants of size 1024, 1025 and 0, and negative rows.
 normalForms : List Row
-unfolding row is no planned normal px at neg
+unfolding row is refused planned normal px at neg
 normalForms =
     row (planned (normal (px 32 0) (px 0 32))) (is (32 ∷ 0 ∷ 32 ∷ []))
-    ∷ row (planned (normal (px 25 0) (px 0 41))) (no 9 0)
-    ∷ row (planned (normal (at (neg 32768) (neg 32768)) (at (pos 32767) (pos 32767)))) (no 8 0)
+    ∷ row (planned (normal (px 25 0) (px 0 41))) (refused 9 0)
+    ∷ row (planned (normal (at (neg 32768) (neg 32768)) (at (pos 32767) (pos 32767)))) (refused 8 0)
     ∷ row (planned (normal (at (neg 3) (neg 6)) (at (pos 1) (pos 4)))) (is (3 ∷ 2 ∷ 2 ∷ []))
     ∷ []
 
@@ -178,18 +179,18 @@ normalForms-hold = refl
 
 -- Plans at both edges of their range, sides 0, 1, 4096, 4097.
 planLimits : List Row
-unfolding row is no counted bank depth plan px at neg
+unfolding row is refused counted bank depth plan px at neg
 planLimits =
     row (counted (bank (plan 1024 1023 1) (px 0 0))) (is (0 ∷ []))
-    ∷ row (counted (bank (plan 1025 0 1) (px 0 0))) (no 11 0)
+    ∷ row (counted (bank (plan 1025 0 1) (px 0 0))) (refused 11 0)
     ∷ row (counted (bank (plan 32 0 32) (at (neg 1) (neg 1)))) (is (1023 ∷ []))
-    ∷ row (counted (bank (plan 32 0 33) (px 0 0))) (no 11 0)
-    ∷ row (counted (bank (plan 5 5 1) (px 0 0))) (no 11 0)
-    ∷ row (counted (bank (plan 5 0 0) (px 0 0))) (no 11 0)
+    ∷ row (counted (bank (plan 32 0 33) (px 0 0))) (refused 11 0)
+    ∷ row (counted (bank (plan 5 5 1) (px 0 0))) (refused 11 0)
+    ∷ row (counted (bank (plan 5 0 0) (px 0 0))) (refused 11 0)
     ∷ row (counted (depth (plan 1 0 1) 4096 4096)) (is (16777216 ∷ []))
-    ∷ row (counted (depth (plan 1 0 1) 4097 1)) (no 12 0)
-    ∷ row (counted (depth (plan 1 0 1) 1 4097)) (no 12 0)
-    ∷ row (counted (depth (plan 1 0 1) 1 0)) (no 12 0)
+    ∷ row (counted (depth (plan 1 0 1) 4097 1)) (refused 12 0)
+    ∷ row (counted (depth (plan 1 0 1) 1 4097)) (refused 12 0)
+    ∷ row (counted (depth (plan 1 0 1) 1 0)) (refused 12 0)
     ∷ []
 
 planLimits-hold : Hold planLimits
@@ -198,13 +199,13 @@ planLimits-hold = refl
 
 -- Plan 6, 4, 2 on 7 by 5 has C = 2 and depth 6; (6,4) has q = 2, r = 0.
 layout : List Row
-unfolding row is no counted located bank depth address locate plan px
+unfolding row is refused counted located bank depth address locate plan px
 layout =
     row (counted (depth (plan 6 4 2) 7 5)) (is (6 ∷ []))
     ∷ row (counted (bank (plan 6 4 2) (px 6 4))) (is (4 ∷ []))
     ∷ row (counted (address (plan 6 4 2) 7 5 (px 6 4))) (is (5 ∷ []))
     ∷ row (located (locate (plan 6 4 2) 7 5 4 5)) (is (6 ∷ 4 ∷ []))
-    ∷ row (located (locate (plan 6 4 2) 7 5 4 6)) (no 15 0)
+    ∷ row (located (locate (plan 6 4 2) 7 5 4 6)) (refused 15 0)
     ∷ row (located (locate (plan 5 2 1) 7 4 0 7)) (is (6 ∷ 3 ∷ []))
     ∷ []
 
@@ -227,10 +228,10 @@ verdicts-hold = refl
 
 -- 64 and 65 pixels.
 blocks : List Row
-unfolding row no writes block
+unfolding row refused writes block
 blocks =
-    row (writes (block 64) []) (no 16 0)
-    ∷ row (writes (block 65) []) (no 2 0)
+    row (writes (block 64) []) (refused 16 0)
+    ∷ row (writes (block 65) []) (refused 2 0)
     ∷ []
 
 blocks-hold : Hold blocks

@@ -48,8 +48,12 @@ WriteAfterRead = (s : List ℕ) → Bytes s → ofOutcome (readBook s .outcome) 
 
 -- a pattern's part of the bytes is taken exactly if the book is and has that pattern, and is the bytes of its pixels
 pub record PartsAre : Type 0 where
-  pub taken : (s : List ℕ) (n : ℕ) → (ofOutcome (partOutcome s n) ≡ value tt) ↔ ((ofOutcome (readBook s .outcome) ≡ value tt) × (n < readBook s .book .count))
-  pub bytes : (s : List ℕ) → Bytes s → (n : ℕ) → ofOutcome (partOutcome s n) ≡ value tt → patternPart s n ≡ flatMap pixelBytes (pixels (patternAt (readBook s .book) n))
+  pub taken :
+      (s : List ℕ) (n : ℕ) → (ofOutcome (partOutcome s n) ≡ value tt)
+      ↔ ((ofOutcome (readBook s .outcome) ≡ value tt) × (n < readBook s .book .count))
+  pub bytes :
+      (s : List ℕ) → Bytes s → (n : ℕ) → ofOutcome (partOutcome s n) ≡ value tt
+      → patternPart s n ≡ flatMap pixelBytes (pixels (patternAt (readBook s .book) n))
   pub empty : (s : List ℕ) (n m i : ℕ) (c : Option Clash) → ofOutcome (partOutcome s n) ≡ refusal m i c → patternPart s n ≡ []
 
 -- two records agree where it counts
@@ -70,8 +74,12 @@ pub record ReaderSetsZero : Type 0 where
   pub columns-64 : (s : List ℕ) (n : ℕ) → n < 16 → length (patternAt (readBook s .book) n .columns) ≡ 64
   pub rows-64 : (s : List ℕ) (n : ℕ) → n < 16 → length (patternAt (readBook s .book) n .rows) ≡ 64
   pub used : (s : List ℕ) (n : ℕ) → readBook s .book .count ≤ n → patternAt (readBook s .book) n .used ≡ 0
-  pub column : (s : List ℕ) (n e : ℕ) → n < 16 → e < 64 → patternAt (readBook s .book) n .used ≤ e → getD (patternAt (readBook s .book) n .columns) e (pos 1) ≡ pos 0
-  pub row : (s : List ℕ) (n e : ℕ) → n < 16 → e < 64 → patternAt (readBook s .book) n .used ≤ e → getD (patternAt (readBook s .book) n .rows) e (pos 1) ≡ pos 0
+  pub column :
+      (s : List ℕ) (n e : ℕ) → n < 16 → e < 64 → patternAt (readBook s .book) n .used ≤ e
+      → getD (patternAt (readBook s .book) n .columns) e (pos 1) ≡ pos 0
+  pub row :
+      (s : List ℕ) (n e : ℕ) → n < 16 → e < 64 → patternAt (readBook s .book) n .used ≤ e
+      → getD (patternAt (readBook s .book) n .rows) e (pos 1) ≡ pos 0
 
 -- The number that decimal digits in ASCII tell.
 unfoldable pub numberIn : ℕ → List ℕ → ℕ
@@ -86,5 +94,10 @@ pub record DecimalMeans : Type 0 where
 
 -- "The program reads a book from standard input and uses limit 1024": a plan's two lines, or the reader's refusal
 pub record ProgramWrites : Type 0 where
-  pub plan-lines : (s : List ℕ) (p : Plan) → ofOutcome (readBook s .outcome) ≡ value tt → ofPlanned (find (readBook s .book) 1024) ≡ value p → programText s ≡ ascii "banks " ++ decimal (banks p) ++ ascii "\nplan " ++ decimal (p .a) ++ ascii " " ++ decimal (p .b) ++ ascii " " ++ decimal (p .d) ++ ascii "\n"
-  pub refused-line : (s : List ℕ) (n i : ℕ) (c : Option Clash) → ofOutcome (readBook s .outcome) ≡ refusal n i c → programText s ≡ ascii "refused " ++ decimal n ++ ascii "\n"
+  pub plan-lines :
+      (s : List ℕ) (p : Plan) → ofOutcome (readBook s .outcome) ≡ value tt
+      → ofPlanned (find (readBook s .book) 1024) ≡ value p
+      → programText s ≡ ascii "banks " ++ decimal (banks p) ++ ascii "\nplan " ++ decimal (p .a) ++ ascii " " ++ decimal (p .b) ++ ascii " " ++ decimal (p .d) ++ ascii "\n"
+  pub refused-line :
+      (s : List ℕ) (n i : ℕ) (c : Option Clash) → ofOutcome (readBook s .outcome) ≡ refusal n i c
+      → programText s ≡ ascii "refused " ++ decimal n ++ ascii "\n"

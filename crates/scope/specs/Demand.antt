@@ -101,8 +101,13 @@ abbrev pub Untouched : Setting → ℕ → Pixel → List Call → Type 0
 Untouched g words v later = (c : Call) → List·Memᴰ c later → Touches g words v c → ⊥
 
 pub record LastStoredMeans : Type 0 where
-  pub latest : (g : Setting) (words : ℕ) (v : Pixel) (past later : List Call) (x : ℕ) → test g words (store v x) ≡ none → Untouched g words v later → lastStored g words (past ++ (store v x ∷ later)) v ≡ x
-  pub cleared-since : (g : Setting) (words : ℕ) (v : Pixel) (past later : List Call) (k : ℕ) → test g words (clear k) ≡ none → k ≡ bankOf (g .plan) v → Untouched g words v later → lastStored g words (past ++ (clear k ∷ later)) v ≡ 0
+  pub latest :
+      (g : Setting) (words : ℕ) (v : Pixel) (past later : List Call) (x : ℕ) → test g words (store v x) ≡ none
+      → Untouched g words v later → lastStored g words (past ++ (store v x ∷ later)) v ≡ x
+  pub cleared-since :
+      (g : Setting) (words : ℕ) (v : Pixel) (past later : List Call) (k : ℕ) → test g words (clear k) ≡ none
+      → k ≡ bankOf (g .plan) v → Untouched g words v later
+      → lastStored g words (past ++ (clear k ∷ later)) v ≡ 0
   pub never : (g : Setting) (words : ℕ) (v : Pixel) (calls : List Call) → Untouched g words v calls → lastStored g words calls v ≡ 0
 
 -- What call c is to give after the calls `past`: the refusal that the conditions tell, or what it is for, with the words last stored.
@@ -157,7 +162,10 @@ pub record ListHolds (g : Setting) (mem : List ℕ) (calls : List Call) : Type 0
   -- "After the list the word last stored at each pixel of the picture stands at its bank and address"
   pub words : (v : Pixel) → Inside (g .W) (g .H) v → wordIn (g .plan) (g .W) (g .H) (run g mem calls) v ≡ lastStored g (length mem) calls v
   -- "every other word of the first N × depth is 0"
-  pub others : (i : ℕ) → i < pictureWords g → ((v : Pixel) → Inside (g .W) (g .H) v → wordOf (g .plan) (g .W) (g .H) v ≡ i → ⊥) → getD (run g mem calls) i 0 ≡ 0
+  pub others :
+      (i : ℕ) → i < pictureWords g
+      → ((v : Pixel) → Inside (g .W) (g .H) v → wordOf (g .plan) (g .W) (g .H) v ≡ i → ⊥)
+      → getD (run g mem calls) i 0 ≡ 0
   -- "and the rest is as at the start"
   pub rest : drop (pictureWords g) (run g mem calls) ≡ drop (pictureWords g) mem
   pub as-long : length (run g mem calls) ≡ length mem

@@ -1,4 +1,5 @@
 -- What the tests of the definitions mean, in plain numbers, and that a legal call is never refused. Statements to be proved.
+-- A small letter is a test that computes, as `isPlan`, a capital what it means, as `IsPlan`.
 -- Assumes nothing.
 use Prim.Native.Nat.{ℕ, _+_, _*_, _≤_, _<_}
 use mathlib.Core.Path.{_≡_}
@@ -97,7 +98,9 @@ pub record TestsMean : Type 0 where
   pub limit-6 : (limit : ℕ) → (limitTest limit ≡ none) ↔ ((1 ≤ limit) × (limit ≤ 1024))
   pub dependent-8 : (x y : Pixel) → (dependentTest x y ≡ none) ↔ Independent x y
   pub large-9 : (x y : Pixel) → (largeTest x y ≡ none) ↔ (determinantSize x y ≤ 1024)
-  pub suits-10 : (book : Book) (p : Plan) (n : ℕ) → IsBook book → IsPlan p → n < book .count → (suitsTest p book n ≡ none) ↔ (suits p (pixels (patternAt book n)) ≡ true)
+  pub suits-10 :
+      (book : Book) (p : Plan) (n : ℕ) → IsBook book → IsPlan p → n < book .count → (suitsTest p book n ≡ none)
+      ↔ (suits p (pixels (patternAt book n)) ≡ true)
   pub plan-11 : (p : Plan) → (planTest p ≡ none) ↔ IsPlan p
   pub sides-12 : (W H : ℕ) → (sidesTest W H ≡ none) ↔ (IsSide W × IsSide H)
   pub memory-13 : (p : Plan) (W H words : ℕ) → (memoryTest p W H words ≡ none) ↔ (banks p * depthOf p W H ≤ words)
@@ -110,8 +113,12 @@ pub record TestsMean : Type 0 where
 
 -- A legal call is never refused: plans and the writer. (The finder's, the check's and the picture's calls: PlanPromises, PicturePromises.)
 pub record LegalCallsAnswer : Type 0 where
-  pub write : (book : Book) (out : List ℕ) → IsBook book → length (bookBytes book) ≤ length out → ofCounted (writeBook book out .answer) ≡ value (length (bookBytes book))
+  pub write :
+      (book : Book) (out : List ℕ) → IsBook book → length (bookBytes book) ≤ length out
+      → ofCounted (writeBook book out .answer) ≡ value (length (bookBytes book))
   pub normal-form : (x y : Pixel) → Independent x y → determinantSize x y ≤ 1024 → ofPlanned (normal x y) ≡ value (normalForm x y)
   pub bank-is : (p : Plan) (v : Pixel) → IsPlan p → ofCounted (bank p v) ≡ value (bankOf p v)
   pub depth-is : (p : Plan) (W H : ℕ) → IsPlan p → IsSide W → IsSide H → ofCounted (depth p W H) ≡ value (depthOf p W H)
-  pub address-is : (p : Plan) (W H : ℕ) (v : Pixel) → IsPlan p → IsSide W → IsSide H → Inside W H v → ofCounted (address p W H v) ≡ value (addressOf p W H v)
+  pub address-is :
+      (p : Plan) (W H : ℕ) (v : Pixel) → IsPlan p → IsSide W → IsSide H → Inside W H v
+      → ofCounted (address p W H v) ≡ value (addressOf p W H v)

@@ -11,7 +11,7 @@ use Rattle.scope.specs.Books.{bookOf}
 use Rattle.scope.specs.Numbers.{Answer}
 use Rattle.scope.specs.Calls.{bank, depth, address, locate, store, load, clear, sum, fetch, ringFetch, fillRecords}
 use Rattle.scope.specs.Demand as Demand
-use Rattle.scope.specs.Rows.{Row, Hold, row, is, no, clashes, counted, loaded, located, done, records, neg, px, one, two, finds, checks}
+use Rattle.scope.specs.Rows.{Row, Hold, row, is, refused, clashes, counted, loaded, located, done, records, neg, px, one, two, finds, checks}
 use Rattle.scope.specs.declared.Plan.{Plan}
 use Rattle.scope.specs.declared.Book.{Book}
 use Rattle.scope.specs.declared.PixelRecord.{PixelRecord}
@@ -58,7 +58,7 @@ calls =
 
 -- Store, load, clear and sum.
 storing : List Row
-unfolding row is no done counted loaded store load clear sum plan px upTo
+unfolding row is refused done counted loaded store load clear sum plan px upTo
 storing =
     row (is (store (plan 2 0 1) 2 2 (upTo 5) (px 1 0) 9 .content)) (is (1 ∷ 2 ∷ 9 ∷ 4 ∷ 5 ∷ []))
     ∷ row (done (store (plan 2 0 1) 2 2 (upTo 5) (px 1 0) 9 .answer)) (is [])
@@ -66,7 +66,7 @@ storing =
     ∷ row (loaded (load (plan 2 0 1) 2 2 (upTo 4) (px 1 0))) (is (3 ∷ []))
     ∷ row (is (clear (plan 2 0 1) 2 2 (upTo 5) 1 .content)) (is (1 ∷ 2 ∷ 0 ∷ 0 ∷ 5 ∷ []))
     ∷ row (is (clear (plan 2 0 1) 2 2 (upTo 5) 2 .content)) (is (1 ∷ 2 ∷ 3 ∷ 4 ∷ 5 ∷ []))
-    ∷ row (done (clear (plan 2 0 1) 2 2 (upTo 5) 2 .answer)) (no 15 0)
+    ∷ row (done (clear (plan 2 0 1) 2 2 (upTo 5) 2 .answer)) (refused 15 0)
     ∷ row (counted (sum (plan 2 0 1) 2 2 (upTo 5) 1)) (is (7 ∷ []))
     ∷ row (counted (sum (plan 1 0 1) 3 1 (upTo 4) 0)) (is (6 ∷ []))
     ∷ []
@@ -94,14 +94,14 @@ fetching-hold : Hold fetching
 unfolding fetching
 fetching-hold = refl
 
--- Ring fetch: past the left and lower edge, W and H that differ, one side no multiple.
+-- Ring fetch: past the edges on either side, W and H that differ, one side no multiple.
 ringFetching : List Row
-unfolding row is no plan two px at neg ringFetched ringAnswer
+unfolding row is refused plan two px at neg ringFetched ringAnswer
 ringFetching =
     row (ringFetched (two ∷ []) (plan 2 0 1) 2 2 4 0 (at (neg 1) (neg 1)) (8 ∷ 8 ∷ 8 ∷ [])) (is (4 ∷ 2 ∷ 8 ∷ []))
     ∷ row (ringFetched (two ∷ []) (plan 2 0 1) 2 4 8 0 (px 1 6) (8 ∷ 8 ∷ [])) (is (7 ∷ 3 ∷ []))
     ∷ row (ringAnswer (two ∷ []) (plan 2 0 1) 2 4 8 0 (px 1 6) (8 ∷ 8 ∷ [])) (is (2 ∷ []))
-    ∷ row (ringAnswer (two ∷ []) (plan 2 0 1) 2 3 8 0 (px 0 0) (8 ∷ 8 ∷ [])) (no 18 0)
+    ∷ row (ringAnswer (two ∷ []) (plan 2 0 1) 2 3 8 0 (px 0 0) (8 ∷ 8 ∷ [])) (refused 18 0)
     ∷ row (ringFetched (two ∷ []) (plan 2 0 1) 2 3 8 0 (px 0 0) (8 ∷ 8 ∷ [])) (is (8 ∷ 8 ∷ []))
     ∷ []
 
@@ -111,11 +111,11 @@ ringFetching-hold = refl
 
 -- The record list: filled whole, or not at all.
 filling : List Row
-unfolding row is no done records fillRecords plan recordAt
+unfolding row is refused done records fillRecords plan recordAt
 filling =
     row (records (fillRecords (plan 5 2 1) 7 4 (recordAt 6 3 ∷ recordAt 1 0 ∷ recordAt 5 1 ∷ []) .content)) (is (6 ∷ 3 ∷ 0 ∷ 7 ∷ 1 ∷ 0 ∷ 1 ∷ 0 ∷ 5 ∷ 1 ∷ 3 ∷ 3 ∷ []))
     ∷ row (records (fillRecords (plan 5 2 1) 7 4 (recordAt 6 3 ∷ recordAt 7 3 ∷ []) .content)) (is (6 ∷ 3 ∷ 3 ∷ 9 ∷ 7 ∷ 3 ∷ 3 ∷ 9 ∷ []))
-    ∷ row (done (fillRecords (plan 5 2 1) 7 4 (recordAt 6 3 ∷ recordAt 7 3 ∷ []) .answer)) (no 14 0)
+    ∷ row (done (fillRecords (plan 5 2 1) 7 4 (recordAt 6 3 ∷ recordAt 7 3 ∷ []) .answer)) (refused 14 0)
     ∷ []
 
 filling-hold : Hold filling
@@ -136,27 +136,27 @@ lists-hold = refl
 
 -- Two conditions at once: the one that document 01 tests first is told. 5000 is no side, and needs more memory than there is.
 orders : List Row
-unfolding row no finds checks done counted loaded located depth address locate load clear fillRecords plan px upTo recordAt store sum
+unfolding row refused finds checks done counted loaded located depth address locate load clear fillRecords plan px upTo recordAt store sum
 orders =
-    row (counted (depth (plan 0 0 1) 0 0)) (no 11 0)
-    ∷ row (counted (address (plan 0 0 1) 0 0 (px 0 0))) (no 11 0)
-    ∷ row (counted (address (plan 5 2 1) 0 4 (px 9 9))) (no 12 0)
-    ∷ row (located (locate (plan 0 0 1) 0 0 0 0)) (no 11 0)
-    ∷ row (located (locate (plan 5 2 1) 0 4 9 9)) (no 12 0)
-    ∷ row (loaded (load (plan 0 0 1) 0 0 [] (px 0 0))) (no 11 0)
-    ∷ row (loaded (load (plan 1 0 1) 5000 1 [] (px 0 0))) (no 12 0)
-    ∷ row (loaded (load (plan 2 0 1) 2 2 (upTo 3) (px 2 0))) (no 13 0)
-    ∷ row (done (clear (plan 0 0 1) 0 0 [] 9 .answer)) (no 11 0)
-    ∷ row (done (clear (plan 1 0 1) 5000 1 [] 9 .answer)) (no 12 0)
-    ∷ row (done (clear (plan 2 0 1) 2 2 (upTo 3) 2 .answer)) (no 13 0)
-    ∷ row (done (fillRecords (plan 0 0 1) 0 0 (recordAt 9 9 ∷ []) .answer)) (no 11 0)
-    ∷ row (done (fillRecords (plan 5 2 1) 0 4 (recordAt 9 9 ∷ []) .answer)) (no 12 0)
-    ∷ row (done (store (plan 0 0 1) 0 0 [] (px 0 0) 9 .answer)) (no 11 0)
-    ∷ row (done (store (plan 1 0 1) 5000 1 [] (px 0 0) 9 .answer)) (no 12 0)
-    ∷ row (done (store (plan 2 0 1) 2 2 (upTo 3) (px 9 9) 9 .answer)) (no 13 0)
-    ∷ row (counted (sum (plan 0 0 1) 0 0 [] 9)) (no 11 0)
-    ∷ row (counted (sum (plan 1 0 1) 5000 1 [] 9)) (no 12 0)
-    ∷ row (counted (sum (plan 2 0 1) 2 2 (upTo 3) 2)) (no 13 0)
+    row (counted (depth (plan 0 0 1) 0 0)) (refused 11 0)
+    ∷ row (counted (address (plan 0 0 1) 0 0 (px 0 0))) (refused 11 0)
+    ∷ row (counted (address (plan 5 2 1) 0 4 (px 9 9))) (refused 12 0)
+    ∷ row (located (locate (plan 0 0 1) 0 0 0 0)) (refused 11 0)
+    ∷ row (located (locate (plan 5 2 1) 0 4 9 9)) (refused 12 0)
+    ∷ row (loaded (load (plan 0 0 1) 0 0 [] (px 0 0))) (refused 11 0)
+    ∷ row (loaded (load (plan 1 0 1) 5000 1 [] (px 0 0))) (refused 12 0)
+    ∷ row (loaded (load (plan 2 0 1) 2 2 (upTo 3) (px 2 0))) (refused 13 0)
+    ∷ row (done (clear (plan 0 0 1) 0 0 [] 9 .answer)) (refused 11 0)
+    ∷ row (done (clear (plan 1 0 1) 5000 1 [] 9 .answer)) (refused 12 0)
+    ∷ row (done (clear (plan 2 0 1) 2 2 (upTo 3) 2 .answer)) (refused 13 0)
+    ∷ row (done (fillRecords (plan 0 0 1) 0 0 (recordAt 9 9 ∷ []) .answer)) (refused 11 0)
+    ∷ row (done (fillRecords (plan 5 2 1) 0 4 (recordAt 9 9 ∷ []) .answer)) (refused 12 0)
+    ∷ row (done (store (plan 0 0 1) 0 0 [] (px 0 0) 9 .answer)) (refused 11 0)
+    ∷ row (done (store (plan 1 0 1) 5000 1 [] (px 0 0) 9 .answer)) (refused 12 0)
+    ∷ row (done (store (plan 2 0 1) 2 2 (upTo 3) (px 9 9) 9 .answer)) (refused 13 0)
+    ∷ row (counted (sum (plan 0 0 1) 0 0 [] 9)) (refused 11 0)
+    ∷ row (counted (sum (plan 1 0 1) 5000 1 [] 9)) (refused 12 0)
+    ∷ row (counted (sum (plan 2 0 1) 2 2 (upTo 3) 2)) (refused 13 0)
     ∷ []
 
 orders-hold : Hold orders
@@ -165,18 +165,18 @@ orders-hold = refl
 
 -- The same for a fetch.
 fetchOrders : List Row
-unfolding row no clashes plan one two px fetchAnswer fetch unusedTwo counted
+unfolding row refused clashes plan one two px fetchAnswer fetch unusedTwo counted
 fetchOrders =
-    row (fetchAnswer [] (plan 0 0 1) 0 0 0 0 (px 0 0) []) (no 2 0)
-    ∷ row (fetchAnswer (one ∷ []) (plan 0 0 1) 0 0 0 0 (px 0 0) []) (no 11 0)
-    ∷ row (fetchAnswer (one ∷ []) (plan 1 0 1) 5000 1 0 0 (px 0 0) []) (no 12 0)
-    ∷ row (fetchAnswer (one ∷ []) (plan 2 0 1) 2 2 3 1 (px 0 0) []) (no 13 0)
+    row (fetchAnswer [] (plan 0 0 1) 0 0 0 0 (px 0 0) []) (refused 2 0)
+    ∷ row (fetchAnswer (one ∷ []) (plan 0 0 1) 0 0 0 0 (px 0 0) []) (refused 11 0)
+    ∷ row (fetchAnswer (one ∷ []) (plan 1 0 1) 5000 1 0 0 (px 0 0) []) (refused 12 0)
+    ∷ row (fetchAnswer (one ∷ []) (plan 2 0 1) 2 2 3 1 (px 0 0) []) (refused 13 0)
     ∷ row (fetchAnswer (two ∷ []) (plan 1 0 1) 2 2 4 0 (px 9 9) []) (clashes 0 0 1)
-    ∷ row (fetchAnswer (two ∷ []) (plan 2 0 1) 2 2 4 0 (px 1 1) []) (no 14 0)
-    ∷ row (fetchAnswer (two ∷ []) (plan 1 1 1) 2 2 4 0 (px 9 9) []) (no 11 0)
-    ∷ row (fetchAnswer (two ∷ []) (plan 1 0 1) 0 1 0 0 (px 0 0) []) (no 12 0)
-    ∷ row (fetchAnswer (two ∷ []) (plan 1 0 1) 2 2 3 0 (px 9 9) []) (no 13 0)
-    ∷ row (counted (fetch unusedTwo (plan 1 0 1) 2 2 (upTo 4) 1 (px 9 9) [] .answer)) (no 17 0)
+    ∷ row (fetchAnswer (two ∷ []) (plan 2 0 1) 2 2 4 0 (px 1 1) []) (refused 14 0)
+    ∷ row (fetchAnswer (two ∷ []) (plan 1 1 1) 2 2 4 0 (px 9 9) []) (refused 11 0)
+    ∷ row (fetchAnswer (two ∷ []) (plan 1 0 1) 0 1 0 0 (px 0 0) []) (refused 12 0)
+    ∷ row (fetchAnswer (two ∷ []) (plan 1 0 1) 2 2 3 0 (px 9 9) []) (refused 13 0)
+    ∷ row (counted (fetch unusedTwo (plan 1 0 1) 2 2 (upTo 4) 1 (px 9 9) [] .answer)) (refused 17 0)
     ∷ []
 
 fetchOrders-hold : Hold fetchOrders
@@ -185,21 +185,21 @@ fetchOrders-hold = refl
 
 -- And for a ring fetch.
 ringOrders : List Row
-unfolding row no clashes plan one two px ringAnswer ringFetch unusedTwo counted
+unfolding row refused clashes plan one two px ringAnswer ringFetch unusedTwo counted
 ringOrders =
-    row (ringAnswer [] (plan 0 0 1) 0 0 0 0 (px 0 0) []) (no 2 0)
-    ∷ row (ringAnswer (one ∷ []) (plan 0 0 1) 0 0 0 0 (px 0 0) []) (no 11 0)
-    ∷ row (ringAnswer (one ∷ []) (plan 1 0 1) 5000 1 0 0 (px 0 0) []) (no 12 0)
-    ∷ row (ringAnswer (one ∷ []) (plan 2 0 1) 2 2 3 1 (px 0 0) []) (no 13 0)
+    row (ringAnswer [] (plan 0 0 1) 0 0 0 0 (px 0 0) []) (refused 2 0)
+    ∷ row (ringAnswer (one ∷ []) (plan 0 0 1) 0 0 0 0 (px 0 0) []) (refused 11 0)
+    ∷ row (ringAnswer (one ∷ []) (plan 1 0 1) 5000 1 0 0 (px 0 0) []) (refused 12 0)
+    ∷ row (ringAnswer (one ∷ []) (plan 2 0 1) 2 2 3 1 (px 0 0) []) (refused 13 0)
     ∷ row (ringAnswer ((px 0 0 ∷ px 2 0 ∷ []) ∷ []) (plan 2 0 1) 3 2 9 0 (px 0 0) []) (clashes 0 0 1)
-    ∷ row (ringAnswer (two ∷ []) (plan 2 0 1) 3 2 9 0 (px 0 0) []) (no 18 0)
-    ∷ row (ringAnswer (two ∷ []) (plan 1 1 1) 2 2 4 0 (px 0 0) []) (no 11 0)
-    ∷ row (ringAnswer (two ∷ []) (plan 1 0 1) 0 1 0 0 (px 0 0) []) (no 12 0)
-    ∷ row (ringAnswer (one ∷ []) (plan 2 0 1) 4097 1 0 0 (px 0 0) []) (no 12 0)
-    ∷ row (ringAnswer (two ∷ []) (plan 1 0 1) 2 2 3 0 (px 0 0) []) (no 13 0)
-    ∷ row (ringAnswer (one ∷ []) (plan 2 0 1) 3 2 0 0 (px 0 0) []) (no 13 0)
-    ∷ row (counted (ringFetch unusedTwo (plan 1 0 1) 2 2 (upTo 4) 1 (px 0 0) [] .answer)) (no 17 0)
-    ∷ row (counted (ringFetch unusedTwo (plan 2 0 1) 3 2 (upTo 9) 1 (px 0 0) [] .answer)) (no 17 0)
+    ∷ row (ringAnswer (two ∷ []) (plan 2 0 1) 3 2 9 0 (px 0 0) []) (refused 18 0)
+    ∷ row (ringAnswer (two ∷ []) (plan 1 1 1) 2 2 4 0 (px 0 0) []) (refused 11 0)
+    ∷ row (ringAnswer (two ∷ []) (plan 1 0 1) 0 1 0 0 (px 0 0) []) (refused 12 0)
+    ∷ row (ringAnswer (one ∷ []) (plan 2 0 1) 4097 1 0 0 (px 0 0) []) (refused 12 0)
+    ∷ row (ringAnswer (two ∷ []) (plan 1 0 1) 2 2 3 0 (px 0 0) []) (refused 13 0)
+    ∷ row (ringAnswer (one ∷ []) (plan 2 0 1) 3 2 0 0 (px 0 0) []) (refused 13 0)
+    ∷ row (counted (ringFetch unusedTwo (plan 1 0 1) 2 2 (upTo 4) 1 (px 0 0) [] .answer)) (refused 17 0)
+    ∷ row (counted (ringFetch unusedTwo (plan 2 0 1) 3 2 (upTo 9) 1 (px 0 0) [] .answer)) (refused 17 0)
     ∷ []
 
 ringOrders-hold : Hold ringOrders

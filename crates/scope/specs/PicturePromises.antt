@@ -49,7 +49,9 @@ pub record ReverseOf (p : Plan) (W H : ℕ) : Type 0 where
   -- and the other way round: what it gives is a pixel of the picture with that bank and address
   pub given : (k i : ℕ) (v : Pixel) → ofLocated (locate p W H k i) ≡ value v → Inside W H v × (bankOf p v ≡ k) × (addressOf p W H v ≡ i)
   -- 15 exactly where no pixel of the picture has that bank and address
-  pub refused : (k i : ℕ) → (ofLocated (locate p W H k i) ≡ refusal 15 0 none) ↔ ((v : Pixel) → Inside W H v → bankOf p v ≡ k → addressOf p W H v ≡ i → ⊥)
+  pub refused :
+      (k i : ℕ) → (ofLocated (locate p W H k i) ≡ refusal 15 0 none)
+      ↔ ((v : Pixel) → Inside W H v → bankOf p v ≡ k → addressOf p W H v ≡ i → ⊥)
 
 abbrev pub ReverseMap : Type 0
 ReverseMap = (p : Plan) (W H : ℕ) → IsPlan p → IsSide W → IsSide H → ReverseOf p W H
@@ -110,26 +112,60 @@ pub record FilledAll (p : Plan) (W H : ℕ) (rs : List PixelRecord) (r : Result 
 
 -- A legal call on a picture is never refused and gives what document 01 says, "under every plan, ours or a supplier's".
 pub record PictureCalls : Type 0 where
-  pub stores : (p : Plan) (W H : ℕ) (mem : List ℕ) (v : Pixel) (x : ℕ) → IsPicture p W H (length mem) → Inside W H v → StoredOne p W H mem v x (store p W H mem v x)
-  pub loads : (p : Plan) (W H : ℕ) (mem : List ℕ) (v : Pixel) → IsPicture p W H (length mem) → Inside W H v → ofLoaded (load p W H mem v) ≡ value (wordAt p W H mem v)
+  pub stores :
+      (p : Plan) (W H : ℕ) (mem : List ℕ) (v : Pixel) (x : ℕ) → IsPicture p W H (length mem) → Inside W H v
+      → StoredOne p W H mem v x (store p W H mem v x)
+  pub loads :
+      (p : Plan) (W H : ℕ) (mem : List ℕ) (v : Pixel) → IsPicture p W H (length mem) → Inside W H v
+      → ofLoaded (load p W H mem v) ≡ value (wordAt p W H mem v)
   pub clears : (p : Plan) (W H : ℕ) (mem : List ℕ) (k : ℕ) → IsPicture p W H (length mem) → k < banks p → ClearedOne p W H mem k (clear p W H mem k)
-  pub sums : (p : Plan) (W H : ℕ) (mem : List ℕ) (k : ℕ) → IsPicture p W H (length mem) → k < banks p → ofCounted (sum p W H mem k) ≡ value (totalBelow (depthOf p W H) λ i. getD mem (k * depthOf p W H + i) 0)
+  pub sums :
+      (p : Plan) (W H : ℕ) (mem : List ℕ) (k : ℕ) → IsPicture p W H (length mem) → k < banks p
+      → ofCounted (sum p W H mem k) ≡ value (totalBelow (depthOf p W H) λ i. getD mem (k * depthOf p W H + i) 0)
   -- "in 64 bits": the words have 16
-  pub sum-fits : (p : Plan) (W H : ℕ) (mem : List ℕ) (k n : ℕ) → ((i : ℕ) → getD mem i 0 < 65536) → ofCounted (sum p W H mem k) ≡ value n → n < 0x1_0000_0000_0000_0000
-  pub fetches : (book : Book) (p : Plan) (W H : ℕ) (mem : List ℕ) (n : ℕ) (o : Pixel) (out : List ℕ) → LegalFetch book p W H (length mem) n → AllInside W H (moved book n o) → patternAt book n .used ≤ length out → FetchedAll p W H mem (moved book n o) out (fetch book p W H mem n o out)
-  pub ring-fetches : (book : Book) (p : Plan) (W H : ℕ) (mem : List ℕ) (n : ℕ) (o : Pixel) (out : List ℕ) → LegalFetch book p W H (length mem) n → Multiple (banks p) W → Multiple (banks p) H → patternAt book n .used ≤ length out → FetchedAll p W H mem (ringMoved book W H n o) out (ringFetch book p W H mem n o out)
-  pub fills : (p : Plan) (W H : ℕ) (rs : List PixelRecord) → IsPlan p → IsSide W → IsSide H → AllInside W H (map recordPixel rs) → FilledAll p W H rs (fillRecords p W H rs)
+  pub sum-fits :
+      (p : Plan) (W H : ℕ) (mem : List ℕ) (k n : ℕ) → ((i : ℕ) → getD mem i 0 < 65536)
+      → ofCounted (sum p W H mem k) ≡ value n → n < 0x1_0000_0000_0000_0000
+  pub fetches :
+      (book : Book) (p : Plan) (W H : ℕ) (mem : List ℕ) (n : ℕ) (o : Pixel) (out : List ℕ)
+      → LegalFetch book p W H (length mem) n → AllInside W H (moved book n o)
+      → patternAt book n .used ≤ length out
+      → FetchedAll p W H mem (moved book n o) out (fetch book p W H mem n o out)
+  pub ring-fetches :
+      (book : Book) (p : Plan) (W H : ℕ) (mem : List ℕ) (n : ℕ) (o : Pixel) (out : List ℕ)
+      → LegalFetch book p W H (length mem) n → Multiple (banks p) W → Multiple (banks p) H
+      → patternAt book n .used ≤ length out
+      → FetchedAll p W H mem (ringMoved book W H n o) out (ringFetch book p W H mem n o out)
+  pub fills :
+      (p : Plan) (W H : ℕ) (rs : List PixelRecord) → IsPlan p → IsSide W → IsSide H
+      → AllInside W H (map recordPixel rs) → FilledAll p W H rs (fillRecords p W H rs)
 
 -- "buffers and lists stay unchanged" on a refusal, n, i and c being its number, place and clash
 pub record RefusalsChangeNothing : Type 0 where
-  pub writes : (book : Book) (out : List ℕ) (n i : ℕ) (c : Option Clash) → ofCounted (writeBook book out .answer) ≡ refusal n i c → writeBook book out .content ≡ out
-  pub stores : (p : Plan) (W H : ℕ) (mem : List ℕ) (v : Pixel) (x n i : ℕ) (c : Option Clash) → ofOutcome (store p W H mem v x .answer) ≡ refusal n i c → store p W H mem v x .content ≡ mem
-  pub clears : (p : Plan) (W H : ℕ) (mem : List ℕ) (k n i : ℕ) (c : Option Clash) → ofOutcome (clear p W H mem k .answer) ≡ refusal n i c → clear p W H mem k .content ≡ mem
-  pub fetches : (book : Book) (p : Plan) (W H : ℕ) (mem : List ℕ) (m : ℕ) (o : Pixel) (out : List ℕ) (n i : ℕ) (c : Option Clash) → ofCounted (fetch book p W H mem m o out .answer) ≡ refusal n i c → fetch book p W H mem m o out .content ≡ out
-  pub ring-fetches : (book : Book) (p : Plan) (W H : ℕ) (mem : List ℕ) (m : ℕ) (o : Pixel) (out : List ℕ) (n i : ℕ) (c : Option Clash) → ofCounted (ringFetch book p W H mem m o out .answer) ≡ refusal n i c → ringFetch book p W H mem m o out .content ≡ out
-  pub fills : (p : Plan) (W H : ℕ) (rs : List PixelRecord) (n i : ℕ) (c : Option Clash) → ofOutcome (fillRecords p W H rs .answer) ≡ refusal n i c → fillRecords p W H rs .content ≡ rs
+  pub writes :
+      (book : Book) (out : List ℕ) (n i : ℕ) (c : Option Clash)
+      → ofCounted (writeBook book out .answer) ≡ refusal n i c → writeBook book out .content ≡ out
+  pub stores :
+      (p : Plan) (W H : ℕ) (mem : List ℕ) (v : Pixel) (x n i : ℕ) (c : Option Clash)
+      → ofOutcome (store p W H mem v x .answer) ≡ refusal n i c → store p W H mem v x .content ≡ mem
+  pub clears :
+      (p : Plan) (W H : ℕ) (mem : List ℕ) (k n i : ℕ) (c : Option Clash)
+      → ofOutcome (clear p W H mem k .answer) ≡ refusal n i c → clear p W H mem k .content ≡ mem
+  pub fetches :
+      (book : Book) (p : Plan) (W H : ℕ) (mem : List ℕ) (m : ℕ) (o : Pixel) (out : List ℕ) (n i : ℕ) (c : Option Clash)
+      → ofCounted (fetch book p W H mem m o out .answer) ≡ refusal n i c
+      → fetch book p W H mem m o out .content ≡ out
+  pub ring-fetches :
+      (book : Book) (p : Plan) (W H : ℕ) (mem : List ℕ) (m : ℕ) (o : Pixel) (out : List ℕ) (n i : ℕ) (c : Option Clash)
+      → ofCounted (ringFetch book p W H mem m o out .answer) ≡ refusal n i c
+      → ringFetch book p W H mem m o out .content ≡ out
+  pub fills :
+      (p : Plan) (W H : ℕ) (rs : List PixelRecord) (n i : ℕ) (c : Option Clash)
+      → ofOutcome (fillRecords p W H rs .answer) ≡ refusal n i c → fillRecords p W H rs .content ≡ rs
 
 -- Document 000, Theorem 2.6, for both sides: where W and H are multiples of N, wrapping keeps the bank, and lands inside
 pub record RingKeepsBanks : Type 0 where
-  pub same-bank : (p : Plan) (W H : ℕ) → IsPlan p → 1 ≤ W → 1 ≤ H → Multiple (banks p) W → Multiple (banks p) H → (v : Pixel) → bankOf p (wrapped W H v) ≡ bankOf p v
+  pub same-bank :
+      (p : Plan) (W H : ℕ) → IsPlan p → 1 ≤ W → 1 ≤ H → Multiple (banks p) W → Multiple (banks p) H
+      → (v : Pixel) → bankOf p (wrapped W H v) ≡ bankOf p v
   pub lands : (W H : ℕ) → 1 ≤ W → 1 ≤ H → (v : Pixel) → Inside W H (wrapped W H v)

@@ -123,9 +123,17 @@ pub record FirstClashIn (book : Book) (p : Plan) (c : Clash) : Type 0 where
 -- "The clash names the lowest pattern number that has one": the check's 10, and a fetch's 10 for its own pattern
 pub record ClashIsFirst : Type 0 where
   pub in-pattern : (book : Book) (x y : Pixel) (c : Clash) → ofVerdict (check book x y) ≡ refusal 10 0 (some c) → FirstClashIn book (normalForm x y) c
-  pub lowest : (book : Book) (x y : Pixel) (c : Clash) → ofVerdict (check book x y) ≡ refusal 10 0 (some c) → (n e l : ℕ) → Meets book (normalForm x y) n e l → c .pattern ≤ n
-  pub of-fetch : (book : Book) (p : Plan) (W H : ℕ) (mem : List ℕ) (n : ℕ) (o : Pixel) (out : List ℕ) (c : Clash) → ofCounted (fetch book p W H mem n o out .answer) ≡ refusal 10 0 (some c) → FirstClashIn book p c × (c .pattern ≡ n)
-  pub of-ring-fetch : (book : Book) (p : Plan) (W H : ℕ) (mem : List ℕ) (n : ℕ) (o : Pixel) (out : List ℕ) (c : Clash) → ofCounted (ringFetch book p W H mem n o out .answer) ≡ refusal 10 0 (some c) → FirstClashIn book p c × (c .pattern ≡ n)
+  pub lowest :
+      (book : Book) (x y : Pixel) (c : Clash) → ofVerdict (check book x y) ≡ refusal 10 0 (some c) → (n e l : ℕ)
+      → Meets book (normalForm x y) n e l → c .pattern ≤ n
+  pub of-fetch :
+      (book : Book) (p : Plan) (W H : ℕ) (mem : List ℕ) (n : ℕ) (o : Pixel) (out : List ℕ) (c : Clash)
+      → ofCounted (fetch book p W H mem n o out .answer) ≡ refusal 10 0 (some c)
+      → FirstClashIn book p c × (c .pattern ≡ n)
+  pub of-ring-fetch :
+      (book : Book) (p : Plan) (W H : ℕ) (mem : List ℕ) (n : ℕ) (o : Pixel) (out : List ℕ) (c : Clash)
+      → ofCounted (ringFetch book p W H mem n o out .answer) ≡ refusal 10 0 (some c)
+      → FirstClashIn book p c × (c .pattern ≡ n)
 
 -- Legal vectors get the surplus if their normal form suits, and 10 with a clash if it does not, and nothing else.
 abbrev pub CheckDecides : Type 0

@@ -34,8 +34,8 @@ Hold rows = map (λ r. r .computed) rows ≡ map (λ r. r .stated) rows
 unfoldable pub is : List ℕ → Answer (List ℤ)
 is xs = value (map pos xs)
 
-unfoldable pub no : ℕ → ℕ → Answer (List ℤ)
-no n i = refusal n i none
+unfoldable pub refused : ℕ → ℕ → Answer (List ℤ)
+refused n i = refusal n i none
 
 unfoldable pub clashes : ℕ → ℕ → ℕ → Answer (List ℤ)
 clashes n e l = refusal 10 0 (some (record { pattern = n; earlier = e; later = l }))
