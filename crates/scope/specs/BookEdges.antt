@@ -11,9 +11,9 @@ use Rattle.scope.specs.Plans.{Pixel, at, plan, patternAt}
 use Rattle.scope.specs.Finding.{boxWidth, boxHeight}
 use Rattle.scope.specs.Books.{bookOf}
 use Rattle.scope.specs.Numbers.{Answer, value}
-use Rattle.scope.specs.Calls.{readBook, patternPart, partOutcome, writeBook, normal, find, bank, depth, address, locate}
+use Rattle.scope.specs.Calls.{readBook, patternPart, partOutcome, writeBook, normal, find, check, bank, depth, address, locate}
 use Rattle.scope.specs.Program.{ascii, decimal, programText}
-use Rattle.scope.specs.Rows.{Row, Hold, row, is, refused, clashes, planned, counted, located, done, neg, px, one, two, gap, threeAndThree, cross, finds, reads, checks}
+use Rattle.scope.specs.Rows.{Row, Hold, row, is, refused, clashes, planned, counted, located, done, neg, px, one, two, gap, threeAndThree, cross, finds, reads, checks, caseOf}
 use Rattle.scope.specs.declared.Plan.{Plan}
 
 -- A book's five pixels of the cross, and the book of two patterns of three pixels.
@@ -75,6 +75,9 @@ reading =
     ∷ row (reads (17 ∷ [])) (refused 2 0)
     ∷ row (reads (1 ∷ 3 ∷ 0 ∷ 0 ∷ 1 ∷ 0 ∷ 1 ∷ 0 ∷ [])) (refused 4 6)
     ∷ row (reads (1 ∷ 1 ∷ [])) (refused 1 2)
+    ∷ row (reads (2 ∷ 1 ∷ 0 ∷ 0 ∷ 2 ∷ 1 ∷ 0 ∷ 0x10 ∷ 0 ∷ [])) (refused 3 7)
+    ∷ row (reads (2 ∷ 1 ∷ 0 ∷ 0 ∷ 2 ∷ 1 ∷ 0 ∷ 0 ∷ 0x10 ∷ [])) (refused 3 8)
+    ∷ row (reads (2 ∷ 1 ∷ 0 ∷ 0 ∷ 2 ∷ 1 ∷ 0 ∷ 1 ∷ 0 ∷ [])) (refused 4 7)
     ∷ []
 
 reading-hold : Hold reading
@@ -90,6 +93,8 @@ bookOrders =
     ∷ row (checks [] (px 2 1) (px 4 2)) (refused 2 0)
     ∷ row (checks [] (px 32 0) (px 0 33)) (refused 2 0)
     ∷ row (checks (two ∷ []) (px 1 0) (px 0 2000)) (refused 9 0)
+    ∷ row (checks (two ∷ []) (px 2 1) (px 4 2)) (refused 8 0)
+    ∷ row (writes (two ∷ [] ∷ []) []) (refused 2 0)
     ∷ row (writes ((px 16 0 ∷ []) ∷ [] ∷ []) []) (refused 3 0)
     ∷ row (writes ((px 0 0 ∷ px 0 0 ∷ px 16 0 ∷ []) ∷ []) []) (refused 4 0)
     ∷ row (reads (1 ∷ 1 ∷ 0x10 ∷ 0 ∷ 0 ∷ [])) (refused 3 2)
@@ -213,13 +218,18 @@ layout-hold : Hold layout
 unfolding layout
 layout-hold = refl
 
--- A surplus, and clashes.
+-- A surplus, and clashes; the verdict's three cases.
+caseOfTwo : Pixel → Pixel → ℕ
+unfolding caseOf check bookOf two
+caseOfTwo x y = caseOf (check (bookOf (two ∷ [])) x y)
+
 verdicts : List Row
-unfolding row is clashes checks one two px
+unfolding row is clashes checks caseOfTwo one two px
 verdicts =
     row (checks (two ∷ []) (px 3 0) (px 1 2)) (is (3 ∷ 1 ∷ 2 ∷ 4 ∷ []))
     ∷ row (checks (one ∷ (px 0 0 ∷ px 1 0 ∷ px 2 1 ∷ []) ∷ []) (px 5 0) (px 2 1)) (clashes 1 0 2)
     ∷ row (checks ((px 0 0 ∷ px 1 0 ∷ px 3 0 ∷ px 2 0 ∷ []) ∷ two ∷ []) (px 2 0) (px 0 1)) (clashes 0 0 3)
+    ∷ row (is (caseOfTwo (px 2 0) (px 0 1) ∷ caseOfTwo (px 1 0) (px 0 2) ∷ caseOfTwo (px 2 0) (px 1 0) ∷ [])) (is (1 ∷ 2 ∷ 3 ∷ []))
     ∷ []
 
 verdicts-hold : Hold verdicts

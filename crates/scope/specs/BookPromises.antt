@@ -1,22 +1,28 @@
--- What is promised of reading and writing books, and of the program. Statements to be proved.
+-- What is promised of reading and writing books, and of the program. Statements; Promises.antt has them all.
 -- Assumes nothing.
 use Prim.Native.Nat.{ℕ, _+_, _*_, _-_, _≤_, _<_}
 use mathlib.Core.Path.{_≡_}
 use mathlib.Core.Logic.{_↔_}
 use mathlib.Core.Option.{Option, none}
 use mathlib.Core.List.{List, [], _∷_, _++_, flatMap, List·Memᴰ}
-use lib.IntN.{ℤ, pos}
+use lib.IntN.{ℤ, pos, _-ℤ_}
 use lib.ListN.{length, getD, take, drop}
 use Rattle.scope.specs.Plans.{Pixel, pixelAt, patternAt, pixels, patterns, banks}
 use Rattle.scope.specs.Banks.{overStart}
-use Rattle.scope.specs.Books.{byte, bookOf, pixelBytes, bookBytes}
+use Rattle.scope.specs.Books.{byte, signed, unsigned, bookOf, pixelBytes, bookBytes}
 use Rattle.scope.specs.Numbers.{value, refusal, ofPlanned, ofCounted, ofOutcome, recordTest}
-use Rattle.scope.specs.Calls.{readBook, patternPart, partOutcome, writeBook, find}
+use Rattle.scope.specs.Calls.{readBook, patternPart, partOutcome, writeBook, find, check, fetch, ringFetch}
 use Rattle.scope.specs.Program.{ascii, decimal, programText}
 use Rattle.scope.specs.Meaning.{IsBook}
 use Rattle.scope.specs.declared.Plan.{Plan}
 use Rattle.scope.specs.declared.Book.{Book}
 use Rattle.scope.specs.declared.Clash.{Clash}
+
+-- "8-bit two's complement": 0 to 127 as they are, 128 to 255 less 256; and back
+pub record TwosComplement : Type 0 where
+  pub low : (n : ℕ) → n < 128 → signed n ≡ pos n
+  pub high : (n : ℕ) → 128 ≤ n → n < 256 → signed n ≡ pos n -ℤ pos 256
+  pub back : (n : ℕ) → n < 256 → unsigned (signed n) ≡ n
 
 abbrev pub Bytes : List ℕ → Type 0
 Bytes s = (i : ℕ) → byte s i < 256
@@ -27,8 +33,9 @@ BytesMean =
     (s : List ℕ) → Bytes s
     → (ofOutcome (readBook s .outcome) ≡ value tt) ↔ ((book : Book) × IsBook book × (bookBytes book ≡ s))
 
--- reading the bytes that were written gives the record with its unused entries 0
+-- the bytes of the record were written, and reading them gives the record with its unused entries 0
 pub record ReadsBack (book : Book) (out : List ℕ) (n : ℕ) : Type 0 where
+  pub bytes : take n (writeBook book out .content) ≡ bookBytes book
   pub read : ofOutcome (readBook (take n (writeBook book out .content)) .outcome) ≡ value tt
   pub record-is : readBook (take n (writeBook book out .content)) .book ≡ bookOf (patterns book)
   pub rest : drop n (writeBook book out .content) ≡ drop n out
@@ -37,9 +44,10 @@ pub record ReadsBack (book : Book) (out : List ℕ) (n : ℕ) : Type 0 where
 abbrev pub ReadAfterWrite : Type 0
 ReadAfterWrite = (book : Book) (out : List ℕ) (n : ℕ) → ofCounted (writeBook book out .answer) ≡ value n → ReadsBack book out n
 
--- what was read is a legal record, and writing it gives the bytes
+-- what was read is the legal record of these bytes, and writing it gives them
 pub record WritesBack (s : List ℕ) : Type 0 where
   pub legal-book : IsBook (readBook s .book)
+  pub same : bookBytes (readBook s .book) ≡ s
   pub count : (out : List ℕ) → length s ≤ length out → ofCounted (writeBook (readBook s .book) out .answer) ≡ value (length s)
   pub bytes : (out : List ℕ) → length s ≤ length out → writeBook (readBook s .book) out .content ≡ overStart s out
 
@@ -62,11 +70,20 @@ pub record SameUsed (book other : Book) : Type 0 where
   pub used : (n : ℕ) → n < book .count → patternAt book n .used ≡ patternAt other n .used
   pub pixel : (n e : ℕ) → n < book .count → e < patternAt book n .used → pixelAt (patternAt book n) e ≡ pixelAt (patternAt other n) e
 
--- "The unused entries don't count": such records are refused alike and have the same patterns
+-- "The unused entries don't count": such records are refused alike, have the same patterns, and every call answers alike
 pub record UnusedDontCount : Type 0 where
   pub refused : (book other : Book) → SameUsed book other → recordTest book ≡ recordTest other
   pub same : (book other : Book) → SameUsed book other → patterns book ≡ patterns other
   pub rebuilt : (book : Book) → IsBook book → SameUsed book (bookOf (patterns book))
+  pub finds : (book other : Book) → SameUsed book other → (limit : ℕ) → find book limit ≡ find other limit
+  pub checks : (book other : Book) → SameUsed book other → (x y : Pixel) → check book x y ≡ check other x y
+  pub writes : (book other : Book) → SameUsed book other → (out : List ℕ) → writeBook book out ≡ writeBook other out
+  pub fetches :
+      (book other : Book) → SameUsed book other → (p : Plan) (W H : ℕ) (mem : List ℕ) (n : ℕ) (o : Pixel) (out : List ℕ)
+      → fetch book p W H mem n o out ≡ fetch other p W H mem n o out
+  pub ring-fetches :
+      (book other : Book) → SameUsed book other → (p : Plan) (W H : ℕ) (mem : List ℕ) (n : ℕ) (o : Pixel) (out : List ℕ)
+      → ringFetch book p W H mem n o out ≡ ringFetch other p W H mem n o out
 
 -- "a reader sets them to 0", in arrays of 16 and 64; the 1 is what would be found past an array's end
 pub record ReaderSetsZero : Type 0 where
@@ -89,6 +106,7 @@ numberIn n (c ∷ cs) = numberIn (n * 10 + (c - 48)) cs
 -- `decimal n` is digits that tell n, and begins with 0 only where it is one digit
 pub record DecimalMeans : Type 0 where
   pub tells : (n : ℕ) → numberIn 0 (decimal n) ≡ n
+  pub some-digit : (n : ℕ) → 1 ≤ length (decimal n)
   pub digit : (n c : ℕ) → List·Memᴰ c (decimal n) → (48 ≤ c) × (c ≤ 57)
   pub no-zero-first : (n : ℕ) → getD (decimal n) 0 0 ≡ 48 → length (decimal n) ≡ 1
 

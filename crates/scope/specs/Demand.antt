@@ -90,7 +90,7 @@ unfoldable pub lastStored : Setting → ℕ → List Call → Pixel → ℕ
 unfolding storedSince
 lastStored g words calls v = storedSince g words v 0 calls
 
--- The same in plain words, to be proved: `later` holds no store at v and no clear of its bank that was not turned down.
+-- The same in plain words: `later` holds no store at v and no clear of its bank that was not turned down.
 abbrev pub Touches : Setting → ℕ → Pixel → Call → Type 0
 Touches g words v (store w x) = (test g words (store w x) ≡ none) × (w ≡ v)
 Touches g words v (clear k) = (test g words (clear k) ≡ none) × (k ≡ bankOf (g .plan) v)
@@ -152,6 +152,8 @@ pub record CallHolds (g : Setting) (mem : List ℕ) (past : List Call) (c : Call
   pub agrees : reply g (run g mem past) c ≡ told g (length mem) past c
   -- a legal call is not turned down
   pub taken : IsSide (g .W) → IsSide (g .H) → Allowed g c → test g (length mem) c ≡ none
+  -- and no other is taken (which number turns it down: CallsRefuse)
+  pub only-legal : test g (length mem) c ≡ none → IsSide (g .W) × IsSide (g .H) × Allowed g c
   -- the words of a fetch that is not turned down come from banks that are all different
   pub apart : test g (length mem) c ≡ none → AllDifferent (banksRead g c)
 

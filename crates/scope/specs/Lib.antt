@@ -11,6 +11,8 @@ pub mod Demand
 pub mod PlanPromises
 pub mod PicturePromises
 pub mod BookPromises
+pub mod RefusalPromises
+pub mod Promises
 pub mod Rows
 pub mod Figures
 pub mod BookEdges

@@ -1,5 +1,5 @@
--- What the tests of the definitions mean, in plain numbers, and that a legal call is never refused. Statements to be proved.
--- A small letter is a test that computes, as `isPlan`, a capital what it means, as `IsPlan`.
+-- What the lists and tests of the definitions mean, in plain numbers, and that a legal call is never refused. Statements;
+-- Promises.antt has them all. A small letter is a test that computes, as `isPlan`, a capital what it means, as `IsPlan`.
 -- Assumes nothing.
 use Prim.Native.Nat.{ℕ, _+_, _*_, _≤_, _<_}
 use mathlib.Core.Path.{_≡_}
@@ -7,16 +7,16 @@ use mathlib.Core.Logic.{_↔_}
 use mathlib.Core.Bool.{Bool, true, false}
 use mathlib.Core.Option.{Option, none, some}
 use mathlib.Core.List.{List, [], _∷_, _++_, List·Memᴰ}
-use lib.IntN.{ℤ, pos, negsuc}
-use lib.ListN.{length}
+use lib.IntN.{ℤ, pos, negsuc, _+ℤ_}
+use lib.ListN.{length, getD}
 use lib.Signed.{_≤ℤ_}
 use Rattle.integers.specs.Gcd.{Multiple}
 use Rattle.scope.specs.Search.{firstOf}
-use Rattle.scope.specs.Plans.{Pixel, minus, pixelAt, patternAt, pixels, banks, InLattice, latticeTest, suits, determinant, determinantSize, normalForm}
+use Rattle.scope.specs.Plans.{Pixel, at, minus, pixelAt, patternAt, pixels, patterns, differences, banks, InLattice, latticeTest, suits, suitsAll, determinant, determinantSize, normalForm}
 use Rattle.scope.specs.Banks.{bankOf, addressOf, depthOf, pixelOf, inside}
 use Rattle.scope.specs.Books.{bookBytes}
 use Rattle.scope.specs.Numbers.{value, ofPlanned, ofCounted, recordTest, limitTest, dependentTest, largeTest, suitsTest, planTest, sidesTest, memoryTest, outsideTest, bankTest, cellTest, outputTest, numberTest, ringTest}
-use Rattle.scope.specs.Calls.{writeBook, normal, bank, depth, address}
+use Rattle.scope.specs.Calls.{writeBook, normal, bank, depth, address, moved}
 use Rattle.scope.specs.declared.Plan.{Plan}
 use Rattle.scope.specs.declared.Pattern.{Pattern}
 use Rattle.scope.specs.declared.Book.{Book}
@@ -74,6 +74,26 @@ pub record IsBook (book : Book) : Type 0 where
 abbrev pub Independent : Pixel → Pixel → Type 0
 Independent x y = determinant x y ≡ pos 0 → ⊥
 
+-- The lists that the promises speak of, entry by entry.
+pub record PatternsAre : Type 0 where
+  pub count : (book : Book) → length (patterns book) ≡ book .count
+  pub each : (book : Book) (n : ℕ) → n < book .count → getD (patterns book) n [] ≡ pixels (patternAt book n)
+  pub size : (t : Pattern) → length (pixels t) ≡ t .used
+  pub pixel : (t : Pattern) (e : ℕ) → e < t .used → getD (pixels t) e (at (pos 0) (pos 0)) ≡ pixelAt t e
+  -- "A difference is p - q for two different pixels p, q of the same pattern."
+  pub difference :
+      (t : List Pixel) (v : Pixel)
+      → List·Memᴰ v (differences t)
+      ↔ ((p : Pixel) × (q : Pixel) × List·Memᴰ p t × List·Memᴰ q t × (p ≡ q → ⊥) × (v ≡ minus p q))
+  -- a plan suits a book if it suits each pattern
+  pub suits-each : (p : Plan) (ts : List (List Pixel)) → (suitsAll p ts ≡ true) ↔ ((t : List Pixel) → List·Memᴰ t ts → suits p t ≡ true)
+  -- "a pattern with (0, 0) moved to a signed 16-bit position"
+  pub moved-size : (book : Book) (n : ℕ) (o : Pixel) → length (moved book n o) ≡ patternAt book n .used
+  pub moved-pixel :
+      (book : Book) (n : ℕ) (o : Pixel) (e : ℕ) → e < patternAt book n .used
+      → getD (moved book n o) e (at (pos 0) (pos 0))
+      ≡ at (o .column +ℤ pixelAt (patternAt book n) e .column) (o .row +ℤ pixelAt (patternAt book n) e .row)
+
 -- "Pixel (i, j) is in the lattice exactly if d divides j and a divides i - b × (j/d)."
 abbrev pub LatticeMeans : Type 0
 LatticeMeans = (p : Plan) → 1 ≤ p .a → 1 ≤ p .d → (v : Pixel) → (latticeTest p v ≡ true) ↔ InLattice p v
@@ -92,7 +112,8 @@ pub record ChainIsFirst : Type 0 where
   pub none-holds : (tests : List (Option Refusal)) → (firstOf tests ≡ none) ↔ ((t : Option Refusal) → List·Memᴰ t tests → t ≡ none)
   pub first-holds : (before after : List (Option Refusal)) (r : Refusal) → firstOf before ≡ none → firstOf (before ++ (some r ∷ after)) ≡ some r
 
--- For each number but 1 and 5 (BytesMean) and 7 (FinderNone), its test finds nothing exactly where the condition does not hold.
+-- For each number but 1 and 5 (BytesMean, ReaderRefuses) and 7 (FinderNone), its test finds nothing exactly where the condition
+-- does not hold. (That it then gives that number: RefusalPromises.antt.)
 pub record TestsMean : Type 0 where
   pub book-2-3-4 : (book : Book) → (recordTest book ≡ none) ↔ IsBook book
   pub limit-6 : (limit : ℕ) → (limitTest limit ≡ none) ↔ ((1 ≤ limit) × (limit ≤ 1024))

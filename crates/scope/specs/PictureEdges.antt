@@ -69,6 +69,8 @@ storing =
     ∷ row (done (clear (plan 2 0 1) 2 2 (upTo 5) 2 .answer)) (refused 15 0)
     ∷ row (counted (sum (plan 2 0 1) 2 2 (upTo 5) 1)) (is (7 ∷ []))
     ∷ row (counted (sum (plan 1 0 1) 3 1 (upTo 4) 0)) (is (6 ∷ []))
+    ∷ row (counted (sum (plan 2 0 1) 2 2 (upTo 6) 2)) (refused 15 0)
+    ∷ row (loaded (load (plan 2 0 1) 2 2 (upTo 4) (px 2 0))) (refused 14 0)
     ∷ []
 
 storing-hold : Hold storing
@@ -102,6 +104,7 @@ ringFetching =
     ∷ row (ringFetched (two ∷ []) (plan 2 0 1) 2 4 8 0 (px 1 6) (8 ∷ 8 ∷ [])) (is (7 ∷ 3 ∷ []))
     ∷ row (ringAnswer (two ∷ []) (plan 2 0 1) 2 4 8 0 (px 1 6) (8 ∷ 8 ∷ [])) (is (2 ∷ []))
     ∷ row (ringAnswer (two ∷ []) (plan 2 0 1) 2 3 8 0 (px 0 0) (8 ∷ 8 ∷ [])) (refused 18 0)
+    ∷ row (ringAnswer (two ∷ []) (plan 2 0 1) 2 2 4 0 (px 0 0) (8 ∷ [])) (refused 16 0)
     ∷ row (ringFetched (two ∷ []) (plan 2 0 1) 2 3 8 0 (px 0 0) (8 ∷ 8 ∷ [])) (is (8 ∷ 8 ∷ []))
     ∷ []
 

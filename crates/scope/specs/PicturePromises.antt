@@ -1,4 +1,4 @@
--- What is promised of banks, addresses and the calls on a picture, under every plan. Statements to be proved.
+-- What is promised of banks, addresses and the calls on a picture, under every plan. Statements; Promises.antt has them all.
 -- Demand 3's list has its own file, Demand.antt.
 -- Assumes nothing.
 use Prim.Native.Nat.{ℕ, zero, suc, _+_, _*_, _≤_, _<_}
@@ -7,8 +7,9 @@ use mathlib.Core.Logic.{_↔_}
 use mathlib.Core.Bool.{Bool, true, false}
 use mathlib.Core.Option.{Option, none, some}
 use mathlib.Core.List.{List, map}
-use lib.IntN.{pos}
+use lib.IntN.{ℤ, pos, _-ℤ_, _*ℤ_}
 use lib.ListN.{length, getD, drop}
+use Rattle.integers.specs.Division.{IsDivision}
 use Rattle.integers.specs.Gcd.{Multiple}
 use Rattle.scope.specs.Plans.{Pixel, at, minus, patternAt, pixels, banks, InLattice, suits}
 use Rattle.scope.specs.Banks.{bankOf, addressOf, depthOf, wordOf, wrapped}
@@ -22,6 +23,30 @@ use Rattle.scope.specs.declared.Clash.{Clash}
 use Rattle.scope.specs.declared.PixelRecord.{PixelRecord}
 use Rattle.scope.specs.declared.Counted.{Counted}
 use Rattle.scope.specs.declared.Outcome.{Outcome}
+
+-- C is n/d rounded up: the least m with n ≤ m × d
+abbrev pub RoundedUp : ℕ → ℕ → ℕ → Type 0
+RoundedUp n d C = (m : ℕ) → (C ≤ m) ↔ (n ≤ m * d)
+
+-- Document 01's formulas, by divisions with remainder.
+pub record FormulasAre : Type 0 where
+  -- "j = q × d + r with 0 ≤ r < d, q rounded down. The bank is r × a + ((i - b × q) mod a), the remainder from 0 to a - 1."
+  pub bank :
+      (p : Plan) → IsPlan p → (v : Pixel) (q z : ℤ) (r c : ℕ) → IsDivision (v .row) (p .d) q r
+      → IsDivision (v .column -ℤ pos (p .b) *ℤ q) (p .a) z c
+      → bankOf p v ≡ r * p .a + c
+  -- "The depth is C × (H/d rounded up)."
+  pub depth : (p : Plan) (W H C R : ℕ) → IsPlan p → RoundedUp W (p .a) C → RoundedUp H (p .d) R → depthOf p W H ≡ C * R
+  -- "The address is q × C + (i/a rounded down)", of i = u × a + s and j = q × d + r
+  pub address :
+      (p : Plan) (W H C : ℕ) → IsPlan p → RoundedUp W (p .a) C → (q r u s : ℕ) → r < p .d → s < p .a
+      → addressOf p W H (at (pos (u * p .a + s)) (pos (q * p .d + r))) ≡ q * C + u
+  -- "A ring fetch reduces columns modulo W and rows modulo H."
+  pub wrapped-column : (W H : ℕ) → 1 ≤ W → (v : Pixel) (q : ℤ) (c : ℕ) → IsDivision (v .column) W q c → wrapped W H v .column ≡ pos c
+  pub wrapped-row : (W H : ℕ) → 1 ≤ H → (v : Pixel) (q : ℤ) (c : ℕ) → IsDivision (v .row) H q c → wrapped W H v .row ≡ pos c
+  pub ring-moved : (book : Book) (W H n : ℕ) (o : Pixel) → ringMoved book W H n o ≡ map (wrapped W H) (moved book n o)
+  -- a record's pixel is its column and row
+  pub record-pixel : (r : PixelRecord) → recordPixel r ≡ at (r .column) (r .row)
 
 pub record BankIsClass (p : Plan) : Type 0 where
   -- two pixels have the same bank exactly if their difference is in the lattice

@@ -1,4 +1,4 @@
--- What is promised of the normal form, the finder and the check. Statements to be proved.
+-- What is promised of the normal form, the finder and the check. Statements; Promises.antt has them all.
 -- Assumes nothing.
 use Prim.Native.Nat.{ℕ, _+_, _*_, _≤_, _<_}
 use mathlib.Core.Path.{_≡_}
@@ -17,6 +17,7 @@ use Rattle.scope.specs.declared.Plan.{Plan}
 use Rattle.scope.specs.declared.Book.{Book}
 use Rattle.scope.specs.declared.Clash.{Clash}
 use Rattle.scope.specs.declared.Checked.{Checked}
+use Rattle.scope.specs.declared.Verdict.{Verdict}
 
 -- p is a plan but for the limit on its banks, and "generates the same lattice" as x and y
 pub record Generates (p : Plan) (x y : Pixel) : Type 0 where
@@ -96,24 +97,25 @@ FinderStaysWithin = (book : Book) (limit : ℕ) (p : Plan) → ofPlanned (find b
 abbrev pub LimitIsEnough : Type 0
 LimitIsEnough = (book : Book) → IsBook book → (p : Plan) × (ofPlanned (find book 1024) ≡ value p)
 
--- A verdict with a surplus: the normal form, which suits, and its N is the least count plus the surplus.
-pub record Excess (book : Book) (x y : Pixel) (c : Checked) : Type 0 where
-  pub form : c .plan ≡ normalForm x y
-  pub plan : IsPlan (c .plan)
-  pub suiting : suitsAll (c .plan) (patterns book) ≡ true
-  pub least : Plan
-  pub least-is : ofPlanned (find book 1024) ≡ value least
-  pub count : banks (c .plan) ≡ banks least + c .surplus
-
-abbrev pub SurplusIsExcess : Type 0
-SurplusIsExcess = (book : Book) (x y : Pixel) (c : Checked) → ofVerdict (check book x y) ≡ value c → Excess book x y c
-
 -- positions e and l of pattern n of the book have pixels whose difference is in the lattice
 pub record Meets (book : Book) (p : Plan) (n e l : ℕ) : Type 0 where
   pub in-book : n < book .count
   pub ordered : e < l
   pub in-pattern : l < patternAt book n .used
   pub joined : InLattice p (minus (pixelAt (patternAt book n) l) (pixelAt (patternAt book n) e))
+
+-- A verdict with a surplus: the normal form, which suits, and its N is the least count plus the surplus.
+pub record Excess (book : Book) (x y : Pixel) (c : Checked) : Type 0 where
+  pub form : c .plan ≡ normalForm x y
+  pub plan : IsPlan (c .plan)
+  pub suiting : suitsAll (c .plan) (patterns book) ≡ true
+  pub no-clash : (n e l : ℕ) → Meets book (c .plan) n e l → ⊥
+  pub least : Plan
+  pub least-is : ofPlanned (find book 1024) ≡ value least
+  pub count : banks (c .plan) ≡ banks least + c .surplus
+
+abbrev pub SurplusIsExcess : Type 0
+SurplusIsExcess = (book : Book) (x y : Pixel) (c : Checked) → ofVerdict (check book x y) ≡ value c → Excess book x y c
 
 -- "of several pairs, the one with the least earlier position, then the least later one"
 pub record FirstClashIn (book : Book) (p : Plan) (c : Clash) : Type 0 where
@@ -122,6 +124,10 @@ pub record FirstClashIn (book : Book) (p : Plan) (c : Clash) : Type 0 where
 
 -- "The clash names the lowest pattern number that has one": the check's 10, and a fetch's 10 for its own pattern
 pub record ClashIsFirst : Type 0 where
+  -- the verdict's own case, and not a refusal
+  pub is-clash :
+      (book : Book) (x y : Pixel) (c : Clash) → ofVerdict (check book x y) ≡ refusal 10 0 (some c)
+      → check book x y ≡ Verdict.Clashes c
   pub in-pattern : (book : Book) (x y : Pixel) (c : Clash) → ofVerdict (check book x y) ≡ refusal 10 0 (some c) → FirstClashIn book (normalForm x y) c
   pub lowest :
       (book : Book) (x y : Pixel) (c : Clash) → ofVerdict (check book x y) ≡ refusal 10 0 (some c) → (n e l : ℕ)

@@ -69,6 +69,12 @@ unfoldable pub verdict : Verdict → Answer (List ℤ)
 unfolding values
 verdict r = values (λ c. pos (c .plan .a) ∷ pos (c .plan .b) ∷ pos (c .plan .d) ∷ pos (c .surplus) ∷ []) (ofVerdict r)
 
+-- which case of the verdict it is
+unfoldable pub caseOf : Verdict → ℕ
+caseOf (Verdict.Suits c) = 1
+caseOf (Verdict.Clashes c) = 2
+caseOf (Verdict.Refused r) = 3
+
 unfoldable pub records : List PixelRecord → Answer (List ℤ)
 unfolding flatMap
 records rs = value (flatMap (λ r. r .column ∷ r .row ∷ pos (r .bank) ∷ pos (r .address) ∷ []) rs)
