@@ -1,0 +1,12 @@
+pub mod Searches
+pub mod Lists
+pub mod Patterns
+pub mod Outputs
+pub mod Chains
+pub mod Booleans
+pub mod Tests
+pub mod BookTests
+pub mod BookRefusals
+pub mod Deciding
+pub mod RefusalNumbers
+pub mod Legal
