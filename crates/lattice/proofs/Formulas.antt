@@ -1,0 +1,101 @@
+-- The lists of pixels and patterns entry by entry, and document 01's formulas by divisions with remainder.
+-- Assumes nothing.
+use Prim.Native.Nat.{ℕ, _+_, _*_, _≤_, _<_}
+use mathlib.Core.Path.{_≡_, refl, sym, _∙_, ap, ap₂}
+use mathlib.Core.Logic.{_↔_}
+use mathlib.Core.List.{List, [], List·Memᴰ}
+use native.Mathlib.Omega.{arith}
+use lib.IntN.{ℤ, pos, _+ℤ_, _-ℤ_, _*ℤ_}
+use lib.ListN.{length, getD, length-map}
+use Rattle.integers.specs.Division.{ceilDiv, IsDivision}
+use Rattle.integers.proofs.Digits.{upper-digit}
+use Rattle.integers.proofs.Divisions.{floor-division, ceiling-division}
+use Rattle.scope.specs.Plans.{Pixel, at, plus, minus, pixelAt, patternAt, pixels, differences}
+use Rattle.scope.specs.Banks.{quotient, remainder, bankOf, across, addressOf, depthOf, wrapped}
+use Rattle.scope.specs.Calls.{moved, ringMoved, recordPixel}
+use Rattle.scope.specs.Meaning.{IsPlan, PatternsAre}
+use Rattle.scope.specs.PicturePromises.{RoundedUp, FormulasAre}
+use Rattle.scope.specs.declared.Plan.{Plan}
+use Rattle.scope.specs.declared.Book.{Book}
+use Rattle.laws.proofs.Lists.{getD-map}
+use Rattle.laws.proofs.Patterns.{origin, length-pixels, getD-pixels, length-patterns, getD-patterns}
+use Rattle.lattice.proofs.Suits.{DifferenceIn, mem-differences, differences-mem, suits-all-iff}
+
+-- a difference is that of two different pixels
+difference-iff :
+    (t : List Pixel) (v : Pixel)
+    → List·Memᴰ v (differences t)
+    ↔ ((p : Pixel) × (q : Pixel) × List·Memᴰ p t × List·Memᴰ q t × (p ≡ q → ⊥) × (v ≡ minus p q))
+difference-iff t v = (
+  λ m. let d : DifferenceIn t v = mem-differences t v m in (d .left, d .right, d .left-in, d .right-in, d .different, d .is),
+  λ (p, q, m, k, other, is). rw is (differences-mem t p q m k other),
+)
+
+-- a moved pattern: how many pixels, and the one at a position
+moved-size : (book : Book) (n : ℕ) (o : Pixel) → length (moved book n o) ≡ patternAt book n .used
+unfolding moved
+moved-size book n o = length-map (pixels (patternAt book n)) (plus o) ∙ length-pixels (patternAt book n)
+
+moved-pixel :
+    (book : Book) (n : ℕ) (o : Pixel) (e : ℕ) → e < patternAt book n .used
+    → getD (moved book n o) e origin
+    ≡ at (o .column +ℤ pixelAt (patternAt book n) e .column) (o .row +ℤ pixelAt (patternAt book n) e .row)
+unfolding moved plus at
+moved-pixel book n o e h =
+    getD-map (plus o) (pixels (patternAt book n)) e origin origin (omega (arith, length-pixels (patternAt book n)))
+    ∙ ap (plus o) (getD-pixels (patternAt book n) e origin h)
+
+pub patterns-are : PatternsAre
+patterns-are =
+    record {
+      count = length-patterns;
+      each = λ book n h. getD-patterns book n [] h;
+      size = length-pixels;
+      pixel = λ t e h. getD-pixels t e origin h;
+      difference = difference-iff;
+      suits-each = suits-all-iff;
+      moved-size = moved-size;
+      moved-pixel = moved-pixel;
+    }
+
+-- there is only one number that is n/d rounded up
+rounded-up-is : (n d C : ℕ) → 0 < d → RoundedUp n d C → ceilDiv n d ≡ C
+rounded-up-is n d C h up =
+    let least : ceilDiv n d ≤ C = ceiling-division n d h C .1 (up C .0 (omega arith)) in
+    let most : C ≤ ceilDiv n d = up (ceilDiv n d) .1 (ceiling-division n d h (ceilDiv n d) .0 (omega arith)) in
+    omega arith
+
+bank-formula :
+    (p : Plan) → IsPlan p → (v : Pixel) (q z : ℤ) (r c : ℕ) → IsDivision (v .row) (p .d) q r
+    → IsDivision (v .column -ℤ pos (p .b) *ℤ q) (p .a) z c
+    → bankOf p v ≡ r * p .a + c
+unfolding bankOf quotient remainder
+bank-formula p plan v q z r c row column =
+    let (q-is, r-is) = floor-division (v .row) (p .d) (plan .d-least) q r .0 row in
+    let (z-is, c-is) = floor-division (v .column -ℤ pos (p .b) *ℤ q) (p .a) (plan .a-least) z c .0 column in
+    rw (r-is, c-is, q-is) refl
+
+depth-formula : (p : Plan) (W H C R : ℕ) → IsPlan p → RoundedUp W (p .a) C → RoundedUp H (p .d) R → depthOf p W H ≡ C * R
+unfolding depthOf across
+depth-formula p W H C R plan wide high =
+    ap₂ (λ (m n : ℕ). m * n) (rounded-up-is W (p .a) C (plan .a-least) wide) (rounded-up-is H (p .d) R (plan .d-least) high)
+
+address-formula :
+    (p : Plan) (W H C : ℕ) → IsPlan p → RoundedUp W (p .a) C → (q r u s : ℕ) → r < p .d → s < p .a
+    → addressOf p W H (at (pos (u * p .a + s)) (pos (q * p .d + r))) ≡ q * C + u
+unfolding addressOf quotient across at
+address-formula p W H C plan wide q r u s row column =
+    rw (rounded-up-is W (p .a) C (plan .a-least) wide, upper-digit q (p .d) r row, upper-digit u (p .a) s column) refl
+
+pub formulas-are : FormulasAre
+unfolding wrapped ringMoved recordPixel at
+formulas-are =
+    record {
+      bank = bank-formula;
+      depth = depth-formula;
+      address = address-formula;
+      wrapped-column = λ W H h v q c e. ap pos (sym (floor-division (v .column) W h q c .0 e .1));
+      wrapped-row = λ W H h v q c e. ap pos (sym (floor-division (v .row) H h q c .0 e .1));
+      ring-moved = λ book W H n o. refl;
+      record-pixel = λ r. refl;
+    }

@@ -1,0 +1,12 @@
+pub mod Membership
+pub mod Bases
+pub mod Euclid
+pub mod NormalForm
+pub mod Banks
+pub mod Words
+pub mod Reverse
+pub mod Rings
+pub mod Suits
+pub mod Tests
+pub mod Apart
+pub mod Formulas

@@ -1,0 +1,161 @@
+-- What it means that a plan suits a pattern: by differences, by combinations, and by positions.
+-- Assumes nothing.
+use Prim.Native.Nat.{ℕ, suc, _-_, _≤_, _<_}
+use native.Mathlib.Omega.{arith}
+use native.Mathlib.Decide.{decLt}
+use mathlib.Core.Path.{_≡_, refl, sym, _∙_, ap}
+use mathlib.Core.Logic.{_↔_, Iff·symm, Iff·trans, _⊎_, inl, inr}
+use mathlib.Core.Bool.{Bool, true, false, not, cond, not-eq-not}
+use mathlib.Core.Option.{Option, none}
+use mathlib.Core.List.{List, [], _∷_, flatMap, List·Memᴰ, List·Memᴰ·head, List·Memᴰ·not-nil, List·Memᴰ·cases-cons}
+use lib.ListN.{length, getD}
+use Rattle.scope.specs.Search.{first}
+use Rattle.scope.specs.Plans.{Pixel, samePixel, minus, differences, latticeTest, suits, suitsAll}
+use Rattle.scope.specs.Finding.{meeting, clashIn}
+use Rattle.scope.specs.Meaning.{SuitsMeans}
+use Rattle.scope.specs.declared.Plan.{Plan}
+use Rattle.scope.specs.declared.Clash.{Clash}
+use Rattle.laws.proofs.Searches.{true-not-false, first-none, none-first, whenever-none, none-whenever, every-holds, holds-every}
+use Rattle.laws.proofs.Lists.{mem-getD, getD-mem, mem-flatMap, flatMap-mem}
+use Rattle.laws.proofs.BookTests.{same-pixel-iff}
+use Rattle.laws.proofs.Patterns.{origin, Different}
+use Rattle.lattice.proofs.Membership.{lattice-means, lattice-symmetric}
+
+-- v is the difference of two different pixels of t
+pub record DifferenceIn (t : List Pixel) (v : Pixel) : Type 0 where
+  pub left : Pixel
+  pub right : Pixel
+  pub left-in : List·Memᴰ left t
+  pub right-in : List·Memᴰ right t
+  pub different : left ≡ right → ⊥
+  pub is : v ≡ minus left right
+
+-- p - q alone, if p and q are different
+abbrev apart : Pixel → Pixel → List Pixel
+apart p q = cond (samePixel p q) [] (minus p q ∷ [])
+
+unless-same : (p q v : Pixel) → List·Memᴰ v (apart p q) → (p ≡ q → ⊥) × (v ≡ minus p q)
+unless-same p q v m = by-test (samePixel p q) refl m
+  where
+    by-test : (b : Bool) → samePixel p q ≡ b → List·Memᴰ v (cond b [] (minus p q ∷ [])) → (p ≡ q → ⊥) × (v ≡ minus p q)
+    by-test true h m = absurd (List·Memᴰ·not-nil m)
+    by-test false h m = (λ e. true-not-false (sym (same-pixel-iff p q .1 e) ∙ h), only (List·Memᴰ·cases-cons m))
+      where
+        only : (v ≡ minus p q) ⊎ List·Memᴰ v [] → v ≡ minus p q
+        only (inl e) = e
+        only (inr k) = absurd (List·Memᴰ·not-nil k)
+
+-- The list of differences holds each difference of two different pixels, and nothing else.
+pub mem-differences : (t : List Pixel) (v : Pixel) → List·Memᴰ v (differences t) → DifferenceIn t v
+unfolding differences
+mem-differences t v m =
+    let k = mem-flatMap (λ p. flatMap (apart p) t) t m in
+    let l = mem-flatMap (apart (k .0)) t (k .2) in
+    let d = unless-same (k .0) (l .0) v (l .2) in
+    record { left = k .0; right = l .0; left-in = k .1; right-in = l .1; different = d .0; is = d .1 }
+
+pub differences-mem :
+    (t : List Pixel) (p q : Pixel) → List·Memᴰ p t → List·Memᴰ q t → (p ≡ q → ⊥) → List·Memᴰ (minus p q) (differences t)
+unfolding differences
+differences-mem t p q m k n =
+    flatMap-mem (λ p. flatMap (apart p) t) t p m (flatMap-mem (apart p) t q k (by-test (samePixel p q) refl))
+  where
+    by-test : (b : Bool) → samePixel p q ≡ b → List·Memᴰ (minus p q) (cond b [] (minus p q ∷ []))
+    by-test true h = absurd (n (same-pixel-iff p q .0 h))
+    by-test false h = List·Memᴰ·head refl
+
+-- no difference of two different pixels of t passes the lattice test
+abbrev Apart : Plan → List Pixel → Type 0
+Apart p t = (v w : Pixel) → List·Memᴰ v t → List·Memᴰ w t → (v ≡ w → ⊥) → latticeTest p (minus v w) ≡ true → ⊥
+
+-- A plan suits a pattern exactly if no difference passes.
+suits-iff-apart : (p : Plan) (t : List Pixel) → (suits p t ≡ true) ↔ Apart p t
+unfolding suits
+suits-iff-apart p t = (there, back)
+  where
+    fails : Pixel → Bool
+    fails v = not (latticeTest p v)
+
+    there : suits p t ≡ true → Apart p t
+    there e v w m k unlike h =
+        true-not-false (sym (every-holds fails (differences t) e (minus v w) (differences-mem t v w m k unlike)) ∙ ap not h)
+
+    back : Apart p t → suits p t ≡ true
+    back h = holds-every fails (differences t) (λ v m. ap not (not-eq-not {b = false} .0 (not-in v (mem-differences t v m))))
+      where
+        not-in : (v : Pixel) → DifferenceIn t v → latticeTest p v ≡ true → ⊥
+        not-in v d e = h (d .left) (d .right) (d .left-in) (d .right-in) (d .different) (ap (latticeTest p) (sym (d .is)) ∙ e)
+
+-- It suits a list of patterns exactly if it suits each of them.
+pub suits-all-iff :
+    (p : Plan) (ts : List (List Pixel)) → (suitsAll p ts ≡ true) ↔ ((t : List Pixel) → List·Memᴰ t ts → suits p t ≡ true)
+unfolding suitsAll
+suits-all-iff p ts = (every-holds (suits p) ts, holds-every (suits p) ts)
+
+-- positions e and l of t have pixels whose difference passes the lattice test
+abbrev pub MeetsAt : Plan → List Pixel → ℕ → ℕ → Type 0
+MeetsAt p t e l = latticeTest p (minus (getD t l origin) (getD t e origin)) ≡ true
+
+-- no two positions of t meet
+abbrev pub NoneMeets : Plan → List Pixel → Type 0
+NoneMeets p t = (e l : ℕ) → e < l → l < length t → MeetsAt p t e l → ⊥
+
+-- A pair of positions is no clash exactly if it does not meet.
+pub no-meeting-iff : (p : Plan) (t : List Pixel) (n e l : ℕ) → (meeting p t n e l ≡ none) ↔ (MeetsAt p t e l → ⊥)
+unfolding meeting
+no-meeting-iff p t n e l = Iff·trans (whenever-none _ _, none-whenever _ _) (Iff·symm (not-eq-not {b = false}))
+
+-- The search for a clash finds nothing exactly if no two positions meet.
+pub no-clash-iff-none-meets : (p : Plan) (n : ℕ) (t : List Pixel) → (clashIn p n t ≡ none) ↔ NoneMeets p t
+unfolding clashIn
+no-clash-iff-none-meets p n t = (there, back)
+  where
+    from : ℕ → Option Clash
+    from e = first (suc e) (length t - suc e) (meeting p t n e)
+
+    there : clashIn p n t ≡ none → NoneMeets p t
+    there h e l below within =
+        let none-from : from e ≡ none = first-none 0 (length t) from h e (omega arith) (omega arith) in
+        no-meeting-iff p t n e l .0
+        (first-none (suc e) (length t - suc e) (meeting p t n e) none-from l (omega arith) (omega arith))
+
+    back : NoneMeets p t → clashIn p n t ≡ none
+    back h =
+        none-first 0 (length t) from
+        (λ e _ e-in. none-first (suc e) (length t - suc e) (meeting p t n e)
+        (λ l above l-in. no-meeting-iff p t n e l .1 (h e l (omega arith) (omega arith))))
+
+-- A plan suits a pattern exactly if no combination is the difference of two different pixels of it.
+pub suits-means : SuitsMeans
+suits-means p a-least d-least t =
+    Iff·trans (suits-iff-apart p t) (
+      λ h v w m k n c. h v w m k n (lattice-means p a-least d-least (minus v w) .1 c),
+      λ h v w m k n e. h v w m k n (lattice-means p a-least d-least (minus v w) .0 e),
+    )
+
+-- Of a pattern of different pixels: a plan has no clash exactly if it suits.
+pub no-clash-iff-suits :
+    (p : Plan) → 1 ≤ p .a → 1 ≤ p .d → (n : ℕ) (t : List Pixel) → Different t → (clashIn p n t ≡ none) ↔ (suits p t ≡ true)
+no-clash-iff-suits p a-least d-least n t different =
+    Iff·trans (no-clash-iff-none-meets p n t) (Iff·trans (there, back) (Iff·symm (suits-iff-apart p t)))
+  where
+    there : NoneMeets p t → Apart p t
+    there h v w m k unlike e =
+        let i = getD-mem t origin m in
+        let j = getD-mem t origin k in
+        at-positions (i .0) (j .0) (i .1) (j .1) (λ s. unlike (sym (i .2) ∙ s ∙ j .2)) (rw (i .2, j .2) e)
+      where
+        at-positions : (i j : ℕ) → i < length t → j < length t → (getD t i origin ≡ getD t j origin → ⊥) → MeetsAt p t j i → ⊥
+        at-positions i j i-in j-in unlike e = by-test (decLt j i) (decLt i j)
+          where
+            by-test : Dec (j < i) → Dec (i < j) → ⊥
+            by-test (yes below) l = h j i below i-in e
+            by-test (no k) (yes above) =
+                h i j above j-in (lattice-symmetric p a-least d-least (getD t j origin) (getD t i origin) ∙ e)
+            by-test (no k) (no l) = let same : i ≡ j = omega arith in unlike (ap (λ (m : ℕ). getD t m origin) same)
+
+    back : Apart p t → NoneMeets p t
+    back h e l below within m =
+        h (getD t l origin) (getD t e origin) (mem-getD t l origin within) (mem-getD t e origin (omega arith))
+        (λ s. different e l below within (sym s))
+        m
