@@ -1,0 +1,13 @@
+pub mod Records
+pub mod Bytes
+pub mod Unused
+pub mod UnusedCalls
+pub mod Written
+pub mod Reading
+pub mod ReadWrite
+pub mod Parts
+pub mod Prefixes
+pub mod Longer
+pub mod ReaderRefusals
+pub mod Decimal
+pub mod ProgramText

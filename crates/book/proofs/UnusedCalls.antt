@@ -1,0 +1,108 @@
+-- The unused entries of a record don't count: every call that is given a record answers alike on two that agree where it counts.
+-- Assumes nothing.
+use Prim.Native.Nat.{ℕ, _<_}
+use mathlib.Core.Path.{_≡_, refl}
+use mathlib.Core.Option.{Option, none, some}
+use mathlib.Core.List.{List, [], _∷_, _++_, map, List·Memᴰ·head, List·Memᴰ·tail}
+use lib.ListN.{length}
+use Rattle.scope.specs.Search.{firstOf}
+use Rattle.scope.specs.Plans.{Pixel, plus, patternAt, pixels}
+use Rattle.scope.specs.Finding.{clashIn}
+use Rattle.scope.specs.Banks.{wordIn, overStart, wrapped}
+use Rattle.scope.specs.Books.{bookBytes}
+use Rattle.scope.specs.Numbers.{recordTest, planTest, sidesTest, memoryTest, numberTest, suitsTest, outsideTest, ringTest, outputTest}
+use Rattle.scope.specs.Calls.{changed, Result, writeBook, findTest, find, checkTest, check}
+use Rattle.scope.specs.Calls.{moved, fetchTest, fetch, ringFetchTest, ringMoved, ringFetch}
+use Rattle.scope.specs.BookPromises.{SameUsed, UnusedDontCount}
+use Rattle.scope.specs.declared.Plan.{Plan}
+use Rattle.scope.specs.declared.Book.{Book}
+use Rattle.scope.specs.declared.Refusal.{Refusal}
+use Rattle.scope.specs.declared.Counted.{Counted}
+use Rattle.laws.proofs.Chains.{chain-is-first, changed-alike}
+use Rattle.laws.proofs.Tests.{number-in-book-iff}
+use Rattle.book.proofs.Unused.{same-record-tests, same-pixels, same-patterns, rebuilt-same}
+
+-- Finding, checking and writing look at a record's tests, its count and its patterns.
+module _ (book other : Book) (same : SameUsed book other) where
+  same-finds : (limit : ℕ) → find book limit ≡ find other limit
+  unfolding find findTest
+  same-finds limit = cc (same-record-tests book other same, same-patterns book other same)
+
+  same-checks : (x y : Pixel) → check book x y ≡ check other x y
+  unfolding check checkTest
+  same-checks x y = cc (same-record-tests book other same, same-patterns book other same)
+
+  same-bytes : bookBytes book ≡ bookBytes other
+  unfolding bookBytes
+  same-bytes = cc (same .count, same-patterns book other same)
+
+  same-writes : (out : List ℕ) → writeBook book out ≡ writeBook other out
+  unfolding writeBook
+  same-writes out = cc (same-record-tests book other same, same-bytes)
+
+module _
+    (book other : Book) (same : SameUsed book other) (p : Plan) (W H : ℕ) (mem : List ℕ) (n : ℕ) (o : Pixel) (out : List ℕ)
+  where
+    -- Up to the pattern's number a fetch looks at the record's tests and its count,
+    abbrev before-pattern : Book → List (Option Refusal)
+    before-pattern given =
+        recordTest given ∷ planTest p ∷ sidesTest W H ∷ memoryTest p W H (length mem) ∷ numberTest (given .count) n ∷ []
+
+    same-before : before-pattern book ≡ before-pattern other
+    same-before = cc (same-record-tests book other same, same .count)
+
+    number-in-book : firstOf (before-pattern book) ≡ none → n < book .count
+    number-in-book e =
+        number-in-book-iff (book .count) n .0
+        (chain-is-first .none-holds (before-pattern book) .0 e (numberTest (book .count) n)
+        (List·Memᴰ·tail (List·Memᴰ·tail (List·Memᴰ·tail (List·Memᴰ·tail (List·Memᴰ·head refl))))))
+
+    -- and from there on at the pattern's pixels and how many are used.
+    abbrev pattern-seen : Book → List Pixel × ℕ
+    pattern-seen given = (pixels (patternAt given n), patternAt given n .used)
+
+    same-seen : n < book .count → pattern-seen book ≡ pattern-seen other
+    same-seen h = cc (same-pixels book other same n h, same .used n h)
+
+    -- Both fetches: `own-test` is the test that only one of them has, `move` puts the pixels where they are fetched.
+    module _ (own-test : List Pixel → Option Refusal) (move : List Pixel → List Pixel) where
+      abbrev pattern-tests : List Pixel × ℕ → List (Option Refusal)
+      pattern-tests (vs, used) =
+          elim (clashIn p n vs) [ none ↦ none | some c ↦ some (Refusal.Unsuited c) ] ∷ own-test vs ∷ outputTest used (length out) ∷ []
+
+      abbrev number-fetched : List Pixel × ℕ → Counted
+      number-fetched (vs, used) = Counted.Number (length (move vs))
+
+      abbrev output-after : List Pixel × ℕ → List ℕ
+      output-after (vs, used) = overStart (map (wordIn p W H mem) (move vs)) out
+
+      abbrev fetched : Book → Result Counted (List ℕ)
+      fetched given =
+          let seen : List Pixel × ℕ = pattern-seen given in
+          changed (firstOf (before-pattern given ++ pattern-tests seen)) Counted.Refused out (number-fetched seen) (output-after seen)
+
+      same-fetched : fetched book ≡ fetched other
+      same-fetched =
+          changed-alike pattern-tests Counted.Refused out number-fetched output-after same-before (λ e. same-seen (number-in-book e))
+
+    same-fetches : fetch book p W H mem n o out ≡ fetch other p W H mem n o out
+    unfolding fetch fetchTest suitsTest moved
+    same-fetches = same-fetched (λ vs. outsideTest W H (map (plus o) vs)) (map (plus o))
+
+    same-ring-fetches : ringFetch book p W H mem n o out ≡ ringFetch other p W H mem n o out
+    unfolding ringFetch ringFetchTest suitsTest ringMoved
+    same-ring-fetches = same-fetched (λ vs. ringTest p W H) (λ vs. map (wrapped W H) (map (plus o) vs))
+
+-- "The unused entries don't count": such records are refused alike, have the same patterns, and every call answers alike.
+pub unused-dont-count : UnusedDontCount
+unused-dont-count =
+    record {
+      refused = same-record-tests;
+      same = same-patterns;
+      rebuilt = rebuilt-same;
+      finds = same-finds;
+      checks = same-checks;
+      writes = same-writes;
+      fetches = same-fetches;
+      ring-fetches = same-ring-fetches;
+    }
