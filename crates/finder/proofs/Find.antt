@@ -1,0 +1,85 @@
+-- What the call `find` answers, in terms of its search: a plan or 7 for a legal book and limit, and no 7 else.
+-- Assumes nothing.
+use Prim.Native.Nat.{ℕ, _≤_}
+use native.Mathlib.Omega.{arith}
+use mathlib.Core.Path.{_≡_, refl, sym, _∙_, ap}
+use mathlib.Core.Logic.{_↔_, _⊎_, inl, inr, Iff·trans}
+use mathlib.Core.Option.{Option, none, some}
+use Rattle.scope.specs.Plans.{patterns}
+use Rattle.scope.specs.Finding.{leastPlan}
+use Rattle.scope.specs.Numbers.{value, refusal, ofPlanned}
+use Rattle.scope.specs.Calls.{findTest, found, find}
+use Rattle.scope.specs.Meaning.{IsBook}
+use Rattle.scope.specs.declared.Plan.{Plan}
+use Rattle.scope.specs.declared.Book.{Book}
+use Rattle.scope.specs.declared.Planned.{Planned}
+use Rattle.laws.proofs.Chains.{value-not-refusal, value-injective, answered-none, RefusedBy, answered-value, answered-refusal}
+use Rattle.laws.proofs.Booleans.{last-test, test-before}
+use Rattle.laws.proofs.Tests.{limit-legal-iff}
+use Rattle.laws.proofs.BookTests.{book-legal-iff}
+use Rattle.laws.proofs.RefusalNumbers.{find-refusals}
+
+-- "A book and a limit are legal if no number but 7 turns them down."
+pub record LegalFind (book : Book) (limit : ℕ) : Type 0 where
+  pub legal-book : IsBook book
+  pub limit-least : 1 ≤ limit
+  pub limit-most : limit ≤ 1024
+
+legal-find-iff : (book : Book) (limit : ℕ) → (findTest book limit ≡ none) ↔ LegalFind book limit
+unfolding findTest
+legal-find-iff book limit =
+    Iff·trans (test-before (book-legal-iff book) (last-test (limit-legal-iff limit)) .iff) (
+      λ h. record { legal-book = h .0; limit-least = h .1 .0; limit-most = h .1 .1 },
+      λ h. (h .legal-book, (h .limit-least, h .limit-most)),
+    )
+
+-- a legal call answers what its search found
+legal-find : (book : Book) (limit : ℕ) → LegalFind book limit → find book limit ≡ found (leastPlan (patterns book) limit)
+unfolding find
+legal-find book limit h =
+    answered-none (findTest book limit) Planned.Refused (found (leastPlan (patterns book) limit)) (legal-find-iff book limit .1 h)
+
+-- what was found, by the answer
+found-value : (o : Option Plan) (p : Plan) → ofPlanned (found o) ≡ value p → o ≡ some p
+unfolding found
+found-value none p e = absurd (value-not-refusal (sym e))
+found-value (some q) p e = ap some (value-injective e)
+
+found-refusal : (o : Option Plan) → ofPlanned (found o) ≡ refusal 7 0 none → o ≡ none
+unfolding found
+found-refusal none e = refl
+found-refusal (some p) e = absurd (value-not-refusal e)
+
+module _ (book : Book) (limit : ℕ) where
+  -- A plan is answered exactly where the call is legal and the search finds it.
+  pub find-value-iff :
+      (p : Plan) → (ofPlanned (find book limit) ≡ value p) ↔ (LegalFind book limit × (leastPlan (patterns book) limit ≡ some p))
+  unfolding find found
+  find-value-iff p = (there, back)
+    where
+      there : ofPlanned (find book limit) ≡ value p → LegalFind book limit × (leastPlan (patterns book) limit ≡ some p)
+      there e =
+          let t = answered-value ofPlanned (findTest book limit) Planned.Refused (found (leastPlan (patterns book) limit)) p (λ r. refl) e in
+          (legal-find-iff book limit .0 (t .0), found-value (leastPlan (patterns book) limit) p (t .1))
+
+      back : LegalFind book limit × (leastPlan (patterns book) limit ≡ some p) → ofPlanned (find book limit) ≡ value p
+      back (h, e) = ap ofPlanned (legal-find book limit h ∙ ap found e)
+
+  -- 7 is answered exactly where the call is legal and the search finds nothing.
+  pub find-none-iff :
+      (ofPlanned (find book limit) ≡ refusal 7 0 none) ↔ (LegalFind book limit × (leastPlan (patterns book) limit ≡ none))
+  unfolding find found
+  find-none-iff = (λ e. there (answered-refusal ofPlanned (findTest book limit) Planned.Refused answer 7 0 none (λ r. refl) e), back)
+    where
+      answer : Planned
+      answer = found (leastPlan (patterns book) limit)
+
+      there :
+          RefusedBy (findTest book limit) 7 0 none
+          ⊎ ((findTest book limit ≡ none) × (ofPlanned answer ≡ refusal 7 0 none))
+          → LegalFind book limit × (leastPlan (patterns book) limit ≡ none)
+      there (inl t) = absurd (omega (arith, find-refusals book limit (t .0) (t .1), t .2))
+      there (inr t) = (legal-find-iff book limit .0 (t .0), found-refusal (leastPlan (patterns book) limit) (t .1))
+
+      back : LegalFind book limit × (leastPlan (patterns book) limit ≡ none) → ofPlanned (find book limit) ≡ refusal 7 0 none
+      back (h, e) = ap ofPlanned (legal-find book limit h ∙ ap found e)

@@ -1,0 +1,9 @@
+pub mod Search
+pub mod Find
+pub mod Least
+pub mod Pigeonhole
+pub mod Boxes
+pub mod Bounds
+pub mod ClashSearch
+pub mod Checks
+pub mod Clashes
