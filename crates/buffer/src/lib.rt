@@ -1,0 +1,1 @@
+// The theory of stored pictures: proofs/ has its laws. No function has code yet.
