@@ -146,7 +146,7 @@ read-after-write book out n e =
     let (legal, room) = write-test-iff book (length out) .0 tests in
     subst (ReadsBack book out) (value-injective size) (written-is-read book out legal room)
 
--- What was read is a legal record, and writing it gives the bytes.
+-- What was read is the legal record of the bytes, and writing it gives them.
 pub write-after-read : WriteAfterRead
 write-after-read s small e =
     record {

@@ -158,7 +158,7 @@ module _ (m : ℕ) (ts : List (List Pixel)) (c : ℕ) (t : List Pixel) (legal : 
       s = bytesWithin m ts c t ++ rest
 
   module _ (x y : ℕ) (rest : List ℕ) where
-    -- the bytes, the pixels of the pattern that is bytesSoFar, and the place of the next
+    -- the bytes, the pixels of the pattern that is begun, and the place of the next
     abbrev whole : List ℕ
     whole = bytesWithin m ts c t ++ (x ∷ y ∷ rest)
 

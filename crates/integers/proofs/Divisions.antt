@@ -177,7 +177,7 @@ module _ (d : ℕ) (h : 0 < d) where
   unfolding divides
   divides-iff z = Iff·trans (eqb-true (floorMod z d) 0, eq-eqb (floorMod z d) 0) (remainder-zero-iff-divides z)
 
--- The promises.
+-- The quotient and the remainder are the only ones; `divides` is divisibility; rounding up; `sameNumber` is equality.
 pub floor-division : FloorDivision
 floor-division z d h q r = (there, back)
   where

@@ -45,6 +45,7 @@ moved-pixel book n o e h =
     getD-map (plus o) (pixels (patternAt book n)) e origin origin (omega (arith, length-pixels (patternAt book n)))
     ∙ ap (plus o) (getD-pixels (patternAt book n) e origin h)
 
+-- The lists that the promises speak of are the record's patterns and pixels, and their differences.
 pub patterns-are : PatternsAre
 patterns-are =
     record {
@@ -65,6 +66,7 @@ rounded-up-is n d C h up =
     let most : C ≤ ceilDiv n d = up (ceilDiv n d) .1 (ceiling-division n d h (ceilDiv n d) .0 (omega arith)) in
     omega arith
 
+-- the bank, the depth and the address, each by its divisions
 bank-formula :
     (p : Plan) → IsPlan p → (v : Pixel) (q z : ℤ) (r c : ℕ) → IsDivision (v .row) (p .d) q r
     → IsDivision (v .column -ℤ pos (p .b) *ℤ q) (p .a) z c
@@ -87,6 +89,7 @@ unfolding addressOf quotient across at
 address-formula p W H C plan wide q r u s row column =
     rw (rounded-up-is W (p .a) C (plan .a-least) wide, upper-digit q (p .d) r row, upper-digit u (p .a) s column) refl
 
+-- Banks, depths, addresses and wrapped pixels are what document 01's formulas give.
 pub formulas-are : FormulasAre
 unfolding wrapped ringMoved recordPixel at
 formulas-are =
