@@ -7,7 +7,7 @@ use mathlib.Core.Option.{Option, none}
 use mathlib.Core.List.{List, map, map-map, map-congr-left}
 use lib.ListN.{length, length-map}
 use Rattle.integers.specs.Gcd.{Multiple}
-use Rattle.scope.specs.Plans.{Pixel, plus, patternAt, pixels, banks}
+use Rattle.scope.specs.Plans.{Pixel, patternAt, banks}
 use Rattle.scope.specs.Banks.{bankOf, wordOf, wordIn, overStart, wrapped}
 use Rattle.scope.specs.Numbers.{ofCounted}
 use Rattle.scope.specs.Calls.{Result, changed, moved, fetch, ringMoved, ringFetch}
@@ -19,11 +19,12 @@ use Rattle.scope.specs.declared.Book.{Book}
 use Rattle.scope.specs.declared.Counted.{Counted}
 use Rattle.scope.specs.declared.Refusal.{Refusal}
 use Rattle.laws.proofs.Chains.{changed-none-answer, changed-none-content}
-use Rattle.laws.proofs.Patterns.{origin, length-pixels}
+use Rattle.laws.proofs.Patterns.{origin}
 use Rattle.laws.proofs.Lists.{getD-map}
 use Rattle.laws.proofs.Outputs.{over-start-words, over-start-rest, over-start-length}
 use Rattle.lattice.proofs.Rings.{ring-keeps-banks}
 use Rattle.lattice.proofs.Apart.{fetched-banks-differ}
+use Rattle.lattice.proofs.Formulas.{moved-size}
 use Rattle.buffer.proofs.CallTests.{fetch-test-iff, ring-fetch-test-iff}
 
 -- the words at the pixels vs, in order
@@ -53,14 +54,10 @@ module _ (p : Plan) (W H : ℕ) (mem : List ℕ) (vs : List Pixel) (out : List �
         apart = different;
       }
 
--- a fetch has as many pixels as its pattern, wrapped or not
-length-moved : (book : Book) (n : ℕ) (o : Pixel) → length (moved book n o) ≡ patternAt book n .used
-unfolding moved
-length-moved book n o = length-map (pixels (patternAt book n)) (plus o) ∙ length-pixels (patternAt book n)
-
+-- a ring fetch has as many pixels as its pattern
 length-ring-moved : (book : Book) (W H n : ℕ) (o : Pixel) → length (ringMoved book W H n o) ≡ patternAt book n .used
 unfolding ringMoved
-length-ring-moved book W H n o = length-map (moved book n o) (wrapped W H) ∙ length-moved book n o
+length-ring-moved book W H n o = length-map (moved book n o) (wrapped W H) ∙ moved-size book n o
 
 -- if wrapping keeps the bank of a pixel, it keeps the banks of a fetch
 same-banks :
@@ -82,7 +79,7 @@ module _
     unfolding fetch
     fetch-gives inside =
         fetched-all p W H mem (moved book n o) out _ (fetch-test-iff p W H (length mem) book n o (length out) .1 (legal, (inside, enough)))
-        (omega (arith, length-moved book n o))
+        (omega (arith, moved-size book n o))
         moved-different
 
     module _ (W-multiple : Multiple (banks p) W) (H-multiple : Multiple (banks p) H) where

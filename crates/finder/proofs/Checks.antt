@@ -5,7 +5,7 @@ use Prim.Native.Nat.{_+_, _-_, _≤_}
 use native.Mathlib.Omega.{arith}
 use mathlib.Core.Path.{_≡_, refl, sym, _∙_, ap, subst}
 use mathlib.Core.Logic.{_↔_, _⊎_, inl, inr}
-use mathlib.Core.Bool.{true, false, not-eq-not}
+use mathlib.Core.Bool.{true, false}
 use mathlib.Core.Option.{Option, none, some}
 use mathlib.Core.List.{List}
 use Rattle.scope.specs.Plans.{Pixel, patterns, banks, suitsAll, determinantSize, normalForm}
@@ -20,7 +20,7 @@ use Rattle.scope.specs.declared.Clash.{Clash}
 use Rattle.scope.specs.declared.Checked.{Checked}
 use Rattle.scope.specs.declared.Verdict.{Verdict}
 use Rattle.scope.specs.declared.Refusal.{Refusal}
-use Rattle.laws.proofs.Searches.{none-not-some}
+use Rattle.laws.proofs.Searches.{none-not-some, not-true-is-false}
 use Rattle.laws.proofs.Chains.{value-not-refusal, value-injective, answered-none, answered-value}
 use Rattle.laws.proofs.Booleans.{last-test, test-before}
 use Rattle.laws.proofs.Tests.{independent-iff, size-within-iff}
@@ -108,7 +108,7 @@ module _ (book : Book) (x y : Pixel) where
           (check-legal-iff book x y .1 (legal, (independent, within)))
 
       unsuited : (c : Clash) → clash form ts ≡ some c → suitsAll form ts ≡ false
-      unsuited c e = not-eq-not {b = false} .0 (λ h. none-not-some (sym (suits-iff .1 h) ∙ e))
+      unsuited c e = not-true-is-false _ (λ h. none-not-some (sym (suits-iff .1 h) ∙ e))
 
       by-clash : (o : Option Clash) → clash form ts ≡ o → Decided
       by-clash none e = inl (suits-iff .0 e, (_, ap ofVerdict (passed ∙ judged-suits ts form e)))

@@ -6,9 +6,9 @@ use mathlib.Core.Logic.{_↔_}
 use mathlib.Core.List.{[], _∷_}
 use native.Mathlib.Nat.{div-add-mod', mod-lt, div-lt-iff-lt-mul, mul-comm}
 use lib.IntN.{ℤ, pos, negsuc, _+ℤ_, _*ℤ_, _-ℤ_}
-use Rattle.integers.specs.Division.{floorDiv, floorMod}
+use Rattle.integers.specs.Division.{floorDiv, floorMod, IsDivision}
 use Rattle.integers.proofs.Ring.{ring, linear, _·_, reify}
-use Rattle.integers.proofs.Divisions.{division, remainder-below, quotient-is, remainder-is}
+use Rattle.integers.proofs.Divisions.{division, remainder-below, floor-division}
 use Rattle.integers.proofs.Digits.{upper-digit, lower-digit, digits-determine, digits-below}
 use Rattle.scope.specs.Plans.{Pixel, at, minus, banks, InLattice}
 use Rattle.scope.specs.Banks.{quotient, remainder, bankOf}
@@ -57,20 +57,28 @@ module _ (p : Plan) (plan : IsPlan p) where
   pub lane-of-bank : (v : Pixel) → bankOf p v % p .a ≡ lane p v
   lane-of-bank v = rw (bank-digits v) (lower-digit (remainder p v) (p .a) (lane p v) (lane-below-a v))
 
-  -- it is so for any q, r and x, c with j = q × d + r and i = b × q + (x × a + c)
+  -- it is so for any division j = q × d + r and i - b × q = x × a + c
+  pub bank-by-divisions :
+      (v : Pixel) (q x : ℤ) (r c : ℕ) → IsDivision (v .row) (p .d) q r → IsDivision (v .column -ℤ pos (p .b) *ℤ q) (p .a) x c
+      → bankOf p v ≡ r * p .a + c
+  unfolding bankOf quotient remainder
+  bank-by-divisions v q x r c row column =
+      let (q-is, r-is) = floor-division (v .row) (p .d) (plan .d-least) q r .0 row in
+      let (x-is, c-is) = floor-division (v .column -ℤ pos (p .b) *ℤ q) (p .a) (plan .a-least) x c .0 column in
+      rw (r-is, c-is, q-is) refl
+
   pub bank-is :
       (v : Pixel) (q x : ℤ) (r c : ℕ) → r < p .d → c < p .a → v .row ≡ q *ℤ pos (p .d) +ℤ pos r
       → v .column ≡ pos (p .b) *ℤ q +ℤ (x *ℤ pos (p .a) +ℤ pos c)
       → bankOf p v ≡ r * p .a + c
-  unfolding bankOf quotient remainder
   bank-is v q x r c r-below c-below row column =
-      let q-is : floorDiv (v .row) (p .d) ≡ q = quotient-is (p .d) (plan .d-least) (v .row) q r r-below row in
-      let r-is : floorMod (v .row) (p .d) ≡ r = remainder-is (p .d) (plan .d-least) (v .row) q r r-below row in
-      rw (q-is, r-is)
-      (ap (λ (n : ℕ). r * p .a + n)
-      (remainder-is (p .a) (plan .a-least) (v .column -ℤ pos (p .b) *ℤ q) x c c-below
-      (linear ((pos 1 · column) ∷ [])
-      (ring (v .column ∷ q ∷ x ∷ pos (p .b) ∷ pos (p .a) ∷ pos c ∷ []) (search reify depth 40 fits 9000) refl))))
+      bank-by-divisions v q x r c (record { sum = row; below = r-below })
+      (record {
+        sum =
+            linear ((pos 1 · column) ∷ [])
+            (ring (v .column ∷ q ∷ x ∷ pos (p .b) ∷ pos (p .a) ∷ pos c ∷ []) (search reify depth 40 fits 9000) refl);
+        below = c-below;
+      })
 
   -- same bank exactly if both digits are the same
   bank-parts : (v w : Pixel) → (bankOf p v ≡ bankOf p w) ↔ ((remainder p v ≡ remainder p w) × (lane p v ≡ lane p w))

@@ -5,13 +5,13 @@ use mathlib.Core.Path.{_≡_, refl, sym, _∙_, ap, ap₂}
 use mathlib.Core.Logic.{_↔_}
 use mathlib.Core.List.{List, [], List·Memᴰ}
 use native.Mathlib.Omega.{arith}
-use lib.IntN.{ℤ, pos, _+ℤ_, _-ℤ_, _*ℤ_}
+use lib.IntN.{pos, _+ℤ_}
 use lib.ListN.{length, getD, length-map}
-use Rattle.integers.specs.Division.{ceilDiv, IsDivision}
+use Rattle.integers.specs.Division.{ceilDiv}
 use Rattle.integers.proofs.Digits.{upper-digit}
 use Rattle.integers.proofs.Divisions.{floor-division, ceiling-division}
 use Rattle.scope.specs.Plans.{Pixel, at, plus, minus, pixelAt, patternAt, pixels, differences}
-use Rattle.scope.specs.Banks.{quotient, remainder, bankOf, across, addressOf, depthOf, wrapped}
+use Rattle.scope.specs.Banks.{quotient, across, addressOf, depthOf, wrapped}
 use Rattle.scope.specs.Calls.{moved, ringMoved, recordPixel}
 use Rattle.scope.specs.Meaning.{IsPlan, PatternsAre}
 use Rattle.scope.specs.PicturePromises.{RoundedUp, FormulasAre}
@@ -19,6 +19,7 @@ use Rattle.scope.specs.declared.Plan.{Plan}
 use Rattle.scope.specs.declared.Book.{Book}
 use Rattle.laws.proofs.Lists.{getD-map}
 use Rattle.laws.proofs.Patterns.{origin, length-pixels, getD-pixels, length-patterns, getD-patterns}
+use Rattle.lattice.proofs.Banks.{bank-by-divisions}
 use Rattle.lattice.proofs.Suits.{DifferenceIn, mem-differences, differences-mem, suits-all-iff}
 
 -- a difference is that of two different pixels
@@ -32,7 +33,7 @@ difference-iff t v = (
 )
 
 -- a moved pattern: how many pixels, and the one at a position
-moved-size : (book : Book) (n : ℕ) (o : Pixel) → length (moved book n o) ≡ patternAt book n .used
+pub moved-size : (book : Book) (n : ℕ) (o : Pixel) → length (moved book n o) ≡ patternAt book n .used
 unfolding moved
 moved-size book n o = length-map (pixels (patternAt book n)) (plus o) ∙ length-pixels (patternAt book n)
 
@@ -66,17 +67,7 @@ rounded-up-is n d C h up =
     let most : C ≤ ceilDiv n d = up (ceilDiv n d) .1 (ceiling-division n d h (ceilDiv n d) .0 (omega arith)) in
     omega arith
 
--- the bank, the depth and the address, each by its divisions
-bank-formula :
-    (p : Plan) → IsPlan p → (v : Pixel) (q z : ℤ) (r c : ℕ) → IsDivision (v .row) (p .d) q r
-    → IsDivision (v .column -ℤ pos (p .b) *ℤ q) (p .a) z c
-    → bankOf p v ≡ r * p .a + c
-unfolding bankOf quotient remainder
-bank-formula p plan v q z r c row column =
-    let (q-is, r-is) = floor-division (v .row) (p .d) (plan .d-least) q r .0 row in
-    let (z-is, c-is) = floor-division (v .column -ℤ pos (p .b) *ℤ q) (p .a) (plan .a-least) z c .0 column in
-    rw (r-is, c-is, q-is) refl
-
+-- the depth and the address, each by its divisions
 depth-formula : (p : Plan) (W H C R : ℕ) → IsPlan p → RoundedUp W (p .a) C → RoundedUp H (p .d) R → depthOf p W H ≡ C * R
 unfolding depthOf across
 depth-formula p W H C R plan wide high =
@@ -94,7 +85,7 @@ pub formulas-are : FormulasAre
 unfolding wrapped ringMoved recordPixel at
 formulas-are =
     record {
-      bank = bank-formula;
+      bank = bank-by-divisions;
       depth = depth-formula;
       address = address-formula;
       wrapped-column = λ W H h v q c e. ap pos (sym (floor-division (v .column) W h q c .0 e .1));

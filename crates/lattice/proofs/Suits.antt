@@ -5,7 +5,7 @@ use native.Mathlib.Omega.{arith}
 use native.Mathlib.Decide.{decLt}
 use mathlib.Core.Path.{_≡_, refl, sym, _∙_, ap}
 use mathlib.Core.Logic.{_↔_, Iff·symm, Iff·trans, _⊎_, inl, inr}
-use mathlib.Core.Bool.{Bool, true, false, not, cond, not-eq-not}
+use mathlib.Core.Bool.{Bool, true, false, not, cond}
 use mathlib.Core.Option.{Option, none}
 use mathlib.Core.List.{List, [], _∷_, flatMap, List·Memᴰ, List·Memᴰ·head, List·Memᴰ·not-nil, List·Memᴰ·cases-cons}
 use lib.ListN.{length, getD}
@@ -15,7 +15,7 @@ use Rattle.scope.specs.Finding.{meeting, clashIn}
 use Rattle.scope.specs.Meaning.{SuitsMeans}
 use Rattle.scope.specs.declared.Plan.{Plan}
 use Rattle.scope.specs.declared.Clash.{Clash}
-use Rattle.laws.proofs.Searches.{true-not-false, first-none, none-first, whenever-none, none-whenever, every-holds, holds-every}
+use Rattle.laws.proofs.Searches.{true-not-false, fails-iff, not-true-is-false, first-none, none-first, whenever-none, none-whenever, every-holds, holds-every}
 use Rattle.laws.proofs.Lists.{mem-getD, getD-mem, mem-flatMap, flatMap-mem}
 use Rattle.laws.proofs.BookTests.{same-pixel-iff}
 use Rattle.laws.proofs.Patterns.{origin, Different}
@@ -81,7 +81,7 @@ suits-iff-apart p t = (there, back)
         true-not-false (sym (every-holds fails (differences t) e (minus v w) (differences-mem t v w m k unlike)) ∙ ap not h)
 
     back : Apart p t → suits p t ≡ true
-    back h = holds-every fails (differences t) (λ v m. ap not (not-eq-not {b = false} .0 (not-in v (mem-differences t v m))))
+    back h = holds-every fails (differences t) (λ v m. ap not (not-true-is-false _ (not-in v (mem-differences t v m))))
       where
         not-in : (v : Pixel) → DifferenceIn t v → latticeTest p v ≡ true → ⊥
         not-in v d e = h (d .left) (d .right) (d .left-in) (d .right-in) (d .different) (ap (latticeTest p) (sym (d .is)) ∙ e)
@@ -103,7 +103,7 @@ NoneMeets p t = (e l : ℕ) → e < l → l < length t → MeetsAt p t e l → �
 -- A pair of positions is no clash exactly if it does not meet.
 pub no-meeting-iff : (p : Plan) (t : List Pixel) (n e l : ℕ) → (meeting p t n e l ≡ none) ↔ (MeetsAt p t e l → ⊥)
 unfolding meeting
-no-meeting-iff p t n e l = Iff·trans (whenever-none _ _, none-whenever _ _) (Iff·symm (not-eq-not {b = false}))
+no-meeting-iff p t n e l = Iff·trans (whenever-none _ _, none-whenever _ _) (fails-iff _)
 
 -- The search for a clash finds nothing exactly if no two positions meet.
 pub no-clash-iff-none-meets : (p : Plan) (n : ℕ) (t : List Pixel) → (clashIn p n t ≡ none) ↔ NoneMeets p t

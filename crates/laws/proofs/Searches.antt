@@ -5,8 +5,8 @@ use native.Mathlib.Nat.{add-zero, add-suc, suc-add}
 use native.Mathlib.Omega.{arith}
 use native.Mathlib.Decide.{ℕ-discrete}
 use mathlib.Core.Path.{_≡_, refl, sym, _∙_, ap, ap₂}
-use mathlib.Core.Logic.{_⊎_, inl, inr}
-use mathlib.Core.Bool.{Bool, true, false, _||_}
+use mathlib.Core.Logic.{_↔_, _⊎_, inl, inr, Iff·symm}
+use mathlib.Core.Bool.{Bool, true, false, _||_, not-eq-not}
 pub use mathlib.Core.Bool.{true≢false as true-not-false}
 use mathlib.Core.Option.{Option, none, some}
 use mathlib.Core.List.{List, [], _∷_, List·Memᴰ, List·Memᴰ·head, List·Memᴰ·tail, List·Memᴰ·not-nil, List·Memᴰ·cases-cons}
@@ -20,14 +20,15 @@ none-not-some e = let z : _≡_ {A = ℕ} 0 1 = cc in omega arith
 pub some-injective : {A : Type 0} {x y : A} → _≡_ {A = Option A} (some x) (some y) → x ≡ y
 some-injective e = cc
 
--- a test that does not hold fails, and one that does not fail holds
-pub not-true-is-false : (b : Bool) → (b ≡ true → ⊥) → b ≡ false
-not-true-is-false true h = absurd (h refl)
-not-true-is-false false h = refl
+-- a test fails exactly where it does not hold
+pub fails-iff : (b : Bool) → (b ≡ false) ↔ (b ≡ true → ⊥)
+fails-iff b = Iff·symm (not-eq-not {b = false})
 
-pub not-false-is-true : (b : Bool) → (b ≡ false → ⊥) → b ≡ true
-not-false-is-true true h = refl
-not-false-is-true false h = absurd (h refl)
+pub not-true-is-false : (b : Bool) → (b ≡ true → ⊥) → b ≡ false
+not-true-is-false b = fails-iff b .1
+
+not-false-is-true : (b : Bool) → (b ≡ false → ⊥) → b ≡ true
+not-false-is-true b = not-eq-not {b = true} .0
 
 -- where a search from k over n numbers stops: at its first number that gives something, which is x
 pub record Found {A : Type 0} (k n : ℕ) (f : ℕ → Option A) (x : A) : Type 0 where
