@@ -1,3 +1,4 @@
+pub mod Comparisons
 pub mod Integers
 pub mod Polynomials
 pub mod Ring
@@ -6,3 +7,5 @@ pub mod Digits
 pub mod Divisions
 pub mod Bezout
 pub mod Identities
+pub mod Sizes
+pub mod Raised

@@ -1,0 +1,51 @@
+-- The size of a sum, a product and a quotient, and that a number of small size fits its width: how code with signed
+-- numbers shows that nothing wraps.
+-- Assumes nothing.
+use Prim.Native.Nat.{ℕ, _+_, _*_, _^_, _≤_, _<_}
+use mathlib.Core.Path.{_≡_, refl}
+use native.Mathlib.Omega.{arith}
+use native.Mathlib.Nat.{div-le-self, mul-le-mul}
+use lib.IntN.{ℤ, pos, negsuc, negℤ, natAbs, _+ℤ_, _-ℤ_, _*ℤ_}
+use mir.Syntax.{Width}
+use mir.Val.{SFits, hbits}
+use Rattle.integers.specs.Division.{floorDiv}
+use Rattle.integers.proofs.Integers.{above, below, own-parts, same-difference, parts-add, size-of-neg, size-of-product}
+
+pub small-fits : (w : Width) (n : ℕ) (z : ℤ) → natAbs z ≤ n → n < 2 ^ hbits w → SFits w z
+small-fits w n (pos m) h k = record { sfits = omega arith }
+small-fits w n (negsuc m) h k = record { sfits = omega arith }
+
+size-by-parts : (z : ℤ) → natAbs z ≡ above z + below z
+size-by-parts (pos m) = omega arith
+size-by-parts (negsuc m) = omega arith
+
+size-at-most : (z : ℤ) (p q : ℕ) → above z + q ≡ p + below z → natAbs z ≤ p + q
+size-at-most (pos m) p q e = omega arith
+size-at-most (negsuc m) p q e = omega arith
+
+pub size-of-sum : (x y : ℤ) → natAbs (x +ℤ y) ≤ natAbs x + natAbs y
+size-of-sum x y =
+    omega (
+      arith,
+      size-by-parts x,
+      size-by-parts y,
+      size-at-most (x +ℤ y) (above x + above y) (below x + below y)
+          (same-difference refl (own-parts (x +ℤ y)) (parts-add (own-parts x) (own-parts y))),
+    )
+
+pub size-of-difference : (x y : ℤ) → natAbs (x -ℤ y) ≤ natAbs x + natAbs y
+size-of-difference x y = omega (arith, size-of-sum x (negℤ y), size-of-neg y)
+
+pub size-of-product-at-most : (m n : ℕ) (x y : ℤ) → natAbs x ≤ m → natAbs y ≤ n → natAbs (x *ℤ y) ≤ m * n
+size-of-product-at-most m n x y h k = omega (arith, size-of-product x y, mul-le-mul {n₂ = m} {m₂ = n} h k)
+
+-- rounding down does not raise the size
+pub size-of-quotient : (z : ℤ) (d : ℕ) → natAbs (floorDiv z d) ≤ natAbs z
+unfolding floorDiv
+size-of-quotient (pos n) d = div-le-self n d
+size-of-quotient (negsuc n) d = omega (arith, div-le-self n d)
+
+-- the size of a number that fits w bits
+pub fitting-size : (w : Width) (z : ℤ) → SFits w z → natAbs z ≤ 2 ^ hbits w
+fitting-size w (pos m) f = omega (arith, f .sfits)
+fitting-size w (negsuc m) f = omega (arith, f .sfits)

@@ -1,0 +1,31 @@
+-- `integers::remainder` meets its contract: z + 2^31 × (top + 1) is not negative and has z's remainder.
+-- Assumes nothing.
+use borrow.Author.Needs.{needs}
+use Rattle.integers.proofs.Raised.{raised-read, raised-remainder}
+use Rattle.integers.proofs.remainder.Statement.{statement}
+use Rattle.integers.proofs.remainder.Tie as tie
+
+raised32-requires : tie.Need-raised32-requires
+raised32-requires c κs = search needs
+
+mul-result : tie.Need-mul-result
+mul-result c = search needs
+
+add-result : tie.Need-add-result
+add-result c = search needs
+
+add-result-2 : tie.Need-add-result-2
+add-result-2 c = search needs
+
+rem-result : tie.Need-rem-result
+rem-result c = search needs
+
+returns : tie.Need-returns
+returns c =
+    raised-remainder 2147483648 (c .raised32 .result) (c .before .args .z)
+    (raised-read 2147483648 (c .before .fits .z) (c .raised32 .ensures .0))
+    (c .before .args .top)
+
+pub remainder-spec : {M : Type 1} → statement M
+remainder-spec =
+    tie.close (tie.spec raised32-requires mul-result add-result add-result-2 rem-result returns)
