@@ -11,7 +11,7 @@ use Rattle.scope.specs.Plans.{Pixel, at, plan, patternAt}
 use Rattle.scope.specs.Finding.{boxWidth, boxHeight}
 use Rattle.scope.specs.Books.{bookOf}
 use Rattle.scope.specs.Numbers.{Answer, value}
-use Rattle.scope.specs.Calls.{readBook, patternPart, partOutcome, writeBook, normal, find, check, bank, depth, address, locate}
+use Rattle.scope.specs.Calls.{readBook, patternPart, partPlace, recordOutcome, partOutcome, writeBook, normal, find, check, bank, depth, address, locate}
 use Rattle.scope.specs.Program.{ascii, decimal, programText}
 use Rattle.scope.specs.Rows.{Row, Hold, row, is, refused, clashes, planned, counted, located, done, neg, px, one, two, gap, threeAndThree, cross, finds, reads, checks, caseOf}
 use Rattle.scope.specs.declared.Plan.{Plan}
@@ -108,11 +108,14 @@ bookOrders-hold = refl
 
 -- What was read, and a pattern's part of the bytes.
 parts : List Row
-unfolding row is refused planned find readBook done patternPart partOutcome book33 patternAt
+unfolding row is refused planned find readBook done patternPart partPlace recordOutcome partOutcome book33 patternAt px bookOf
 parts =
     row (planned (find (readBook book33 .book) 1024)) (is (3 ∷ 1 ∷ 1 ∷ []))
     ∷ row (is (patternPart book33 1)) (is (0 ∷ 0 ∷ 0 ∷ 1 ∷ 0 ∷ 2 ∷ []))
     ∷ row (is (patternPart book33 2)) (is [])
+    ∷ row (is (partPlace book33 0 ∷ partPlace book33 1 ∷ partPlace book33 2 ∷ [])) (is (2 ∷ 9 ∷ 0 ∷ []))
+    ∷ row (done (recordOutcome (readBook book33 .book))) (is [])
+    ∷ row (done (recordOutcome (bookOf ((px 0 0 ∷ px 0 0 ∷ []) ∷ [])))) (refused 4 0)
     ∷ row (done (partOutcome book33 2)) (refused 17 0)
     ∷ row (done (partOutcome (book33 ++ (0 ∷ [])) 2)) (refused 5 15)
     ∷ row (is (patternPart (1 ∷ 1 ∷ 3 ∷ 4 ∷ 0 ∷ []) 0)) (is [])

@@ -10,7 +10,7 @@ use Rattle.scope.specs.Search.{firstOf}
 use Rattle.scope.specs.Plans.{Pixel, plus, pixels, patterns, patternAt, banks, normalForm}
 use Rattle.scope.specs.Finding.{leastPlan, leastCount, clash}
 use Rattle.scope.specs.Banks.{bankOf, addressOf, depthOf, pixelOf, wordIn, afterStore, afterClear, bankSum, overStart, wrapped}
-use Rattle.scope.specs.Books.{byte, partIn, bookIn, bookOf, bookBytes}
+use Rattle.scope.specs.Books.{byte, place, partIn, bookIn, bookOf, bookBytes}
 use Rattle.scope.specs.Numbers.{bytesTest, recordTest, limitTest, dependentTest, largeTest, suitsTest, planTest, sidesTest, memoryTest, outsideTest, bankTest, cellTest, outputTest, numberTest, ringTest}
 use Rattle.scope.specs.declared.Plan.{Plan}
 use Rattle.scope.specs.declared.Book.{Book}
@@ -58,6 +58,16 @@ patternPart s n = answered (partTest s n) (λ r. []) (partIn s n)
 unfoldable pub partOutcome : List ℕ → ℕ → Outcome
 unfolding answered partTest
 partOutcome s n = answered (partTest s n) Outcome.Refused Outcome.Done
+
+-- "the part of the book where they stand": where it begins, the first pixel's place; an empty part is at the start
+unfoldable pub partPlace : List ℕ → ℕ → ℕ
+unfolding answered partTest place
+partPlace s n = answered (partTest s n) (λ r. 0) (place s n 0)
+
+-- "A call given a book record tests 2, 3, 4 in book order": that test by itself
+unfoldable pub recordOutcome : Book → Outcome
+unfolding answered recordTest
+recordOutcome book = answered (recordTest book) Outcome.Refused Outcome.Done
 
 -- Write a record, and tell how many bytes: 2, 3, 4, "the writer then 16".
 unfoldable pub writeBook : Book → List ℕ → Result Counted (List ℕ)

@@ -1,4 +1,5 @@
-// Document 01's types. What each call does with them is defined in specs/.
+// Document 01's types. What each call does with them is defined in specs/; the calls on a plan are in plans.rt.
+mod plans;
 
 // A pattern: the columns and rows of its pixels, of which the first `used` count.
 pub struct Pattern {

@@ -1,0 +1,3 @@
+pub mod PlanFacts
+pub mod Answers
+pub mod Cells

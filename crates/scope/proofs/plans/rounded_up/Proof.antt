@@ -1,0 +1,23 @@
+-- `scope::plans::rounded_up` meets its contract.
+-- Assumes nothing.
+use mathlib.Core.Path.{refl}
+use borrow.Author.Needs.{needs}
+use Rattle.integers.specs.Division.{ceilDiv}
+use Rattle.scope.proofs.plans.rounded_up.Statement.{statement}
+use Rattle.scope.proofs.plans.rounded_up.Tie as tie
+
+sub-result : tie.Need-sub-result
+sub-result c = search needs
+
+add-result : tie.Need-add-result
+add-result c = search needs
+
+div-result : tie.Need-div-result
+div-result c = search needs
+
+returns : tie.Need-returns
+unfolding ceilDiv
+returns c = refl
+
+pub rounded-up-spec : {M : Type 1} → statement M
+rounded-up-spec = tie.close (tie.spec sub-result add-result div-result returns)
