@@ -9,6 +9,7 @@ use mathlib.Core.Option.{none}
 use lib.Dec.{leb, leb→le, le→leb}
 use lib.IntN.{ℤ, pos, negsuc}
 use Rattle.integers.proofs.Divisions.{same-number-means}
+use Rattle.integers.proofs.Comparisons.{leb-iff, and-iff}
 use Rattle.scope.specs.Plans.{Pixel, samePixel, pixelAt, patternAt}
 use Rattle.scope.specs.Numbers.{countTest, small, repeats, pixelTest, patternTest, recordTest}
 use Rattle.scope.specs.Meaning.{InRange, IsPattern, IsBook}
@@ -17,7 +18,7 @@ use Rattle.scope.specs.declared.Book.{Book}
 use Rattle.scope.specs.declared.Refusal.the-variants.{Count, Coordinate, Repeat}
 use Rattle.laws.proofs.Searches.{true-not-false, not-true-is-false, someBelow-none, none-someBelow}
 use Rattle.laws.proofs.Patterns.{same-coordinates}
-use Rattle.laws.proofs.Booleans.{leb-iff, and-iff, refuses-iff, demands-iff, last-test, test-before, first-iff}
+use Rattle.laws.proofs.Booleans.{refuses-iff, demands-iff, last-test, test-before, first-iff}
 
 -- the same pixel is an equal one
 pub same-pixel-iff : (v w : Pixel) → (samePixel v w ≡ true) ↔ (v ≡ w)

@@ -36,6 +36,12 @@ pub chain-goes-on : (t : Option Refusal) (ts : List (Option Refusal)) → t ≡ 
 unfolding firstOf
 chain-goes-on t ts e = rw (e, firstOf)
 
+-- A chain of one test is that test.
+pub chain-of-one : (t : Option Refusal) → firstOf (t ∷ []) ≡ t
+unfolding firstOf
+chain-of-one none = refl
+chain-of-one (some r) = refl
+
 -- It finds nothing exactly where none of its tests does.
 all-none : (tests : List (Option Refusal)) → firstOf tests ≡ none → (t : Option Refusal) → List·Memᴰ t tests → t ≡ none
 all-none [] e t m = absurd (List·Memᴰ·not-nil m)
@@ -86,7 +92,8 @@ module _ {X : Type 0} where
   unfolding answered
   answered-none t refused x e = rw (e, answered)
 
-  pub answered-some : (t : Option Refusal) (refused : Refusal → X) (x : X) (r : Refusal) → t ≡ some r → answered t refused x ≡ refused r
+  pub answered-some :
+      (t : Option Refusal) (refused : Refusal → X) (x : X) (r : Refusal) → t ≡ some r → answered t refused x ≡ refused r
   unfolding answered
   answered-some t refused x r e = rw (e, answered)
 
@@ -147,7 +154,8 @@ module _ {X A : Type 0} (of : X → Answer A) (t : Option Refusal) (refused : Re
       by-tests : (s : Option Refusal) → t ≡ s → RefusedBy t n i c ⊎ ((t ≡ none) × (of x ≡ refusal n i c))
       by-tests none h = inr (h, ap of (sym (answered-none t refused x h)) ∙ e)
       by-tests (some r) h =
-          let d : _≡_ {A = Answer A} (turnedDown r) (refusal n i c) = sym (reads r) ∙ ap of (sym (answered-some t refused x r h)) ∙ e in
+          let d : _≡_ {A = Answer A} (turnedDown r) (refusal n i c) =
+          sym (reads r) ∙ ap of (sym (answered-some t refused x r h)) ∙ e in
           inl (r, h, refusal-number d, refusal-place d, refusal-clash d)
 
   -- the same of a call that changes what it was lent

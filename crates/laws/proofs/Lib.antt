@@ -1,5 +1,6 @@
 pub mod Searches
 pub mod Lists
+pub mod Filling
 pub mod Patterns
 pub mod Outputs
 pub mod Chains

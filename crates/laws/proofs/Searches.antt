@@ -9,7 +9,7 @@ use mathlib.Core.Logic.{_↔_, _⊎_, inl, inr, Iff·symm}
 use mathlib.Core.Bool.{Bool, true, false, _||_, not-eq-not}
 pub use mathlib.Core.Bool.{true≢false as true-not-false}
 use mathlib.Core.Option.{Option, none, some}
-use mathlib.Core.List.{List, [], _∷_, List·Memᴰ, List·Memᴰ·head, List·Memᴰ·tail, List·Memᴰ·not-nil, List·Memᴰ·cases-cons}
+use mathlib.Core.List.{List, [], _∷_, _++_, List·Memᴰ, List·Memᴰ·head, List·Memᴰ·tail, List·Memᴰ·not-nil, List·Memᴰ·cases-cons}
 use lib.ListN.{length, getD}
 use Rattle.scope.specs.Search.{first, gather, whenever, every, someBelow}
 
@@ -125,6 +125,14 @@ module _ {A : Type 0} where
   getD-gather k zero f i x h = absurd (omega arith)
   getD-gather k (suc n) f zero x h = ap f (sym (add-zero k))
   getD-gather k (suc n) f (suc i) x h = getD-gather (suc k) n f i x (omega arith) ∙ ap f (suc-add k i ∙ sym (add-suc k i))
+
+  -- one number more of the range is one entry more at the end
+  pub gather-one-more : (k n : ℕ) (f : ℕ → A) → gather k (suc n) f ≡ gather k n f ++ (f (k + n) ∷ [])
+  unfolding gather
+  gather-one-more k zero f = ap {B = List A} (λ i. f i ∷ []) (sym (add-zero k))
+  gather-one-more k (suc n) f =
+      ap {B = List A} (λ xs. f k ∷ xs) (gather-one-more (suc k) n f)
+      ∙ ap {B = List A} (λ i. f k ∷ (gather (suc k) n f ++ (f i ∷ []))) (suc-add k n ∙ sym (add-suc k n))
 
   -- it sees only the numbers of its range
   pub gather-same : (k n : ℕ) (f g : ℕ → A) → ((i : ℕ) → k ≤ i → i < k + n → f i ≡ g i) → gather k n f ≡ gather k n g

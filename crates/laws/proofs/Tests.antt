@@ -1,28 +1,29 @@
 -- What each test of a call means: it finds nothing exactly where its condition does not hold.
 -- Assumes nothing.
 use Prim.Native.Nat.{ℕ, _*_, _%_, _≤_, _<_}
-use mathlib.Core.Path.{_≡_, refl, sym, ap}
+use mathlib.Core.Path.{_≡_, ap}
 use mathlib.Core.Logic.{_↔_, Iff·trans, Iff·not}
 use mathlib.Core.Bool.{true, not, _&&_, _||_}
 use mathlib.Core.Option.{none}
 use mathlib.Core.List.{List}
 use lib.Dec.{leb, ltb, eqb}
-use lib.IntN.{ℤ, pos, negsuc, natAbs, pos-ne-negsuc}
+use lib.IntN.{natAbs}
 use Rattle.integers.specs.Gcd.{Multiple}
 use Rattle.integers.proofs.Integers.{size-zero}
 use Rattle.integers.proofs.Divisions.{no-remainder-iff}
+use Rattle.integers.proofs.Comparisons.{leb-iff, leb-false-iff, ltb-false-iff, eqb-iff, eqb-false-iff, and-iff, or-false-iff, not-iff}
 use Rattle.scope.specs.Search.{every}
 use Rattle.scope.specs.Plans.{Pixel, banks, isPlan, determinant, determinantSize}
-use Rattle.scope.specs.Banks.{within, inside, depthOf, pixelOf}
+use Rattle.scope.specs.Banks.{inside, depthOf, pixelOf}
 use Rattle.scope.specs.Numbers.{limitTest, dependentTest, largeTest, planTest, isSide, sidesTest, memoryTest, outsideTest}
 use Rattle.scope.specs.Numbers.{bankTest, cellTest, outputTest, numberTest, ringTest}
-use Rattle.scope.specs.Meaning.{IsPlan, IsSide, Inside, AllInside, Independent, InsideMeans}
+use Rattle.scope.specs.Meaning.{IsPlan, IsSide, Inside, AllInside, Independent}
 use Rattle.scope.specs.declared.Plan.{Plan}
 use Rattle.scope.specs.declared.Refusal.the-variants.{Limit, Dependent, Large, NotPlan, Sides, Memory}
 use Rattle.scope.specs.declared.Refusal.the-variants.{Outside, Cell, Output, NoPattern, Ring}
-use Rattle.laws.proofs.Searches.{true-not-false, every-holds, holds-every}
-use Rattle.laws.proofs.Booleans.{leb-iff, leb-false-iff, ltb-iff, ltb-false-iff, eqb-iff, eqb-false-iff}
-use Rattle.laws.proofs.Booleans.{and-iff, or-false-iff, not-iff, refuses-iff, demands-iff}
+use Rattle.scope.proofs.PlanFacts.{is-plan-iff, are-sides-iff, inside-iff}
+use Rattle.laws.proofs.Searches.{every-holds, holds-every}
+use Rattle.laws.proofs.Booleans.{refuses-iff, demands-iff}
 
 -- 6: the limit is 1 to 1024
 pub limit-legal-iff : (limit : ℕ) → (limitTest limit ≡ none) ↔ ((1 ≤ limit) × (limit ≤ 1024))
@@ -42,53 +43,28 @@ unfolding largeTest
 size-within-iff x y = refuses-iff (ltb 1024 (determinantSize x y)) Large (ltb-false-iff 1024 (determinantSize x y))
 
 -- 11: a plan as defined
-is-plan-iff : (p : Plan) → (isPlan p ≡ true) ↔ IsPlan p
-unfolding isPlan banks
-is-plan-iff p =
-    Iff·trans
-    (and-iff _ _ (and-iff _ _ (and-iff _ _ (leb-iff 1 (p .a)) (leb-iff 1 (p .d))) (ltb-iff (p .b) (p .a))) (leb-iff (p .a * p .d) 1024)) (
-      λ h. record { a-least = h .0 .0 .0; d-least = h .0 .0 .1; b-below = h .0 .1; most = h .1 },
-      λ h. (((h .a-least, h .d-least), h .b-below), h .most),
-    )
-
 pub plan-legal-iff : (p : Plan) → (planTest p ≡ none) ↔ IsPlan p
 unfolding planTest
 plan-legal-iff p = demands-iff (isPlan p) NotPlan (is-plan-iff p)
 
 -- 12: both sides are 1 to 4096
-is-side-iff : (n : ℕ) → (isSide n ≡ true) ↔ IsSide n
-unfolding isSide
-is-side-iff n = and-iff _ _ (leb-iff 1 n) (leb-iff n 4096)
-
 pub sides-legal-iff : (W H : ℕ) → (sidesTest W H ≡ none) ↔ (IsSide W × IsSide H)
 unfolding sidesTest
-sides-legal-iff W H = demands-iff (isSide W && isSide H) Sides (and-iff _ _ (is-side-iff W) (is-side-iff H))
+sides-legal-iff W H = demands-iff (isSide W && isSide H) Sides (are-sides-iff W H)
 
 -- 13: the memory has N × depth words
 pub memory-enough-iff : (p : Plan) (W H words : ℕ) → (memoryTest p W H words ≡ none) ↔ (banks p * depthOf p W H ≤ words)
 unfolding memoryTest
-memory-enough-iff p W H words = refuses-iff (ltb words (banks p * depthOf p W H)) Memory (ltb-false-iff words (banks p * depthOf p W H))
+memory-enough-iff p W H words =
+    refuses-iff (ltb words (banks p * depthOf p W H)) Memory (ltb-false-iff words (banks p * depthOf p W H))
 
 -- 14: every pixel is inside the picture
-within-iff : (z : ℤ) (n : ℕ) → (within z n ≡ true) ↔ ((i : ℕ) × (z ≡ pos i) × (i < n))
-unfolding within
-within-iff (pos i) n = (λ e. (i, refl, ltb-iff i n .0 e), λ t. ltb-iff i n .1 (rw (ap natAbs (t .1)) (t .2)))
-within-iff (negsuc i) n = (λ e. absurd (true-not-false (sym e)), λ t. absurd (pos-ne-negsuc (t .0) i (sym (t .1))))
-
-pub inside-means : InsideMeans
-unfolding inside
-inside-means W H v =
-    Iff·trans (and-iff _ _ (within-iff (v .column) W) (within-iff (v .row) H)) (
-      λ t. record { i = t .0 .0; j = t .1 .0; column = t .0 .1; row = t .1 .1; i-below = t .0 .2; j-below = t .1 .2 },
-      λ t. ((t .i, t .column, t .i-below), (t .j, t .row, t .j-below)),
-    )
-
 pub all-inside-iff : (W H : ℕ) (vs : List Pixel) → (outsideTest W H vs ≡ none) ↔ AllInside W H vs
 unfolding outsideTest
 all-inside-iff W H vs =
     demands-iff (every (inside W H) vs) Outside (
-      λ e v m. inside-means W H v .0 (every-holds (inside W H) vs e v m),
-      λ h. holds-every (inside W H) vs (λ v m. inside-means W H v .1 (h v m)),
+      λ e v m. inside-iff W H v .0 (every-holds (inside W H) vs e v m),
+      λ h. holds-every (inside W H) vs (λ v m. inside-iff W H v .1 (h v m)),
     )
 
 -- 15: the bank is below N; the address is below the depth and their pixel is inside
@@ -104,7 +80,7 @@ cell-legal-iff p W H k i =
     refuses-iff (leb (banks p) k || leb (depthOf p W H) i || not (inside W H (pixelOf p W H k i))) Cell
     (Iff·trans
     (or-false-iff _ _ (or-false-iff _ _ (leb-false-iff (banks p) k) (leb-false-iff (depthOf p W H) i))
-    (not-iff _ (inside-means W H (pixelOf p W H k i))))
+    (not-iff _ (inside-iff W H (pixelOf p W H k i))))
     (λ t. (t .0 .0, t .0 .1, t .1), λ t. ((t .0, t .1), t .2)))
 
 -- 16: the output has room
