@@ -37,6 +37,9 @@ upright-is-signed x = at-row (x .column) (x .row)
         }
     at-row i (negsuc n) = record { sign = negsuc 0; unit = refl; columns = refl; rows = refl; row-size = ap pos (omega arith) }
 
+pub upright-row : (x : Pixel) → upright x .row ≡ pos (natAbs (x .row))
+upright-row x = upright-is-signed x .row-size
+
 -- upright vectors have the lattice of the given ones
 upright-gives-basis : (x y : Pixel) → SameBasis x y (upright x) (upright y)
 upright-gives-basis x y = signed (upright-is-signed x) (upright-is-signed y)
@@ -91,15 +94,15 @@ after : {x y s t v : Pixel} {g : ℕ} → SameBasis x y s t → Reduced s t v g 
 after h k = record { w = k .w; basis = same-basis-then h (k .basis); row = k .row; level = k .level }
 
 -- the next vector of Euclid's steps, where y's row is n
-next : Pixel → Pixel → ℕ → Pixel
+unfoldable pub next : Pixel → Pixel → ℕ → Pixel
 next x y n = minus x (times (floorDiv (x .row) n) y)
 
 -- Euclid's steps stop where y's row is 0, and else take a multiple of y off x
-falling-stops : (steps : ℕ) (x y : Pixel) → natAbs (y .row) ≡ 0 → falling (suc steps) x y ≡ x
+pub falling-stops : (steps : ℕ) (x y : Pixel) → natAbs (y .row) ≡ 0 → falling (suc steps) x y ≡ x
 unfolding falling
 falling-stops steps x y e = rw (e, falling)
 
-falling-goes :
+pub falling-goes :
     (steps : ℕ) (x y : Pixel) (r : ℕ) → natAbs (y .row) ≡ suc r
     → falling (suc steps) x y ≡ falling steps y (next x y (suc r))
 unfolding falling next
@@ -114,7 +117,7 @@ stop-reduces steps x y m e f =
 
 -- and n > 0, where the next vector's row is the remainder
 module _ (x y : Pixel) (m r : ℕ) (e : x .row ≡ pos m) (f : y .row ≡ pos (suc r)) where
-  next-row : next x y (suc r) .row ≡ pos (m % suc r)
+  pub next-row : next x y (suc r) .row ≡ pos (m % suc r)
   unfolding next minus times
   next-row =
       linear
@@ -135,7 +138,7 @@ module _ (x y : Pixel) (m r : ℕ) (e : x .row ≡ pos m) (f : y .row ≡ pos (s
       rw (falling-goes steps x y r (ap natAbs f), euclids-rule .step m r)
       (after (step-gives-basis x y (floorDiv (x .row) (suc r))) h)
 
-remainder-in-steps : (steps m r : ℕ) → suc r < suc steps → m % suc r < steps
+pub remainder-in-steps : (steps m r : ℕ) → suc r < suc steps → m % suc r < steps
 remainder-in-steps steps m r l = omega (arith, mod-lt m {m = suc r} (omega arith))
 
 -- with more steps than the second row, the falling remainders reduce two upright vectors
@@ -153,7 +156,6 @@ pub euclid-reduces :
     → Reduced x y (falling (suc (natAbs (y .row))) (upright x) (upright y)) (gcd (natAbs (x .row)) (natAbs (y .row)))
 euclid-reduces x y =
     after (upright-gives-basis x y)
-    (falling-reduces (suc (natAbs (y .row))) (upright x) (upright y) (natAbs (x .row)) (natAbs (y .row))
-    (upright-is-signed x .row-size)
-    (upright-is-signed y .row-size)
+    (falling-reduces (suc (natAbs (y .row))) (upright x) (upright y) (natAbs (x .row)) (natAbs (y .row)) (upright-row x)
+    (upright-row y)
     (omega arith))

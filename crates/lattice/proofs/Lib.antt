@@ -1,6 +1,7 @@
 pub mod Membership
 pub mod Bases
 pub mod Euclid
+pub mod Carried
 pub mod NormalForm
 pub mod Banks
 pub mod Words

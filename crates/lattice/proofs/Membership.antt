@@ -9,7 +9,7 @@ use lib.IntN.{ℤ, pos, negsuc, negℤ, _+ℤ_, _*ℤ_, _-ℤ_}
 use Rattle.integers.specs.Division.{floorDiv}
 use Rattle.integers.proofs.Ring.{ring, linear, _·_, reify}
 use Rattle.integers.proofs.Divisions.{Divides, divides-iff, quotient-of-multiple}
-use Rattle.laws.proofs.Booleans.{and-iff}
+use Rattle.integers.proofs.Comparisons.{and-iff}
 use Rattle.scope.specs.Plans.{Pixel, at, plus, minus, Combination, InLattice, latticeTest}
 use Rattle.scope.specs.Meaning.{LatticeMeans}
 use Rattle.scope.specs.declared.Plan.{Plan}

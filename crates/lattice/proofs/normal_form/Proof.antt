@@ -1,0 +1,226 @@
+-- `lattice::normal_form` meets its contract: the refusals of the definition in its order, then its a, b and d.
+-- Assumes nothing.
+use Prim.Native.Nat.{ℕ, _/_, _≤_, _<_}
+use native.Mathlib.Omega.{arith}
+use native.Mathlib.Nat.{div-le-self, mul-le-mul-right}
+use mathlib.Core.Path.{_≡_, sym, ap, ap₂, _∙_}
+use mathlib.Core.List.{[], _∷_}
+use lib.IntN.{natAbs}
+use mir.Syntax.{w16}
+use mir.Facts.{toZ-ofZ}
+use borrow.Author.Needs.{needs}
+use Rattle.integers.specs.Division.{floorMod}
+use Rattle.integers.specs.Gcd.{gcd}
+use Rattle.integers.proofs.Divisions.{remainder-below}
+use Rattle.integers.proofs.Integers.{size-zero}
+use Rattle.integers.proofs.Sizes.{fitting-size}
+use Rattle.scope.specs.Plans.{Pixel, at, determinant, determinantSize, upright, normalForm}
+use Rattle.scope.specs.Numbers.{dependentTest, largeTest}
+use Rattle.scope.specs.Calls.{normal}
+use Rattle.scope.specs.Meaning.{IsPlan, Independent}
+use Rattle.scope.specs.declared.Plan.{Plan}
+use Rattle.scope.specs.declared.Planned.{Planned}
+use Rattle.scope.specs.declared.Refusal.{Refusal}
+use Rattle.scope.proofs.PlanFacts.{pixel-handed}
+use Rattle.laws.proofs.Chains.{chain-refuses, chain-goes-on, answered-none, answered-some}
+use Rattle.laws.proofs.Booleans.{last-test, test-before}
+use Rattle.laws.proofs.Tests.{independent-iff, size-within-iff}
+use Rattle.laws.proofs.Deciding.{independent-decides, size-decides}
+use Rattle.lattice.proofs.Carried.{falling-of-upright}
+use Rattle.lattice.proofs.NormalForm.{normal-form-is-plan}
+use Rattle.lattice.proofs.normal_form.Statement.{statement}
+use Rattle.lattice.proofs.normal_form.Tie as tie
+
+-- what the call answers, by the determinant's size
+module _ (x y : Pixel) where
+  is-independent : (determinantSize x y ≡ 0 → ⊥) → Independent x y
+  unfolding determinantSize
+  is-independent h e = h (ap natAbs e)
+
+  dependent-answer : determinantSize x y ≡ 0 → normal x y ≡ Planned.Refused Refusal.Dependent
+  unfolding normal determinantSize
+  dependent-answer e =
+      answered-some _ Planned.Refused _ Refusal.Dependent
+      (chain-refuses (dependentTest x y) (largeTest x y ∷ []) Refusal.Dependent
+      (independent-decides x y .refuses (λ h. h (size-zero (determinant x y) e))))
+
+  large-answer : Independent x y → 1024 < determinantSize x y → normal x y ≡ Planned.Refused Refusal.Large
+  unfolding normal
+  large-answer independent more =
+      answered-some _ Planned.Refused _ Refusal.Large
+      (chain-goes-on (dependentTest x y) (largeTest x y ∷ []) (independent-decides x y .passes independent)
+      ∙ chain-refuses (largeTest x y) [] Refusal.Large (size-decides x y .refuses (λ most. omega arith)))
+
+  form-answer : Independent x y → determinantSize x y ≤ 1024 → normal x y ≡ Planned.Plan (normalForm x y)
+  unfolding normal
+  form-answer independent most =
+      answered-none _ Planned.Refused _
+      (test-before (independent-iff x y) (last-test (size-within-iff x y)) .iff .1 (independent, most))
+
+-- a plan is its three numbers
+same-plan : {a b d : ℕ} (p : Plan) → a ≡ p .a → b ≡ p .b → d ≡ p .d → record { a = a; b = b; d = d } ≡ p
+same-plan p e f g = λ i. record { a = e i; b = f i; d = g i }
+
+-- the two vectors, and the determinant's size as the code has it
+module _ (c : tie.After-determinant-size) where
+  abbrev x : Pixel
+  x = at (c .before .args .x1) (c .before .args .x2)
+
+  abbrev y : Pixel
+  y = at (c .before .args .y1) (c .before .args .y2)
+
+  determinant-size-is : c .determinant-size .result ≡ determinantSize x y
+  determinant-size-is =
+      let f = c .before .fits in
+      c .determinant-size .ensures ∙ ap₂ determinantSize (pixel-handed (f .x1) (f .x2)) (pixel-handed (f .y1) (f .y2))
+
+determinant-size-requires : tie.Need-determinant-size-requires
+determinant-size-requires c κs = search needs
+
+returns : tie.Need-returns
+returns c =
+    sym (dependent-answer (x (c .before)) (y (c .before)) (sym (determinant-size-is (c .before)) ∙ c .if1 .taken))
+
+independent : (c : tie.Else1) → Independent (x (c .before)) (y (c .before))
+independent c = is-independent (x (c .before)) (y (c .before)) (λ e. c .if1 .left (determinant-size-is (c .before) ∙ e))
+
+returns-2 : tie.Need-returns-2
+returns-2 c =
+    sym
+    (large-answer (x (c .before .before)) (y (c .before .before)) (independent (c .before))
+    (omega (arith, determinant-size-is (c .before .before))))
+
+size-requires : tie.Need-size-requires
+size-requires c κs = search needs
+
+size-requires-2 : tie.Need-size-requires-2
+size-requires-2 c κs = search needs
+
+gcd-of-requires : tie.Need-gcd-of-requires
+gcd-of-requires c κs = search needs
+
+-- the normal form is a plan, and the code's d and a are its own
+module _ (c : tie.After-gcd-of) where
+  -- where the determinant's size is known
+  abbrev sized : tie.After-determinant-size
+  sized = c .before .before .before .before .before
+
+  abbrev form : Plan
+  form = normalForm (x sized) (y sized)
+
+  most : determinantSize (x sized) (y sized) ≤ 1024
+  most = omega (arith, determinant-size-is sized)
+
+  is-plan : IsPlan form
+  is-plan = normal-form-is-plan (x sized) (y sized) (independent (c .before .before .before .before)) most
+
+  p-is : c .before .before .size .result ≡ natAbs (sized .before .args .x2)
+  p-is = c .before .before .size .ensures ∙ ap natAbs (toZ-ofZ (sized .before .fits .x2))
+
+  q-is : c .before .size2 .result ≡ natAbs (sized .before .args .y2)
+  q-is = c .before .size2 .ensures ∙ ap natAbs (toZ-ofZ (sized .before .fits .y2))
+
+  d-is : c .gcd-of .result ≡ form .d
+  unfolding normalForm at
+  d-is = c .gcd-of .ensures ∙ ap₂ gcd p-is q-is
+
+  abbrev a : ℕ
+  a = sized .determinant-size .result / c .gcd-of .result
+
+  a-is : a ≡ form .a
+  unfolding normalForm at
+  a-is = ap₂ (λ (m n : ℕ). m / n) (determinant-size-is sized) d-is
+
+  a-small : (0 < a) × (a ≤ 1024)
+  a-small = omega (arith, a-is, is-plan .a-least, div-le-self (sized .determinant-size .result) (c .gcd-of .result))
+
+div-a : tie.Need-div-a
+div-a c = omega (arith, d-is c, is-plan c .d-least)
+
+upright-column-requires : tie.Need-upright-column-requires
+upright-column-requires c κs = a-small c
+
+upright-column-requires-2 : tie.Need-upright-column-requires-2
+upright-column-requires-2 c κs = a-small (c .before)
+
+-- the columns that are carried along, and where they lead
+x-column-is :
+    (c : tie.After-upright-column) → c .upright-column .result ≡ floorMod (upright (x (sized (c .before))) .column) (a (c .before))
+x-column-is c =
+    let f = sized (c .before) .before .fits in
+    c .upright-column .ensures ∙ ap (λ (v : Pixel). floorMod (upright v .column) (a (c .before))) (pixel-handed (f .x1) (f .x2))
+
+y-column-is :
+    (c : tie.After-upright-column2)
+    → c .upright-column2 .result ≡ floorMod (upright (y (sized (c .before .before))) .column) (a (c .before .before))
+y-column-is c =
+    let f = sized (c .before .before) .before .fits in
+    c .upright-column2 .ensures
+    ∙ ap (λ (v : Pixel). floorMod (upright v .column) (a (c .before .before))) (pixel-handed (f .y1) (f .y2))
+
+b-is : (c : tie.After-falling-column) → c .falling-column .result ≡ form (c .before .before .before) .b
+unfolding normalForm at
+b-is c =
+    let g = c .before .before .before in
+    rw (
+      ← (a-is g),
+      ← (falling-of-upright (a g) (a-small g .0) (x (sized g)) (y (sized g)) _ _ _ _ (x-column-is (c .before .before)) (p-is g)
+          (y-column-is (c .before))
+          (q-is g)),
+    )
+    (c .falling-column .ensures)
+
+falling-column-requires : tie.Need-falling-column-requires
+falling-column-requires c κs =
+    let g = c .before .before in
+    let f = sized g .before .fits in
+    let v = sized g .before .args in
+    omega (
+      arith,
+      a-small g,
+      x-column-is (c .before),
+      remainder-below (upright (x (sized g)) .column) (a g) (a-small g .0),
+      y-column-is c,
+      remainder-below (upright (y (sized g)) .column) (a g) (a-small g .0),
+      p-is g,
+      fitting-size w16 (v .x2) (f .x2),
+      q-is g,
+      fitting-size w16 (v .y2) (f .y2),
+    )
+
+cast-t16 : tie.Need-cast-t16
+cast-t16 c = omega (arith, a-small (c .before .before .before))
+
+cast-t17 : tie.Need-cast-t17
+cast-t17 c =
+    let g = c .before .before .before in omega (arith, b-is c, is-plan g .b-below, a-is g, a-small g)
+
+cast-t18 : tie.Need-cast-t18
+cast-t18 c =
+    let g = c .before .before .before in
+    omega (arith, d-is g, is-plan g .most, mul-le-mul-right (form g .d) (is-plan g .a-least))
+
+returns-3 : tie.Need-returns-3
+returns-3 c =
+    let g = c .before .before .before in
+    ap Planned.Plan (same-plan (form g) (a-is g) (b-is c) (d-is g))
+    ∙ sym (form-answer (x (sized g)) (y (sized g)) (independent (g .before .before .before .before)) (most g))
+
+pub normal-form-spec : {M : Type 1} → statement M
+normal-form-spec =
+    tie.close
+    (tie.spec
+    determinant-size-requires
+    returns
+    returns-2
+    size-requires
+    size-requires-2
+    gcd-of-requires
+    div-a
+    upright-column-requires
+    upright-column-requires-2
+    falling-column-requires
+    cast-t16
+    cast-t17
+    cast-t18
+    returns-3)
