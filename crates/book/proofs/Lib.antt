@@ -11,3 +11,10 @@ pub mod Longer
 pub mod ReaderRefusals
 pub mod Decimal
 pub mod ProgramText
+pub mod Outcomes
+pub mod Window
+pub mod Scanning
+pub mod Fills
+pub mod Taken
+pub mod Puts
+pub mod PartAnswers

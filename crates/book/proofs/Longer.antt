@@ -7,6 +7,7 @@ use mathlib.Core.Option.{none, some}
 use mathlib.Core.List.{List, [], _∷_, _++_}
 use lib.Dec.{ltb}
 use lib.ListN.{length, length-append, List·getD-append}
+use Rattle.integers.proofs.Comparisons.{ltb-iff}
 use Rattle.scope.specs.Search.{first, gather}
 use Rattle.scope.specs.Books.{byte, start, place, pixelIn, patternOf, bookIn}
 use Rattle.scope.specs.Numbers.{countRead, patternRead, extraTest, bytesTest}
@@ -14,12 +15,11 @@ use Rattle.scope.specs.Meaning.{IsPattern}
 use Rattle.scope.specs.declared.Refusal.the-variants.{Extra}
 use Rattle.laws.proofs.Searches.{gather-same, none-first, some-whenever}
 use Rattle.laws.proofs.Chains.{chain-refuses, chain-goes-on}
-use Rattle.laws.proofs.Booleans.{ltb-iff}
 use Rattle.book.proofs.Bytes.{patternIn, next-start, start-after}
 use Rattle.book.proofs.Reading.{FromTo, gathered-book-iff, count-read-iff, pattern-is-read, bytes-taken-iff}
 
 -- Where the count and all patterns are read and a byte is left, that decides the answer.
-extra-decides :
+pub extra-decides :
     (s : List ℕ) → countRead s 16 0 ≡ none → ((n : ℕ) → n < byte s 0 → patternRead s n ≡ none) → start s (byte s 0) < length s
     → bytesTest s ≡ some (Extra (start s (byte s 0)))
 unfolding bytesTest extraTest

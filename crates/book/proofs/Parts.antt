@@ -30,7 +30,7 @@ count-read s e = ap (λ book. book .count) (book-read s e) ∙ count-of-read s
 
 module _ (s : List ℕ) (n : ℕ) where
   -- a part is taken exactly if the bytes are and the count is above its number
-  part-test-iff : (partTest s n ≡ none) ↔ ((bytesTest s ≡ none) × (n < byte s 0))
+  pub part-test-iff : (partTest s n ≡ none) ↔ ((bytesTest s ≡ none) × (n < byte s 0))
   unfolding partTest
   part-test-iff = test-before Iff·rfl (last-test (number-in-book-iff (byte s 0) n)) .iff
 

@@ -7,12 +7,14 @@ use mathlib.Core.Path.{_≡_, refl, sym, _∙_, ap}
 use mathlib.Core.Logic.{_⊎_, inl, inr}
 use mathlib.Core.Option.{Option, none, some}
 use mathlib.Core.List.{List, [], _∷_, _++_, List·Memᴰ}
-use lib.Dec.{leb, ltb}
+use lib.Dec.{leb}
 use lib.ListN.{length}
+use Rattle.integers.proofs.Comparisons.{leb-iff, leb-false-iff}
 use Rattle.scope.specs.Search.{first, whenever, firstOf}
 use Rattle.scope.specs.Plans.{Pixel, at}
 use Rattle.scope.specs.Books.{byte, signed, start, place, pixelIn, bookOf}
-use Rattle.scope.specs.Numbers.{refusal, turnedDown, ofOutcome, countTest, pixelTest, countRead, pixelRead, patternRead, extraTest, bytesTest, numberTest}
+use Rattle.scope.specs.Numbers.{refusal, turnedDown, ofOutcome, countTest, pixelTest, countRead, pixelRead, patternRead}
+use Rattle.scope.specs.Numbers.{extraTest, bytesTest, numberTest}
 use Rattle.scope.specs.Calls.{readBook, partTest, partOutcome}
 use Rattle.scope.specs.Meaning.{InRange}
 use Rattle.scope.specs.RefusalPromises.{bytesSoFar, PatternsSoFar, bytesWithin, PixelsSoFar, readAnswer, ReaderRefuses}
@@ -24,15 +26,17 @@ use Rattle.scope.specs.declared.Refusal.the-variants.{Ends, Count, Coordinate, 
 use Rattle.laws.proofs.Searches.{At, mem-gather, none-whenever, some-whenever}
 use Rattle.laws.proofs.Lists.{append-nil}
 use Rattle.laws.proofs.Chains.{value-not-refusal, chain-refuses, chain-goes-on, answered-some, RefusedBy, answered-refusal}
-use Rattle.laws.proofs.Booleans.{leb-iff, leb-false-iff, ltb-iff, ltb-false-iff}
 use Rattle.laws.proofs.BookRefusals.{count-refused, column-refused, row-refused, repeat-refused}
+use Rattle.book.specs.Scan.{pixelFrom}
 use Rattle.book.proofs.Bytes.{Rest, length-of-rest, first-of-rest}
 use Rattle.book.proofs.Written.{pixel-of-bytes}
 use Rattle.book.proofs.Reading.{FromTo}
 use Rattle.book.proofs.ReadWrite.{read-taken-iff}
 use Rattle.book.proofs.Parts.{count-read}
-use Rattle.book.proofs.Prefixes.{rest-so-far, length-so-far, next-pattern-decides, rest-of-within, length-of-within, pixels-before-within, next-pixel-decides}
+use Rattle.book.proofs.Prefixes.{rest-so-far, length-so-far, next-pattern-decides}
+use Rattle.book.proofs.Prefixes.{rest-of-within, length-of-within, pixels-before-within, next-pixel-decides}
 use Rattle.book.proofs.Longer.{more-after-taken}
+use Rattle.book.proofs.Scanning.{pattern-read-from, pixel-read-from, ends-early, both-there, count-decides-from}
 
 -- What each test of the reader gives where it refuses.
 module _ (s : List ℕ) where
@@ -42,43 +46,31 @@ module _ (s : List ℕ) where
   unfolding countRead
   count-chain most i = refl
 
-  ends-before-count : (most i : ℕ) → length s ≤ i → countRead s most i ≡ some (Ends (length s))
+  pub ends-before-count : (most i : ℕ) → length s ≤ i → countRead s most i ≡ some (Ends (length s))
   ends-before-count most i h = count-chain most i ∙ chain-refuses _ _ _ (some-whenever _ _ (leb-iff (length s) i .1 h))
 
-  count-not-taken : (most i : ℕ) → i < length s → (FromTo most (byte s i) → ⊥) → countRead s most i ≡ some (Count i)
+  pub count-not-taken : (most i : ℕ) → i < length s → (FromTo most (byte s i) → ⊥) → countRead s most i ≡ some (Count i)
   count-not-taken most i h bad =
       count-chain most i
       ∙ chain-goes-on _ _ (none-whenever _ _ (leb-false-iff (length s) i .1 h))
       ∙ chain-refuses _ _ _ (count-refused most (byte s i) i bad)
 
   module _ (n e : ℕ) where
-    pixel-chain :
-        pixelRead s n e
-        ≡ firstOf
-        (whenever (ltb (length s) (place s n e + 2)) (Ends (length s))
-        ∷ pixelTest (place s n e) (place s n e + 1) (pixelIn s n) e
-        ∷ [])
-    unfolding pixelRead
-    pixel-chain = refl
-
     ends-before-pixel : length s < place s n e + 2 → pixelRead s n e ≡ some (Ends (length s))
-    ends-before-pixel h = pixel-chain ∙ chain-refuses _ _ _ (some-whenever _ _ (ltb-iff (length s) (place s n e + 2) .1 h))
+    unfolding place
+    ends-before-pixel h = pixel-read-from s n e ∙ ends-early s (start s n + 1) e h
 
     pixel-not-taken :
         (r : Refusal) → place s n e + 2 ≤ length s → pixelTest (place s n e) (place s n e + 1) (pixelIn s n) e ≡ some r
         → pixelRead s n e ≡ some r
-    pixel-not-taken r h found =
-        pixel-chain
-        ∙ chain-goes-on _ _ (none-whenever _ _ (ltb-false-iff (length s) (place s n e + 2) .1 h))
-        ∙ chain-refuses _ _ _ found
+    unfolding place pixelIn pixelFrom
+    pixel-not-taken r h found = pixel-read-from s n e ∙ both-there s (start s n + 1) e h ∙ found
 
   -- a refused count decides on its pattern, and the first count on the bytes
   count-decides : (n : ℕ) (r : Refusal) → countRead s 64 (start s n) ≡ some r → patternRead s n ≡ some r
-  unfolding patternRead
-  count-decides n r e =
-      chain-refuses (countRead s 64 (start s n)) (first 0 (byte s (start s n)) (pixelRead s n) ∷ []) r e
+  count-decides n r e = pattern-read-from s n ∙ count-decides-from s (start s n) r e
 
-  first-count-decides : (r : Refusal) → countRead s 16 0 ≡ some r → bytesTest s ≡ some r
+  pub first-count-decides : (r : Refusal) → countRead s 16 0 ≡ some r → bytesTest s ≡ some r
   unfolding bytesTest
   first-count-decides r e =
       chain-refuses (countRead s 16 0) (first 0 (byte s 0) (patternRead s) ∷ extraTest s ∷ []) r e
@@ -215,11 +207,11 @@ module _ (s : List ℕ) (k : ℕ) where
   unfolding partOutcome
   part-refused r e = ap ofOutcome (answered-some (partTest s k) Outcome.Refused Outcome.Done r e)
 
-  part-of-refused : (r : Refusal) → bytesTest s ≡ some r → partTest s k ≡ some r
+  pub part-of-refused : (r : Refusal) → bytesTest s ≡ some r → partTest s k ≡ some r
   unfolding partTest
   part-of-refused r e = chain-refuses (bytesTest s) (numberTest (byte s 0) k ∷ []) r e
 
-  no-such-part : bytesTest s ≡ none → byte s 0 ≤ k → partTest s k ≡ some NoPattern
+  pub no-such-part : bytesTest s ≡ none → byte s 0 ≤ k → partTest s k ≡ some NoPattern
   unfolding partTest numberTest
   no-such-part e h =
       chain-goes-on (bytesTest s) (numberTest (byte s 0) k ∷ []) e

@@ -8,6 +8,7 @@ use mathlib.Core.Logic.{_↔_, Iff·trans}
 use mathlib.Core.Option.{none}
 use mathlib.Core.List.{List, []}
 use lib.ListN.{length}
+use Rattle.integers.proofs.Comparisons.{leb-false-iff, ltb-false-iff}
 use Rattle.scope.specs.Search.{gather}
 use Rattle.scope.specs.Plans.{Pixel, pixelAt, patternAt}
 use Rattle.scope.specs.Books.{byte, start, place, pixelIn, patternOf, bookOf, bookIn}
@@ -15,7 +16,7 @@ use Rattle.scope.specs.Numbers.{countRead, pixelRead, patternRead, extraTest, b
 use Rattle.scope.specs.Meaning.{InRange, IsPattern, IsBook}
 use Rattle.scope.specs.declared.Refusal.the-variants.{Ends, Extra}
 use Rattle.laws.proofs.Searches.{length-gather, getD-gather}
-use Rattle.laws.proofs.Booleans.{leb-false-iff, ltb-false-iff, refuses-iff, last-test, test-before, first-iff}
+use Rattle.laws.proofs.Booleans.{refuses-iff, last-test, test-before, first-iff}
 use Rattle.laws.proofs.BookTests.{count-legal-iff, pixel-legal-iff}
 use Rattle.laws.proofs.Patterns.{origin}
 use Rattle.book.proofs.Records.{used-patternOf, pixelAt-patternOf, count-bookOf, patternAt-bookOf}
@@ -104,12 +105,12 @@ module _ (c : ℕ) (g : ℕ → List Pixel) where
           }
 
 -- The count of pattern n and all its pixels are there and legal; and so for all patterns, with no byte after them.
-abbrev PatternRead : List ℕ → ℕ → Type 0
+abbrev pub PatternRead : List ℕ → ℕ → Type 0
 PatternRead s n =
     ((start s n < length s) × FromTo 64 (byte s (start s n)))
     × ((e : ℕ) → e < byte s (start s n) → (place s n e + 2 ≤ length s) × LegalAt (pixelIn s n) e)
 
-abbrev BytesRead : List ℕ → Type 0
+abbrev pub BytesRead : List ℕ → Type 0
 BytesRead s =
     ((0 < length s) × FromTo 16 (byte s 0)) × (((n : ℕ) → n < byte s 0 → PatternRead s n) × (length s ≤ start s (byte s 0)))
 
@@ -126,12 +127,12 @@ module _ (s : List ℕ) where
       test-before (refuses-iff _ (Ends (length s)) (ltb-false-iff (length s) (place s n e + 2)))
       (last-test (pixel-legal-iff (place s n e) (place s n e + 1) (pixelIn s n) e)) .iff
 
-  pattern-read-iff : (n : ℕ) → (patternRead s n ≡ none) ↔ PatternRead s n
+  pub pattern-read-iff : (n : ℕ) → (patternRead s n ≡ none) ↔ PatternRead s n
   unfolding patternRead
   pattern-read-iff n =
       test-before (count-read-iff 64 (start s n)) (last-test (first-iff (byte s (start s n)) (pixelRead s n) _ (pixel-read-iff n))) .iff
 
-  bytes-read-iff : (bytesTest s ≡ none) ↔ BytesRead s
+  pub bytes-read-iff : (bytesTest s ≡ none) ↔ BytesRead s
   unfolding bytesTest extraTest
   bytes-read-iff =
       test-before (count-read-iff 16 0)
@@ -139,7 +140,7 @@ module _ (s : List ℕ) where
       (last-test (refuses-iff _ (Extra (start s (byte s 0))) (ltb-false-iff (start s (byte s 0)) (length s))))) .iff
 
   -- the pixels of a pattern that was read reach to the next pattern
-  pattern-inside : (n : ℕ) → PatternRead s n → start s (suc n) ≤ length s
+  pub pattern-inside : (n : ℕ) → PatternRead s n → start s (suc n) ≤ length s
   pattern-inside n ((_, (least, most)), each) = by-count (byte s (start s n)) refl
     where
       by-count : (u : ℕ) → byte s (start s n) ≡ u → start s (suc n) ≤ length s

@@ -1,1 +1,14 @@
-// The theory of book bytes and records: proofs/ has its laws. No function has code yet.
+// Pattern books: the reader, a pattern's part of the bytes, the writer, and the validity of a record.
+mod cells;
+mod part;
+mod reader;
+mod record;
+mod scanner;
+mod writer;
+
+pub use part::part_outcome;
+pub use part::part_place;
+pub use part::pattern_part;
+pub use reader::read_book;
+pub use record::record_outcome;
+pub use writer::write_book;

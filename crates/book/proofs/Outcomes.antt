@@ -1,0 +1,65 @@
+-- What a test that found a refusal or nothing answers, what such an answer tells of its test, and what a loop that runs
+-- through tests answers.
+-- Assumes nothing.
+use Prim.Native.Nat.{ℕ, _<_}
+use native.Mathlib.Omega.{arith}
+use mathlib.Core.Path.{_≡_, refl, sym, _∙_}
+use mathlib.Core.Option.{Option, none, some}
+use Rattle.scope.specs.Search.{first}
+use Rattle.scope.specs.Numbers.{recordTest}
+use Rattle.scope.specs.Calls.{answered, recordOutcome}
+use Rattle.scope.specs.declared.Book.{Book}
+use Rattle.scope.specs.declared.Refusal.{Refusal}
+use Rattle.scope.specs.declared.Outcome.{Outcome}
+use Rattle.laws.proofs.Searches.{found-first, none-first}
+use Rattle.laws.proofs.Chains.{answered-none, answered-some}
+use Rattle.book.specs.Scan.{outcomeOf}
+
+pub answered-by-refusal : (t : Option Refusal) (r : Refusal) → t ≡ some r → Outcome.Refused r ≡ outcomeOf t
+answered-by-refusal t r e = sym (answered-some t Outcome.Refused Outcome.Done r e)
+
+pub answered-by-done : (t : Option Refusal) → t ≡ none → Outcome.Done ≡ outcomeOf t
+answered-by-done t e = sym (answered-none t Outcome.Refused Outcome.Done e)
+
+-- the other way round
+done-not-refused : {r : Refusal} → Outcome.Done ≡ Outcome.Refused r → ⊥
+done-not-refused e = let z : _≡_ {A = ℕ} 0 1 = cc in omega arith
+
+module _ {outcome : Outcome} where
+  pub done-found-nothing : (t : Option Refusal) → outcome ≡ outcomeOf t → outcome ≡ Outcome.Done → t ≡ none
+  unfolding answered
+  done-found-nothing none answer done = refl
+  done-found-nothing (some r) answer done = absurd (done-not-refused (sym done ∙ answer))
+
+  pub refused-found : {r : Refusal} (t : Option Refusal) → outcome ≡ outcomeOf t → outcome ≡ Outcome.Refused r → t ≡ some r
+  unfolding answered
+  refused-found none answer refused = absurd (done-not-refused (sym answer ∙ refused))
+  refused-found (some q) answer refused = cc
+
+-- the answer of `record_outcome`
+module _ {outcome : Outcome} (book : Book) (answer : outcome ≡ recordOutcome book) where
+  pub record-taken : outcome ≡ Outcome.Done → recordTest book ≡ none
+  unfolding recordOutcome
+  record-taken done = done-found-nothing (recordTest book) answer done
+
+  pub record-turned-down : {r : Refusal} → outcome ≡ Outcome.Refused r → recordTest book ≡ some r
+  unfolding recordOutcome
+  record-turned-down refused = refused-found (recordTest book) answer refused
+
+-- a loop: the refusal of the first test that finds one, and `Done` after the last
+module _ {n : ℕ} {test : ℕ → Option Refusal} where
+  pub refused-at :
+      {e : ℕ} {r : Refusal} → ((l : ℕ) → l < e → test l ≡ none) → e < n → test e ≡ some r
+      → Outcome.Refused r ≡ outcomeOf (first 0 n test)
+  refused-at {e} {r} before below here =
+      answered-by-refusal (first 0 n test) r
+      (found-first 0 n test r (record {
+        where-is = e;
+        from = omega arith;
+        below = omega arith;
+        here = here;
+        before = λ i p q. before i q;
+      }))
+
+  pub done-after : ((l : ℕ) → l < n → test l ≡ none) → Outcome.Done ≡ outcomeOf (first 0 n test)
+  done-after before = answered-by-done (first 0 n test) (none-first 0 n test (λ i p q. before i (omega arith)))

@@ -1,0 +1,123 @@
+-- The tests of a book's bytes and of a record as the code makes them: pattern after pattern, each by the place where it
+-- stands or by its own record.
+-- Assumes nothing.
+use Prim.Native.Nat.{ℕ, _+_, _*_, _≤_, _<_}
+use native.Mathlib.Omega.{arith}
+use mathlib.Core.Path.{_≡_, refl, _∙_}
+use mathlib.Core.Option.{none, some}
+use mathlib.Core.List.{List, [], _∷_}
+use lib.Dec.{ltb}
+use lib.ListN.{length}
+use Rattle.integers.proofs.Comparisons.{ltb-iff, ltb-false-iff}
+use Rattle.scope.specs.Search.{first, whenever, firstOf}
+use Rattle.scope.specs.Plans.{pixelAt, patternAt}
+use Rattle.scope.specs.Books.{byte, start}
+use Rattle.scope.specs.Numbers.{countTest, pixelTest, patternTest, recordTest}
+use Rattle.scope.specs.Numbers.{countRead, pixelRead, patternRead, extraTest, bytesTest}
+use Rattle.scope.specs.declared.Pattern.{Pattern}
+use Rattle.scope.specs.declared.Book.{Book}
+use Rattle.scope.specs.declared.Refusal.{Refusal}
+use Rattle.scope.specs.declared.Refusal.the-variants.{Count}
+use Rattle.laws.proofs.Searches.{some-whenever, none-whenever}
+use Rattle.laws.proofs.Chains.{chain-refuses, chain-goes-on, chain-of-one}
+use Rattle.laws.proofs.BookTests.{count-legal-iff, pattern-legal-iff, book-legal-iff}
+use Rattle.laws.proofs.BookRefusals.{count-refused, search-refuses}
+use Rattle.book.specs.Scan.{pixelFrom, pixelReadFrom, patternReadFrom, patternTestOf}
+use Rattle.book.proofs.Bytes.{next-start}
+use Rattle.book.proofs.Reading.{FromTo, count-read-iff, pattern-read-iff, bytes-read-iff, pattern-inside}
+
+-- A pattern's tests by its number are those by the place where it stands, and so are its pixels'.
+pub pattern-read-from : (s : List ℕ) (n : ℕ) → patternRead s n ≡ patternReadFrom s (start s n)
+unfolding patternRead patternReadFrom
+pattern-read-from s n = refl
+
+pub pixel-read-from : (s : List ℕ) (n e : ℕ) → pixelRead s n e ≡ pixelReadFrom s (start s n + 1) e
+unfolding pixelRead pixelReadFrom
+pixel-read-from s n e = refl
+
+-- The tests of a pattern of a book record are those of its own record.
+pub pattern-test-of : (book : Book) (n : ℕ) → patternTest book n ≡ patternTestOf (patternAt book n)
+unfolding patternTest patternTestOf
+pattern-test-of book n = refl
+
+-- A pixel's tests: both bytes are there, then those of the pixel.
+module _ (s : List ℕ) (i e : ℕ) where
+  pixel-chain :
+      pixelReadFrom s i e
+      ≡ firstOf
+      (whenever (ltb (length s) (i + 2 * e + 2)) (Refusal.Ends (length s))
+      ∷ pixelTest (i + 2 * e) (i + 2 * e + 1) (pixelFrom s i) e
+      ∷ [])
+  unfolding pixelReadFrom
+  pixel-chain = refl
+
+  pub ends-early : length s < i + 2 * e + 2 → pixelReadFrom s i e ≡ some (Refusal.Ends (length s))
+  ends-early h = pixel-chain ∙ chain-refuses _ _ _ (some-whenever _ _ (ltb-iff (length s) (i + 2 * e + 2) .1 h))
+
+  pub both-there : i + 2 * e + 2 ≤ length s → pixelReadFrom s i e ≡ pixelTest (i + 2 * e) (i + 2 * e + 1) (pixelFrom s i) e
+  both-there h =
+      pixel-chain ∙ chain-goes-on _ _ (none-whenever _ _ (ltb-false-iff (length s) (i + 2 * e + 2) .1 h)) ∙ chain-of-one _
+
+module _ (s : List ℕ) where
+  -- The tests of the pattern at place i: a refused count decides, and after a legal one the pixels do.
+  module _ (i : ℕ) where
+    pub count-decides-from : (r : Refusal) → countRead s 64 i ≡ some r → patternReadFrom s i ≡ some r
+    unfolding patternReadFrom
+    count-decides-from r e =
+        chain-refuses (countRead s 64 i) (first 0 (byte s i) (pixelReadFrom s (i + 1)) ∷ []) r e
+
+    pub pixels-decide-from :
+        i < length s → FromTo 64 (byte s i) → patternReadFrom s i ≡ first 0 (byte s i) (pixelReadFrom s (i + 1))
+    unfolding patternReadFrom
+    pixels-decide-from h legal =
+        chain-goes-on (countRead s 64 i) (first 0 (byte s i) (pixelReadFrom s (i + 1)) ∷ []) (count-read-iff s 64 i .1 (h, legal))
+        ∙ chain-of-one (first 0 (byte s i) (pixelReadFrom s (i + 1)))
+
+  -- The pixels of a pattern that was read are there.
+  pub read-pattern-inside : (n : ℕ) → patternRead s n ≡ none → start s n + 1 + 2 * byte s (start s n) ≤ length s
+  read-pattern-inside n e = omega (arith, pattern-inside s n (pattern-read-iff s n .0 e), next-start s n)
+
+  -- With a legal count, the first pattern that is refused decides; where all are read and no byte is left, the bytes are taken.
+  module _ (counted : 0 < length s) (legal : FromTo 16 (byte s 0)) where
+    pub pattern-decides :
+        (n : ℕ) (r : Refusal) → n < byte s 0 → ((m : ℕ) → m < n → patternRead s m ≡ none) → patternRead s n ≡ some r
+        → bytesTest s ≡ some r
+    unfolding bytesTest
+    pattern-decides n r below before here =
+        search-refuses (countRead s 16 0) (byte s 0) (patternRead s) (extraTest s ∷ []) r n
+        (count-read-iff s 16 0 .1 (counted, legal)) below here before
+
+    pub all-taken :
+        ((n : ℕ) → n < byte s 0 → patternRead s n ≡ none) → length s ≤ start s (byte s 0) → bytesTest s ≡ none
+    all-taken each over =
+        bytes-read-iff s .1 ((counted, legal), (λ n h. pattern-read-iff s n .0 (each n h), over))
+
+-- The tests of a pattern's record: a refused count decides, and after a legal one the pixels do.
+module _ (t : Pattern) where
+  pub used-not-taken : (FromTo 64 (t .used) → ⊥) → patternTestOf t ≡ some (Count 0)
+  unfolding patternTestOf
+  used-not-taken bad =
+      chain-refuses (countTest 64 (t .used) 0) (first 0 (t .used) (pixelTest 0 0 (pixelAt t)) ∷ []) (Count 0)
+      (count-refused 64 (t .used) 0 bad)
+
+  pub pixels-decide-of : FromTo 64 (t .used) → patternTestOf t ≡ first 0 (t .used) (pixelTest 0 0 (pixelAt t))
+  unfolding patternTestOf
+  pixels-decide-of legal =
+      chain-goes-on (countTest 64 (t .used) 0) (first 0 (t .used) (pixelTest 0 0 (pixelAt t)) ∷ [])
+      (count-legal-iff 64 (t .used) 0 .1 legal)
+      ∙ chain-of-one (first 0 (t .used) (pixelTest 0 0 (pixelAt t)))
+
+-- The first pattern of a record that is refused decides, and a record of legal patterns is a book.
+module _ (book : Book) (legal : FromTo 16 (book .count)) where
+  pub record-pattern-decides :
+      (n : ℕ) (r : Refusal) → n < book .count → ((m : ℕ) → m < n → patternTest book m ≡ none) → patternTest book n ≡ some r
+      → recordTest book ≡ some r
+  unfolding recordTest
+  record-pattern-decides n r below before here =
+      search-refuses (countTest 16 (book .count) 0) (book .count) (patternTest book) [] r n
+      (count-legal-iff 16 (book .count) 0 .1 legal) below here before
+
+  pub all-legal : ((n : ℕ) → n < book .count → patternTest book n ≡ none) → recordTest book ≡ none
+  all-legal each =
+      book-legal-iff book .1
+      (record { least = legal .0; most = legal .1; each = λ n h. pattern-legal-iff book n .0 (each n h) })

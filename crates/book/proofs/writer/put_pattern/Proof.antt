@@ -1,0 +1,130 @@
+-- `book::writer::put_pattern` meets its contract. The loop's invariant: the pixel count and the bytes of the first e pixels
+-- were put.
+-- Assumes nothing.
+use Prim.Native.Nat.{_+_, _*_, _-_, _≤_, _<_}
+use native.Mathlib.Omega.{arith}
+use mathlib.Core.Path.{_≡_, _∙_, ap}
+use mathlib.Core.List.{flatMap}
+use lib.IntN.{pos}
+use lib.ListN.{length, getD, set, length-set}
+use mir.Facts.{toZ-ofZ}
+use borrow.Author.Needs.{needs}
+use Rattle.scope.specs.Search.{gather}
+use Rattle.scope.specs.Plans.{pixels}
+use Rattle.scope.specs.Books.{unsigned, patternBytes}
+use Rattle.laws.proofs.Outputs.{Put, first-put, all-put}
+use Rattle.book.proofs.Puts.{pixelsPut, pixel-put, all-pixels-put}
+use Rattle.book.proofs.writer.put_pattern.Statement.{statement}
+use Rattle.book.proofs.writer.put_pattern.Tie as tie
+
+abbrev Inv-loop : tie.InvT-loop
+Inv-loop out₀ columns rows used e₀ out e =
+    (e ≤ used) × Put (pixelsPut (record { columns = columns; rows = rows; used = used }) e) out₀ out
+
+abbrev μ-loop : tie.MeasureT-loop
+μ-loop out₀ columns rows used e₀ out e = used - e
+
+-- in a turn there is room for the pixel's two bytes
+room : (c : tie.In-loop Inv-loop μ-loop) → 2 + 2 * c .before .loop .e < length (c .before .loop .out)
+room c =
+    let u = c .before .before .before .before .before in
+    omega (arith, c .before .loop .inv .1, length-set (u .args .out .now) 0 (u .args .t .used))
+
+cast-out : tie.Need-cast-out Inv-loop μ-loop
+cast-out c = search needs
+
+slice-write-out : tie.Need-slice-write-out Inv-loop μ-loop
+slice-write-out c = search needs
+
+loop-holds : tie.Need-loop-holds Inv-loop μ-loop
+unfolding flatMap gather
+loop-holds c =
+    let u = c .before .before .before in
+    (omega arith, first-put (u .args .t .used) (u .args .out .now) (omega arith))
+
+array-copy-out-unsigned-byte : tie.Need-array-copy-out-unsigned-byte Inv-loop μ-loop
+array-copy-out-unsigned-byte c = search needs
+
+unsigned-byte-requires : tie.Need-unsigned-byte-requires Inv-loop μ-loop
+unsigned-byte-requires c κs = search needs
+
+mul-out : tie.Need-mul-out Inv-loop μ-loop
+mul-out c = search needs
+
+add-out : tie.Need-add-out Inv-loop μ-loop
+add-out c = search needs
+
+slice-write-out-2 : tie.Need-slice-write-out-2 Inv-loop μ-loop
+slice-write-out-2 c = omega (arith, room (c .before .before))
+
+array-copy-out-unsigned-byte-2 : tie.Need-array-copy-out-unsigned-byte-2 Inv-loop μ-loop
+array-copy-out-unsigned-byte-2 c = search needs
+
+unsigned-byte-requires-2 : tie.Need-unsigned-byte-requires-2 Inv-loop μ-loop
+unsigned-byte-requires-2 c κs = search needs
+
+mul-out-2 : tie.Need-mul-out-2 Inv-loop μ-loop
+mul-out-2 c = search needs
+
+add-out-2 : tie.Need-add-out-2 Inv-loop μ-loop
+add-out-2 c = search needs
+
+slice-write-out-3 : tie.Need-slice-write-out-3 Inv-loop μ-loop
+slice-write-out-3 c = simp length-set (omega (arith, room (c .before .before .before .before)))
+
+add-e : tie.Need-add-e Inv-loop μ-loop
+add-e c = search needs
+
+loop-less : tie.Need-loop-less Inv-loop μ-loop
+loop-less c = search needs
+
+loop-again : tie.Need-loop-again Inv-loop μ-loop
+loop-again c =
+    let l = c .before .before .before .before .before in
+    let t = l .before .before .before .before .args .t in
+    let e = l .loop .e in
+    let first = c .before .before in
+    let column : first .unsigned-byte .result ≡ unsigned (getD (t .columns) e (pos 0)) =
+    first .unsigned-byte .ensures ∙ ap unsigned (toZ-ofZ (record { sfits = first .before .unsigned-byte-arg .given })) in
+    let row : c .unsigned-byte2 .result ≡ unsigned (getD (t .rows) e (pos 0)) =
+    c .unsigned-byte2 .ensures ∙ ap unsigned (toZ-ofZ (record { sfits = c .before .unsigned-byte-arg2 .given })) in
+    (omega arith, rw (column, row) (pixel-put t e (l .loop .inv .1) (omega (arith, room (first .before .before)))))
+
+same-length : tie.Need-same-length Inv-loop μ-loop
+same-length c =
+    let u = c .before .before .before .before .before in
+    c .before .loop .inv .1 .same-length ∙ length-set (u .args .out .now) 0 (u .args .t .used)
+
+returns : tie.Need-returns Inv-loop μ-loop
+returns c =
+    let l = c .before in
+    let u = l .before .before .before .before .args in
+    let done : l .loop .e ≡ u .t .used = omega arith in
+    let put : Put (pixelsPut (u .t) (u .t .used)) (set (u .out .now) 0 (u .t .used)) (l .loop .out) =
+    rw done at (l .loop .inv .1) in
+    all-put (u .t .used) (u .t .used) _ (patternBytes (pixels (u .t))) (u .out .now) (l .loop .out) put (all-pixels-put (u .t))
+
+pub put-pattern-spec : {M : Type 1} → statement M
+put-pattern-spec =
+    tie.close
+    (tie.spec
+    Inv-loop
+    μ-loop
+    cast-out
+    slice-write-out
+    loop-holds
+    array-copy-out-unsigned-byte
+    unsigned-byte-requires
+    mul-out
+    add-out
+    slice-write-out-2
+    array-copy-out-unsigned-byte-2
+    unsigned-byte-requires-2
+    mul-out-2
+    add-out-2
+    slice-write-out-3
+    add-e
+    loop-less
+    loop-again
+    same-length
+    returns)

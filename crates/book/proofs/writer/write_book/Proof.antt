@@ -1,0 +1,123 @@
+-- `book::writer::write_book` meets its contract: the record's tests come first, then that of the output's room, and where
+-- neither refuses the bytes are put.
+-- Assumes nothing.
+use Prim.Native.Nat.{ℕ, _≤_, _<_}
+use native.Mathlib.Omega.{arith}
+use mathlib.Core.Path.{_≡_, sym, _∙_, ap}
+use mathlib.Core.Option.{Option, none, some}
+use mathlib.Core.List.{List, [], _∷_}
+use lib.ListN.{length}
+use borrow.Author.Needs.{needs}
+use Rattle.scope.specs.Search.{firstOf}
+use Rattle.scope.specs.Banks.{overStart}
+use Rattle.scope.specs.Books.{bookBytes}
+use Rattle.scope.specs.Numbers.{recordTest, outputTest}
+use Rattle.scope.specs.Calls.{writeBook}
+use Rattle.scope.specs.declared.Book.{Book}
+use Rattle.scope.specs.declared.Counted.{Counted}
+use Rattle.scope.specs.declared.Refusal.{Refusal}
+use Rattle.laws.proofs.Chains.{chain-refuses, chain-goes-on}
+use Rattle.laws.proofs.Chains.{changed-none-answer, changed-none-content, changed-some-answer, changed-some-content}
+use Rattle.laws.proofs.Deciding.{output-decides}
+use Rattle.laws.proofs.BookTests.{book-legal-iff}
+use Rattle.laws.proofs.Legal.{write-test-iff}
+use Rattle.book.proofs.Outcomes.{record-taken, record-turned-down}
+use Rattle.book.proofs.writer.write_book.Statement.{statement}
+use Rattle.book.proofs.writer.write_book.Tie as tie
+
+-- What the call answers and what stands in the output, by its tests.
+module _ (book : Book) (out : List ℕ) where
+  abbrev bytes : List ℕ
+  bytes = bookBytes book
+
+  abbrev room : Option Refusal
+  room = outputTest (length bytes) (length out)
+
+  abbrev tests : Option Refusal
+  tests = firstOf (recordTest book ∷ room ∷ [])
+
+  abbrev number : Counted
+  number = Counted.Number (length bytes)
+
+  abbrev Answers : Counted → List ℕ → Type 0
+  Answers answer content = (answer ≡ writeBook book out .answer) × (content ≡ writeBook book out .content)
+
+  refused : (r : Refusal) → tests ≡ some r → Answers (Counted.Refused r) out
+  unfolding writeBook
+  refused r found = (
+    sym (changed-some-answer tests Counted.Refused out number (overStart bytes out) r found),
+    sym (changed-some-content tests Counted.Refused out number (overStart bytes out) r found),
+  )
+
+  book-refused : (r : Refusal) → recordTest book ≡ some r → Answers (Counted.Refused r) out
+  book-refused r found = refused r (chain-refuses (recordTest book) (room ∷ []) r found)
+
+  output-refused : recordTest book ≡ none → length out < length bytes → Answers (Counted.Refused Refusal.Output) out
+  output-refused legal short =
+      refused Refusal.Output
+      (chain-goes-on (recordTest book) (room ∷ []) legal
+      ∙ chain-refuses room [] Refusal.Output (output-decides (length bytes) (length out) .refuses (λ h. omega arith)))
+
+  written : recordTest book ≡ none → length bytes ≤ length out → Answers number (overStart bytes out)
+  unfolding writeBook
+  written legal enough =
+      let none-found : tests ≡ none = write-test-iff book (length out) .1 (book-legal-iff book .0 legal, enough) in (
+        sym (changed-none-answer tests Counted.Refused out number (overStart bytes out) none-found),
+        sym (changed-none-content tests Counted.Refused out number (overStart bytes out) none-found),
+      )
+
+record-outcome-requires : tie.Need-record-outcome-requires
+record-outcome-requires c κs = search needs
+
+enum-known-outcome : tie.Need-enum-known-outcome
+enum-known-outcome c = search needs
+
+returns : tie.Need-returns
+returns c =
+    let u = c .before .before .before .before .before .args in
+    book-refused (u .book) (u .out .now) (c .before .outcome .given .0 .0)
+    (record-turned-down (u .book) (c .before .before .before .record-outcome .ensures) (c .before .outcome .given .1))
+
+enum-told : tie.Need-enum-told
+enum-told c = search needs
+
+-- the record's tests found nothing
+legal : (c : tie.After-enum-told) → recordTest (c .before .before .before .before .args .book) ≡ none
+legal c =
+    record-taken (c .before .before .before .before .args .book) (c .before .before .record-outcome .ensures)
+    (c .enum-told .given .1)
+
+byte-count-requires : tie.Need-byte-count-requires
+byte-count-requires c κs = legal c
+
+returns-2 : tie.Need-returns-2
+returns-2 c =
+    let u = c .before .before .before .before .before .before .args in
+    output-refused (u .book) (u .out .now) (legal (c .before .before)) (omega (arith, c .before .byte-count .ensures))
+
+put-book-requires : tie.Need-put-book-requires
+put-book-requires c κs = (legal (c .before .before .before), omega (arith, c .before .before .byte-count .ensures))
+
+same-length : tie.Need-same-length
+same-length c = search needs
+
+returns-3 : tie.Need-returns-3
+returns-3 c =
+    let b = c .before .before .before .before .before in
+    let u = b .before .before .before .before .before .args in
+    let right = written (u .book) (u .out .now) (legal (b .before)) (omega (arith, b .byte-count .ensures)) in
+    (ap Counted.Number (b .byte-count .ensures) ∙ right .0, c .before .before .put-book .ensures ∙ right .1)
+
+pub write-book-spec : {M : Type 1} → statement M
+write-book-spec =
+    tie.close
+    (tie.spec
+    record-outcome-requires
+    enum-known-outcome
+    returns
+    enum-told
+    byte-count-requires
+    returns-2
+    put-book-requires
+    same-length
+    returns-3)

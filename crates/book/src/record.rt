@@ -1,0 +1,74 @@
+// The validity of a book record: 2, 3, 4 in book order, with place 0.
+use crate::cells::cell;
+use scope::Book;
+use scope::Outcome;
+use scope::Pattern;
+use scope::Refusal;
+ghost use mathlib.Core.Path.{_≡_};
+ghost use Rattle.scope.specs.Search.{first};
+ghost use Rattle.scope.specs.Plans.{pixelAt};
+ghost use Rattle.scope.specs.Numbers.{pixelTest};
+ghost use Rattle.scope.specs.Calls.{recordOutcome};
+ghost use Rattle.book.specs.Scan.{outcomeOf, patternTestOf};
+ghost use Prim.Native.Nat.{_≤_};
+
+// The tests of a pattern's pixels. Each pixel that was tested has its flag set.
+fn pixels_outcome(t: Pattern) -> Outcome
+    requires { ⌜ t .used ≤ 64 ⌝ }
+    ensures { λ r. ⌜ r ≡ outcomeOf (first 0 (t .used) (pixelTest 0 0 (pixelAt t))) ⌝ }
+{
+    let columns = t.columns;
+    let rows = t.rows;
+    let used = t.used;
+    let mut seen = [false; 1024];
+    let mut e = 0;
+    while e < used {
+        let k = cell(columns[e], rows[e]);
+        if 1024 <= k {
+            return Outcome::Refused(Refusal::Coordinate(0));
+        }
+        if seen[k] {
+            return Outcome::Refused(Refusal::Repeat(0));
+        }
+        seen[k] = true;
+        e += 1;
+    }
+    Outcome::Done
+}
+
+// The tests of a pattern.
+fn pattern_outcome(t: Pattern) -> Outcome
+    ensures { λ r. ⌜ r ≡ outcomeOf (patternTestOf t) ⌝ }
+{
+    let used = t.used;
+    if used == 0 {
+        return Outcome::Refused(Refusal::Count(0));
+    }
+    if 64 < used {
+        return Outcome::Refused(Refusal::Count(0));
+    }
+    pixels_outcome(t)
+}
+
+// Whether a record is a book, or 2, 3, 4.
+pub fn record_outcome(book: Book) -> Outcome
+    ensures { λ r. ⌜ r ≡ recordOutcome book ⌝ }
+{
+    let count = book.count;
+    if count == 0 {
+        return Outcome::Refused(Refusal::Count(0));
+    }
+    if 16 < count {
+        return Outcome::Refused(Refusal::Count(0));
+    }
+    let mut n = 0;
+    while n < count {
+        let t = book.patterns[n];
+        let outcome = pattern_outcome(t);
+        if let Outcome::Refused(_) = outcome {
+            return outcome;
+        }
+        n += 1;
+    }
+    Outcome::Done
+}
