@@ -6,6 +6,7 @@ use mathlib.Core.Logic.{_↔_}
 use mathlib.Core.Bool.{Bool, true, false, cond}
 use mathlib.Core.Option.{Option, none, some}
 use mathlib.Core.List.{List, [], _∷_, _++_, List·Memᴰ·head, List·Memᴰ·tail}
+use Rattle.integers.proofs.Comparisons.{eqb-iff}
 use Rattle.scope.specs.Plans.{Pixel}
 use Rattle.scope.specs.Banks.{bankOf}
 use Rattle.scope.specs.Calls.{answered}
@@ -13,7 +14,6 @@ use Rattle.scope.specs.Demand.{Call, store, clear, load, fetch, Setting, test, 
 use Rattle.scope.specs.Demand.{Touches, Untouched, LastStoredMeans}
 use Rattle.scope.specs.declared.Refusal.{Refusal}
 use Rattle.laws.proofs.Chains.{answered-none, answered-some}
-use Rattle.laws.proofs.Booleans.{eqb-iff}
 use Rattle.laws.proofs.BookTests.{same-pixel-iff}
 
 -- a choice by a test goes one way where what the test means holds, and the other way where it does not

@@ -3,8 +3,8 @@
 use Rattle.integers.proofs.Divisions.{floor-division, divisibility, ceiling-division, same-number-means}
 use Rattle.integers.proofs.Bezout.{euclids-rule, gcd-is-greatest}
 use Rattle.scope.specs.Promises.{Promises}
+use Rattle.scope.proofs.PlanFacts.{inside-iff}
 use Rattle.laws.proofs.Chains.{chain-is-first}
-use Rattle.laws.proofs.Tests.{inside-means}
 use Rattle.laws.proofs.BookRefusals.{record-refuses}
 use Rattle.laws.proofs.Legal.{legal-calls-answer, refusals-change-nothing}
 use Rattle.lattice.proofs.Membership.{lattice-means}
@@ -47,7 +47,7 @@ promises-kept =
       patterns-are = patterns-are;
       lattice-means = lattice-means;
       suits-means = suits-means;
-      inside-means = inside-means;
+      inside-means = inside-iff;
       chain-is-first = chain-is-first;
       tests-mean = tests-mean;
       legal-calls-answer = legal-calls-answer;
