@@ -1,0 +1,32 @@
+-- `capi::bankplan_bank` meets its contract.
+-- Assumes nothing.
+use mathlib.Core.Path.{_∙_, ap}
+use borrow.Author.Needs.{needs}
+use Rattle.scope.specs.Plans.{plan}
+use Rattle.scope.specs.Numbers.{ofCounted}
+use Rattle.scope.specs.Calls.{bank}
+use Rattle.scope.proofs.PlanFacts.{pixel-handed}
+use Rattle.capi.proofs.Passed.{told-of}
+use Rattle.capi.proofs.bankplan_bank.Statement.{statement}
+use Rattle.capi.proofs.bankplan_bank.Tie as tie
+
+bank-requires : tie.Need-bank-requires
+bank-requires c κs = search needs
+
+tell-counted-requires : tie.Need-tell-counted-requires
+tell-counted-requires c κs = search needs
+
+returns : tie.Need-returns
+unfolding plan
+returns c =
+    let b = c .before .before in
+    let f = b .before .fits in
+    told-of ofCounted (b .bank .ensures ∙ ap (bank _) (pixel-handed (f .i) (f .j))) (c .tell-counted .ensures)
+
+pub bankplan-bank-spec : {M : Type 1} → statement M
+bankplan-bank-spec =
+    tie.close
+    (tie.spec
+    bank-requires
+    tell-counted-requires
+    returns)

@@ -1,0 +1,26 @@
+-- `capi::bankplan_depth` meets its contract.
+-- Assumes nothing.
+use borrow.Author.Needs.{needs}
+use Rattle.scope.specs.Plans.{plan}
+use Rattle.scope.specs.Numbers.{ofCounted}
+use Rattle.capi.proofs.Passed.{told-of}
+use Rattle.capi.proofs.bankplan_depth.Statement.{statement}
+use Rattle.capi.proofs.bankplan_depth.Tie as tie
+
+depth-requires : tie.Need-depth-requires
+depth-requires c κs = search needs
+
+tell-counted-requires : tie.Need-tell-counted-requires
+tell-counted-requires c κs = search needs
+
+returns : tie.Need-returns
+unfolding plan
+returns c = told-of ofCounted (c .before .before .depth .ensures) (c .tell-counted .ensures)
+
+pub bankplan-depth-spec : {M : Type 1} → statement M
+bankplan-depth-spec =
+    tie.close
+    (tie.spec
+    depth-requires
+    tell-counted-requires
+    returns)

@@ -1,0 +1,26 @@
+-- `capi::bankplan_locate` meets its contract.
+-- Assumes nothing.
+use borrow.Author.Needs.{needs}
+use Rattle.scope.specs.Plans.{plan}
+use Rattle.scope.specs.Numbers.{ofLocated}
+use Rattle.capi.proofs.Passed.{told-of}
+use Rattle.capi.proofs.bankplan_locate.Statement.{statement}
+use Rattle.capi.proofs.bankplan_locate.Tie as tie
+
+locate-requires : tie.Need-locate-requires
+locate-requires c κs = search needs
+
+tell-located-requires : tie.Need-tell-located-requires
+tell-located-requires c κs = search needs
+
+returns : tie.Need-returns
+unfolding plan
+returns c = told-of ofLocated (c .before .before .locate .ensures) (c .tell-located .ensures)
+
+pub bankplan-locate-spec : {M : Type 1} → statement M
+bankplan-locate-spec =
+    tie.close
+    (tie.spec
+    locate-requires
+    tell-located-requires
+    returns)

@@ -1,0 +1,66 @@
+-- `capi::bankplan_read_book` meets its contract.
+-- Assumes nothing.
+use mathlib.Core.Path.{refl, _∙_}
+use borrow.Author.Needs.{needs}
+use Rattle.capi.specs.Flat.{flatColumns, flatRows, flatUsed}
+use Rattle.capi.proofs.Passed.{told-value, told-refusal, reading-done, reading-refused, filled-read, kept-refused}
+use Rattle.capi.proofs.bankplan_read_book.Statement.{statement}
+use Rattle.capi.proofs.bankplan_read_book.Tie as tie
+
+read-book-requires : tie.Need-read-book-requires
+read-book-requires c κs = search needs
+
+enum-told : tie.Need-enum-told
+enum-told c = search needs
+
+tell-outcome-requires : tie.Need-tell-outcome-requires
+tell-outcome-requires c κs = search needs
+
+returns : tie.Need-returns
+returns c =
+    let told = c .before .before .enum-told .given .1 in
+    let refused = rw (c .before .before .before .before .read-book .ensures) at told in (
+      told-refusal told (reading-refused _ refused) (c .tell-outcome .ensures),
+      (kept-refused _ flatColumns _ refused, (kept-refused _ flatRows _ refused, kept-refused _ flatUsed _ refused)),
+    )
+
+enum-told-2 : tie.Need-enum-told-2
+enum-told-2 c = search needs
+
+put-pixels-requires : tie.Need-put-pixels-requires
+put-pixels-requires c κs = search needs
+
+put-used-requires : tie.Need-put-used-requires
+put-used-requires c κs = search needs
+
+element-write-answer : tie.Need-element-write-answer
+element-write-answer c = search needs
+
+returns-2 : tie.Need-returns-2
+returns-2 c =
+    let p = c .before .before in
+    let e = p .before .before .before .before .before .before .read-book .ensures in
+    let done = rw e at (p .before .before .before .before .enum-told2 .given .1) in (
+      told-value (reading-done _ done) (rw e refl),
+      (
+        (rw e at (p .put-pixels .ensures .0)) ∙ filled-read _ flatColumns _ done,
+        (
+          (rw e at (p .put-pixels .ensures .1)) ∙ filled-read _ flatRows _ done,
+          (rw e at (c .put-used .ensures)) ∙ filled-read _ flatUsed _ done,
+        ),
+      ),
+    )
+
+pub bankplan-read-book-spec : {M : Type 1} → statement M
+bankplan-read-book-spec =
+    tie.close
+    (tie.spec
+    read-book-requires
+    enum-told
+    tell-outcome-requires
+    returns
+    enum-told-2
+    put-pixels-requires
+    put-used-requires
+    element-write-answer
+    returns-2)

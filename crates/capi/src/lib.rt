@@ -1,0 +1,181 @@
+// The library for C and Rust: the calls on numbers, slices and arrays. Each answers a number, 0 where it was not refused, and
+// puts what it has to tell at the start of `answer`, the rest unchanged: its values, or the refusal's place and, of 10, the
+// clash's pattern and its earlier and later position.
+mod flat;
+mod told;
+
+use book::part_outcome;
+use book::part_place;
+use book::pattern_part;
+use book::read_book;
+use book::record_outcome;
+use book::write_book;
+use flat::book_of;
+use flat::put_pixels;
+use flat::put_used;
+use lattice::normal_form;
+use scope::Outcome;
+use scope::Plan;
+use told::tell_counted;
+use told::tell_located;
+use told::tell_outcome;
+use told::tell_planned;
+ghost use mathlib.Core.Path.{_≡_};
+ghost use mathlib.Core.List.{[], _∷_};
+ghost use lib.ListN.{length};
+ghost use Rattle.scope.specs.Plans.{at, plan};
+ghost use Rattle.scope.specs.Numbers.{ofPlanned, ofCounted, ofLocated, ofOutcome};
+ghost use Rattle.scope.specs.Calls.{readBook, patternPart, partOutcome, partPlace, recordOutcome, writeBook, normal, bank, depth, address, locate};
+ghost use Rattle.capi.specs.Told.{Tells, planRow, numberRow, pixelRow, noRow};
+ghost use Rattle.capi.specs.Flat.{flatBook, flatColumns, flatRows, flatUsed, ofReading, countRow, whenRead};
+
+// The normal form of (x1, x2) and (y1, y2): a, b, d.
+#[no_mangle]
+pub extern "C" fn bankplan_normal_form(
+    x1: i16,
+    x2: i16,
+    y1: i16,
+    y2: i16,
+    answer: &mut [u64; 4],
+) -> u64
+    ensures { λ n. ⌜ Tells planRow (ofPlanned (normal (at x1 x2) (at y1 y2))) (now (answer .entry)) (now (answer .exit)) n ⌝ }
+{
+    tell_planned(normal_form(x1, x2, y1, y2), answer)
+}
+
+// The bank of the pixel (i, j).
+#[no_mangle]
+pub extern "C" fn bankplan_bank(
+    a: u32,
+    b: u32,
+    d: u32,
+    i: i16,
+    j: i16,
+    answer: &mut [u64; 4],
+) -> u64
+    ensures { λ n. ⌜ Tells numberRow (ofCounted (bank (plan a b d) (at i j))) (now (answer .entry)) (now (answer .exit)) n ⌝ }
+{
+    tell_counted(Plan { a, b, d }.bank(i, j), answer)
+}
+
+// The depth for a picture of width w and height h.
+#[no_mangle]
+pub extern "C" fn bankplan_depth(
+    a: u32,
+    b: u32,
+    d: u32,
+    w: u32,
+    h: u32,
+    answer: &mut [u64; 4],
+) -> u64
+    ensures { λ n. ⌜ Tells numberRow (ofCounted (depth (plan a b d) w h)) (now (answer .entry)) (now (answer .exit)) n ⌝ }
+{
+    tell_counted(Plan { a, b, d }.depth(w, h), answer)
+}
+
+// The address of the pixel (i, j).
+#[no_mangle]
+pub extern "C" fn bankplan_address(
+    a: u32,
+    b: u32,
+    d: u32,
+    w: u32,
+    h: u32,
+    i: i16,
+    j: i16,
+    answer: &mut [u64; 4],
+) -> u64
+    ensures { λ n. ⌜ Tells numberRow (ofCounted (address (plan a b d) w h (at i j))) (now (answer .entry)) (now (answer .exit)) n ⌝ }
+{
+    tell_counted(Plan { a, b, d }.address(w, h, i, j), answer)
+}
+
+// The column and row of the pixel of bank k and address i.
+#[no_mangle]
+pub extern "C" fn bankplan_locate(
+    a: u32,
+    b: u32,
+    d: u32,
+    w: u32,
+    h: u32,
+    k: u64,
+    i: u64,
+    answer: &mut [u64; 4],
+) -> u64
+    ensures { λ n. ⌜ Tells pixelRow (ofLocated (locate (plan a b d) w h k i)) (now (answer .entry)) (now (answer .exit)) n ⌝ }
+{
+    tell_located(Plan { a, b, d }.locate(w, h, k, i), answer)
+}
+
+// Reads a book's bytes into a record's flat arrays, and tells the pattern count.
+#[no_mangle]
+pub extern "C" fn bankplan_read_book(
+    s: &[u8],
+    columns: &mut [i8; 1024],
+    rows: &mut [i8; 1024],
+    used: &mut [usize; 16],
+    answer: &mut [u64; 4],
+) -> u64
+    ensures told { λ n. ⌜ Tells countRow (ofReading (readBook (now (s .entry)))) (now (answer .entry)) (now (answer .exit)) n ⌝ }
+    ensures columns { λ n. ⌜ now (columns .exit) ≡ whenRead flatColumns (readBook (now (s .entry))) (now (columns .entry)) ⌝ }
+    ensures rows { λ n. ⌜ now (rows .exit) ≡ whenRead flatRows (readBook (now (s .entry))) (now (rows .entry)) ⌝ }
+    ensures used { λ n. ⌜ now (used .exit) ≡ whenRead flatUsed (readBook (now (s .entry))) (now (used .entry)) ⌝ }
+{
+    let reading = read_book(s);
+    let outcome = reading.outcome;
+    if let Outcome::Refused(_) = outcome {
+        return tell_outcome(outcome, answer);
+    }
+    let record = reading.book;
+    put_pixels(record, columns, rows);
+    put_used(record, used);
+    answer[0] = record.count as u64;
+    0
+}
+
+// The place and the length of pattern n's part of a book's bytes.
+#[no_mangle]
+pub extern "C" fn bankplan_pattern_part(s: &[u8], n: usize, answer: &mut [u64; 4]) -> u64
+    ensures { λ r. ⌜ Tells (λ x. partPlace (now (s .entry)) n ∷ length (patternPart (now (s .entry)) n) ∷ []) (ofOutcome (partOutcome (now (s .entry)) n)) (now (answer .entry)) (now (answer .exit)) r ⌝ }
+{
+    let outcome = part_outcome(s, n);
+    if let Outcome::Refused(_) = outcome {
+        return tell_outcome(outcome, answer);
+    }
+    let part = pattern_part(s, n);
+    let place = part_place(s, n);
+    answer[0] = place as u64;
+    answer[1] = part.len() as u64;
+    0
+}
+
+// Writes the bytes of a record given as flat arrays, and tells how many.
+#[no_mangle]
+pub extern "C" fn bankplan_write_book(
+    columns: &[i8; 1024],
+    rows: &[i8; 1024],
+    used: &[usize; 16],
+    count: usize,
+    out: &mut [u8],
+    answer: &mut [u64; 4],
+) -> u64
+    ensures told { λ n. ⌜ Tells numberRow (ofCounted (writeBook (flatBook (now (columns .entry)) (now (rows .entry)) (now (used .entry)) count) (now (out .entry)) .answer)) (now (answer .entry)) (now (answer .exit)) n ⌝ }
+    ensures out { λ n. ⌜ now (out .exit) ≡ writeBook (flatBook (now (columns .entry)) (now (rows .entry)) (now (used .entry)) count) (now (out .entry)) .content ⌝ }
+{
+    let record = book_of(columns, rows, used, count);
+    tell_counted(write_book(record, out), answer)
+}
+
+// Whether a record given as flat arrays is a book.
+#[no_mangle]
+pub extern "C" fn bankplan_test_record(
+    columns: &[i8; 1024],
+    rows: &[i8; 1024],
+    used: &[usize; 16],
+    count: usize,
+    answer: &mut [u64; 4],
+) -> u64
+    ensures { λ n. ⌜ Tells noRow (ofOutcome (recordOutcome (flatBook (now (columns .entry)) (now (rows .entry)) (now (used .entry)) count))) (now (answer .entry)) (now (answer .exit)) n ⌝ }
+{
+    tell_outcome(record_outcome(book_of(columns, rows, used, count)), answer)
+}
