@@ -1,0 +1,112 @@
+//! The static library's functions, each behind a safe function that lends it slices and arrays.
+
+// A slice passes as a pointer and then a length, an array as a pointer.
+extern "C" {
+    fn bankplan_normal_form(x1: i16, x2: i16, y1: i16, y2: i16, answer: &mut [u64; 4]) -> u64;
+    fn bankplan_bank(a: u32, b: u32, d: u32, i: i16, j: i16, answer: &mut [u64; 4]) -> u64;
+    fn bankplan_depth(a: u32, b: u32, d: u32, w: u32, h: u32, answer: &mut [u64; 4]) -> u64;
+    fn bankplan_address(a: u32, b: u32, d: u32, w: u32, h: u32, i: i16, j: i16, answer: &mut [u64; 4]) -> u64;
+    fn bankplan_locate(a: u32, b: u32, d: u32, w: u32, h: u32, k: u64, i: u64, answer: &mut [u64; 4]) -> u64;
+    fn bankplan_read_book(
+        book: *const u8,
+        book_len: usize,
+        columns: &mut [i8; 1024],
+        rows: &mut [i8; 1024],
+        used: &mut [usize; 16],
+        answer: &mut [u64; 4],
+    ) -> u64;
+    fn bankplan_pattern_part(book: *const u8, book_len: usize, n: usize, answer: &mut [u64; 4]) -> u64;
+    fn bankplan_write_book(
+        columns: &[i8; 1024],
+        rows: &[i8; 1024],
+        used: &[usize; 16],
+        count: usize,
+        out: *mut u8,
+        out_len: usize,
+        answer: &mut [u64; 4],
+    ) -> u64;
+    fn bankplan_test_record(
+        columns: &[i8; 1024],
+        rows: &[i8; 1024],
+        used: &[usize; 16],
+        count: usize,
+        answer: &mut [u64; 4],
+    ) -> u64;
+}
+
+/// A plan's three numbers, legal or not.
+#[derive(Clone, Copy, Debug, PartialEq)]
+pub struct Plan {
+    pub a: u32,
+    pub b: u32,
+    pub d: u32,
+}
+
+/// What a call said: the number, 0 where it was not refused, and the row of numbers that it put.
+#[derive(Clone, Debug, PartialEq)]
+pub struct Told {
+    pub number: u64,
+    pub row: Vec<u64>,
+}
+
+/// A book record: 16 patterns of 64 columns and rows, their used counts, and the pattern count.
+#[derive(Clone, Debug, PartialEq)]
+pub struct Record {
+    pub columns: [i8; 1024],
+    pub rows: [i8; 1024],
+    pub used: [usize; 16],
+    pub count: usize,
+}
+
+// What stands in the answer before a call; no call gives it.
+const UNTOUCHED: u64 = 0xabad_1dea_abad_1dea;
+
+// Calls with a fresh answer and takes off what the call left untouched.
+fn told(call: impl FnOnce(&mut [u64; 4]) -> u64) -> Told {
+    let mut answer = [UNTOUCHED; 4];
+    let number = call(&mut answer);
+    let mut row = answer.to_vec();
+    while row.last() == Some(&UNTOUCHED) {
+        row.pop();
+    }
+    Told { number, row }
+}
+
+pub fn normal_form(x: (i16, i16), y: (i16, i16)) -> Told {
+    told(|t| unsafe { bankplan_normal_form(x.0, x.1, y.0, y.1, t) })
+}
+
+pub fn bank(p: Plan, v: (i16, i16)) -> Told {
+    told(|t| unsafe { bankplan_bank(p.a, p.b, p.d, v.0, v.1, t) })
+}
+
+pub fn depth(p: Plan, w: u32, h: u32) -> Told {
+    told(|t| unsafe { bankplan_depth(p.a, p.b, p.d, w, h, t) })
+}
+
+pub fn address(p: Plan, w: u32, h: u32, v: (i16, i16)) -> Told {
+    told(|t| unsafe { bankplan_address(p.a, p.b, p.d, w, h, v.0, v.1, t) })
+}
+
+pub fn locate(p: Plan, w: u32, h: u32, bank: u64, address: u64) -> Told {
+    told(|t| unsafe { bankplan_locate(p.a, p.b, p.d, w, h, bank, address, t) })
+}
+
+/// Reads a book into the record given, whose arrays are as they were where the call is refused. The count is told.
+pub fn read_book(bytes: &[u8], into: &mut Record) -> Told {
+    let Record { columns, rows, used, .. } = into;
+    told(|t| unsafe { bankplan_read_book(bytes.as_ptr(), bytes.len(), columns, rows, used, t) })
+}
+
+/// The place and the length of a pattern's part.
+pub fn pattern_part(bytes: &[u8], n: usize) -> Told {
+    told(|t| unsafe { bankplan_pattern_part(bytes.as_ptr(), bytes.len(), n, t) })
+}
+
+pub fn write_book(r: &Record, out: &mut [u8]) -> Told {
+    told(|t| unsafe { bankplan_write_book(&r.columns, &r.rows, &r.used, r.count, out.as_mut_ptr(), out.len(), t) })
+}
+
+pub fn test_record(r: &Record) -> Told {
+    told(|t| unsafe { bankplan_test_record(&r.columns, &r.rows, &r.used, r.count, t) })
+}
