@@ -42,3 +42,9 @@ module _ {P Q : Type 0} where
 -- a test that does not fail
 pub not-iff : {P : Type 0} (b : Bool) → (b ≡ true) ↔ P → (not b ≡ false) ↔ P
 not-iff b h = Iff·trans (not-false b, ap not) h
+
+-- two tests that hold together are the same
+pub same-truth : (a b : Bool) → (a ≡ true → b ≡ true) → (b ≡ true → a ≡ true) → a ≡ b
+same-truth true b there back = sym (there refl)
+same-truth false true there back = back refl
+same-truth false false there back = refl

@@ -9,7 +9,7 @@ use lib.IntN.{ℤ, pos, negsuc, negℤ, natAbs, _+ℤ_, _-ℤ_, _*ℤ_}
 use mir.Syntax.{Width}
 use mir.Val.{SFits, hbits}
 use Rattle.integers.specs.Division.{floorDiv}
-use Rattle.integers.proofs.Integers.{above, below, own-parts, same-difference, parts-add, size-of-neg, size-of-product}
+use Rattle.integers.proofs.Integers.{Difference, above, below, own-parts, same-difference, parts-add, parts-neg, size-of-neg, size-of-product}
 
 pub small-fits : (w : Width) (n : ℕ) (z : ℤ) → natAbs z ≤ n → n < 2 ^ hbits w → SFits w z
 small-fits w n (pos m) h k = record { sfits = omega arith }
@@ -49,3 +49,24 @@ size-of-quotient (negsuc n) d = omega (arith, div-le-self n d)
 pub fitting-size : (w : Width) (z : ℤ) → SFits w z → natAbs z ≤ 2 ^ hbits w
 fitting-size w (pos m) f = omega (arith, f .sfits)
 fitting-size w (negsuc m) f = omega (arith, f .sfits)
+
+-- p - q fits w bits if p < 2^(w - 1) and q ≤ 2^(w - 1)
+parts-fit : (w : Width) (z : ℤ) {p q : ℕ} → Difference z p q → p < 2 ^ hbits w → q ≤ 2 ^ hbits w → SFits w z
+parts-fit w (pos n) h k l = record { sfits = omega (arith, h .apart) }
+parts-fit w (negsuc n) h k l = record { sfits = omega (arith, h .apart) }
+
+-- A number of v bits less one of size at most n fits w bits. (By its size alone 2^(w - 1) would not fit.)
+pub difference-fits :
+    (v w : Width) (n : ℕ) (x y : ℤ) → SFits v x → natAbs y ≤ n → 2 ^ hbits v + n ≤ 2 ^ hbits w → SFits w (x -ℤ y)
+difference-fits v w n x y f h k =
+    parts-fit w (x -ℤ y) (parts-add (own-parts x) (parts-neg (own-parts y)))
+    (omega (arith, fitting-parts x f, parts-at-most y h))
+    (omega (arith, fitting-parts x f, parts-at-most y h))
+  where
+    fitting-parts : (x : ℤ) → SFits v x → (above x < 2 ^ hbits v) × (below x ≤ 2 ^ hbits v)
+    fitting-parts (pos m) f = (omega (arith, f .sfits), omega arith)
+    fitting-parts (negsuc m) f = (omega (arith, f .sfits), omega (arith, f .sfits))
+
+    parts-at-most : (y : ℤ) → natAbs y ≤ n → (above y ≤ n) × (below y ≤ n)
+    parts-at-most (pos m) h = (omega arith, omega arith)
+    parts-at-most (negsuc m) h = (omega arith, omega arith)

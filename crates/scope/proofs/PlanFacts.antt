@@ -1,19 +1,16 @@
 -- What the tests of a plan, of a picture's sides and of a pixel say in plain numbers, with the bounds that the code rests on.
 -- Assumes nothing.
-use Prim.Native.Nat.{ℕ, _+_, _*_, _≤_, _<_}
+use Prim.Native.Nat.{ℕ, _*_, _≤_, _<_}
 use native.Mathlib.Omega.{arith}
 use native.Mathlib.Nat.{le-mul-of-pos-right, mul-comm}
-use mathlib.Core.Path.{_≡_, refl, sym, _∙_, ap}
+use mathlib.Core.Path.{_≡_, refl, sym, ap}
 use mathlib.Core.Logic.{_↔_, Iff·trans}
 use mathlib.Core.Bool.{true, _&&_, false≢true}
-use lib.IntN.{ℤ, pos, negsuc, natAbs, pos-ne-negsuc, _+ℤ_}
+use lib.IntN.{ℤ, pos, negsuc, natAbs, pos-ne-negsuc}
 use mir.Syntax.{w16}
 use mir.Val.{SFits, toZ, ofZ}
 use mir.Facts.{toZ-ofZ}
-use Rattle.integers.specs.Division.{ceilDiv}
 use Rattle.integers.proofs.Comparisons.{leb-iff, ltb-iff, and-iff}
-use Rattle.integers.proofs.Divisions.{ceiling-division}
-use Rattle.integers.proofs.Raised.{raised-read}
 use Rattle.scope.specs.Plans.{Pixel, at, isPlan, banks}
 use Rattle.scope.specs.Banks.{within, inside}
 use Rattle.scope.specs.Numbers.{isSide}
@@ -52,24 +49,6 @@ are-sides-iff W H = and-iff _ _ (is-side-iff W) (is-side-iff H)
 pub sides-mean : (W H : ℕ) → isSide W && isSide H ≡ true → IsSide W × IsSide H
 sides-mean W H = are-sides-iff W H .0
 
--- n/k rounded up is not above n
-ceiling-at-most : (n k : ℕ) → 1 ≤ k → ceilDiv n k ≤ n
-ceiling-at-most n k h = ceiling-division n k h n .1 (le-mul-of-pos-right {m = k} n h)
-
--- W/a and H/d rounded up: what `rounded_up` requires, and that neither is above 4096
-module _ (p : Plan) (W H : ℕ) (plan : isPlan p ≡ true) (sides : isSide W && isSide H ≡ true) where
-  pub width-by-a : (0 < p .a) × (p .a ≤ 1024) × (W ≤ 4096)
-  width-by-a = let f = plan-means p plan in (f .a-least, a-at-most p f, sides-mean W H sides .0 .1)
-
-  pub height-by-d : (0 < p .d) × (p .d ≤ 1024) × (H ≤ 4096)
-  height-by-d = let f = plan-means p plan in (f .d-least, d-at-most p f, sides-mean W H sides .1 .1)
-
-  pub across-at-most : ceilDiv W (p .a) ≤ 4096
-  across-at-most = omega (arith, ceiling-at-most W (p .a) (width-by-a .0), width-by-a .2)
-
-  pub strips-at-most : ceilDiv H (p .d) ≤ 4096
-  strips-at-most = omega (arith, ceiling-at-most H (p .d) (height-by-d .0), height-by-d .2)
-
 -- 14: both coordinates of a pixel inside are naturals below the sides
 within-iff : (z : ℤ) (n : ℕ) → (within z n ≡ true) ↔ ((i : ℕ) × (z ≡ pos i) × (i < n))
 unfolding within
@@ -90,8 +69,3 @@ inside-means W H v = inside-iff W H v .0
 -- a pixel handed to a callee is the same pixel
 pub pixel-handed : {i j : ℤ} → SFits w16 i → SFits w16 j → at (toZ w16 (ofZ w16 i)) (toZ w16 (ofZ w16 j)) ≡ at i j
 pixel-handed f g = rw (toZ-ofZ f, toZ-ofZ g)
-
--- a coordinate of a pixel inside, handed to a callee and raised by 2^15
-pub raised-natural :
-    (x : ℕ) (z : ℤ) → SFits w16 z → pos x ≡ toZ w16 (ofZ w16 z) +ℤ pos 32768 → (i : ℕ) → z ≡ pos i → x ≡ i + 32768
-raised-natural x z f e i k = ap natAbs (raised-read 32768 f e ∙ ap (λ (y : ℤ). y +ℤ pos 32768) k)
