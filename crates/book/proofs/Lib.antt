@@ -14,7 +14,4 @@ pub mod ProgramText
 pub mod Outcomes
 pub mod Window
 pub mod Scanning
-pub mod Fills
-pub mod Taken
 pub mod Puts
-pub mod PartAnswers

@@ -1,4 +1,5 @@
--- Bytes that are taken, with more bytes after them: all is read as before, and the first byte after them is refused.
+-- Bytes with more bytes after them: what stands in them is read as before, and where they are taken the first byte after
+-- them is refused.
 -- Assumes nothing.
 use Prim.Native.Nat.{ℕ, zero, suc, _+_, _*_, _≤_, _<_}
 use native.Mathlib.Omega.{arith}
@@ -34,61 +35,70 @@ extra-decides s count each more =
     patterns : first 0 (byte s 0) (patternRead s) ≡ none
     patterns = none-first 0 (byte s 0) (patternRead s) (λ n _ h. each n (omega arith))
 
--- Bytes s that are taken, with rest after them: up to the end of s all is read as in s alone.
-module _ (s rest : List ℕ) (taken : bytesTest s ≡ none) where
-  book-of-taken : FromTo 16 (byte s 0) × ((n : ℕ) → n < byte s 0 → IsPattern (patternOf (patternIn s n)))
-  unfolding bookIn
-  book-of-taken = gathered-book-iff (byte s 0) (patternIn s) .0 (bytes-taken-iff s .0 taken .1)
-
-  same-byte : (i : ℕ) → i < length s → byte (s ++ rest) i ≡ byte s i
+-- Bytes s with rest after them: what stands before the end of s is read as in s alone.
+module _ (s rest : List ℕ) where
+  pub same-byte : (i : ℕ) → i < length s → byte (s ++ rest) i ≡ byte s i
   unfolding byte
   same-byte i h = List·getD-append s rest 0 i h
 
-  end-of-pattern : (n : ℕ) → n < byte s 0 → start s n + 1 + 2 * byte s (start s n) ≤ length s
-  end-of-pattern n h = omega (arith, start-after s n (byte s 0) h, next-start s n, bytes-taken-iff s .0 taken .0)
-
-  same-start : (n : ℕ) → n ≤ byte s 0 → start (s ++ rest) n ≡ start s n
+  pub same-start : (n : ℕ) → start s n ≤ length s → start (s ++ rest) n ≡ start s n
   unfolding start
   same-start zero h = refl
   same-start (suc n) h = next-same (same-start n (omega arith))
     where
       next-same : start (s ++ rest) n ≡ start s n → start (s ++ rest) (suc n) ≡ start s (suc n)
-      next-same e = rw (e, same-byte (start s n) (omega (arith, end-of-pattern n (omega arith)))) refl
+      next-same e = rw (e, same-byte (start s n) (omega arith)) refl
 
-  same-first : byte (s ++ rest) 0 ≡ byte s 0
-  same-first = same-byte 0 (omega (arith, end-of-pattern 0 (book-of-taken .0 .0)))
+  module _ (n : ℕ) where
+    pub same-count : start s n < length s → byte (s ++ rest) (start (s ++ rest) n) ≡ byte s (start s n)
+    same-count h = ap (byte (s ++ rest)) (same-start n (omega arith)) ∙ same-byte (start s n) h
 
-  module _ (n : ℕ) (below : n < byte s 0) where
-    same-count : byte (s ++ rest) (start (s ++ rest) n) ≡ byte s (start s n)
-    same-count =
-        ap (byte (s ++ rest)) (same-start n (omega arith)) ∙ same-byte (start s n) (omega (arith, end-of-pattern n below))
+    pub same-place : (e : ℕ) → start s n ≤ length s → place (s ++ rest) n e ≡ place s n e
+    unfolding place
+    same-place e h = rw (same-start n h) refl
 
-    same-pixel : (e : ℕ) → e < byte s (start s n) → pixelIn (s ++ rest) n e ≡ pixelIn s n e
+    pub same-pixel : (e : ℕ) → place s n e + 2 ≤ length s → pixelIn (s ++ rest) n e ≡ pixelIn s n e
     unfolding pixelIn place
     same-pixel e h =
-        let inside = end-of-pattern n below in
         let i : ℕ = start s n + 1 + 2 * e in
         rw (same-start n (omega arith), same-byte i (omega arith), same-byte (i + 1) (omega arith)) refl
 
-    same-pattern : patternIn (s ++ rest) n ≡ patternIn s n
-    same-pattern =
-        ap (λ u. gather 0 u (pixelIn (s ++ rest) n)) same-count
-        ∙ gather-same 0 (byte s (start s n)) (pixelIn (s ++ rest) n) (pixelIn s n) (λ e _ h. same-pixel e (omega arith))
+    same-pattern : start s (suc n) ≤ length s → patternIn (s ++ rest) n ≡ patternIn s n
+    unfolding place
+    same-pattern h =
+        let inside : start s n + 1 + 2 * byte s (start s n) ≤ length s = omega (arith, next-start s n) in
+        ap (λ u. gather 0 u (pixelIn (s ++ rest) n)) (same-count (omega arith))
+        ∙ gather-same 0 (byte s (start s n)) (pixelIn (s ++ rest) n) (pixelIn s n) (λ e _ k. same-pixel e (omega arith))
+
+-- Where s is taken, all of it is read as before.
+module _ (s rest : List ℕ) (taken : bytesTest s ≡ none) where
+  book-of-taken : FromTo 16 (byte s 0) × ((n : ℕ) → n < byte s 0 → IsPattern (patternOf (patternIn s n)))
+  unfolding bookIn
+  book-of-taken = gathered-book-iff (byte s 0) (patternIn s) .0 (bytes-taken-iff s .0 taken .1)
+
+  end-of-pattern : (n : ℕ) → n < byte s 0 → start s (suc n) ≤ length s
+  end-of-pattern n h = omega (arith, start-after s n (byte s 0) h, bytes-taken-iff s .0 taken .0)
+
+  some-byte : 0 < length s
+  some-byte = omega (arith, end-of-pattern 0 (book-of-taken .0 .0), next-start s 0)
+
+  same-first : byte (s ++ rest) 0 ≡ byte s 0
+  same-first = same-byte s rest 0 some-byte
 
   same-end : start (s ++ rest) (byte (s ++ rest) 0) ≡ length s
   same-end =
-      ap (start (s ++ rest)) same-first ∙ same-start (byte s 0) (omega arith) ∙ bytes-taken-iff s .0 taken .0
+      let end = bytes-taken-iff s .0 taken .0 in
+      ap (start (s ++ rest)) same-first ∙ same-start s rest (byte s 0) (omega arith) ∙ end
 
   count-still-read : countRead (s ++ rest) 16 0 ≡ none
   count-still-read =
-      count-read-iff (s ++ rest) 16 0 .1
-      (omega (arith, end-of-pattern 0 (book-of-taken .0 .0), length-append s rest), rw same-first (book-of-taken .0))
+      count-read-iff (s ++ rest) 16 0 .1 (omega (arith, some-byte, length-append s rest), rw same-first (book-of-taken .0))
 
   pattern-still-read : (n : ℕ) → n < byte (s ++ rest) 0 → patternRead (s ++ rest) n ≡ none
   pattern-still-read n h =
       let below : n < byte s 0 = omega (arith, same-first) in
       pattern-is-read (s ++ rest) (byte (s ++ rest) 0) n (omega (arith, same-end, length-append s rest)) h
-      (rw (same-pattern n below) (book-of-taken .1 n below))
+      (rw (same-pattern s rest n (end-of-pattern n below)) (book-of-taken .1 n below))
 
   -- so they are refused for what comes after
   pub more-after-taken : 1 ≤ length rest → bytesTest (s ++ rest) ≡ some (Extra (length s))

@@ -11,7 +11,7 @@ use Rattle.scope.specs.Calls.{answered, recordOutcome}
 use Rattle.scope.specs.declared.Book.{Book}
 use Rattle.scope.specs.declared.Refusal.{Refusal}
 use Rattle.scope.specs.declared.Outcome.{Outcome}
-use Rattle.laws.proofs.Searches.{found-first, none-first}
+use Rattle.laws.proofs.Searches.{found-from-0, none-first}
 use Rattle.laws.proofs.Chains.{answered-none, answered-some}
 use Rattle.book.specs.Scan.{outcomeOf}
 
@@ -52,14 +52,7 @@ module _ {n : ℕ} {test : ℕ → Option Refusal} where
       {e : ℕ} {r : Refusal} → ((l : ℕ) → l < e → test l ≡ none) → e < n → test e ≡ some r
       → Outcome.Refused r ≡ outcomeOf (first 0 n test)
   refused-at {e} {r} before below here =
-      answered-by-refusal (first 0 n test) r
-      (found-first 0 n test r (record {
-        where-is = e;
-        from = omega arith;
-        below = omega arith;
-        here = here;
-        before = λ i p q. before i q;
-      }))
+      answered-by-refusal (first 0 n test) r (found-from-0 n test e r below before here)
 
   pub done-after : ((l : ℕ) → l < n → test l ≡ none) → Outcome.Done ≡ outcomeOf (first 0 n test)
   done-after before = answered-by-done (first 0 n test) (none-first 0 n test (λ i p q. before i (omega arith)))

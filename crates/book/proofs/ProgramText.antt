@@ -1,7 +1,7 @@
 -- What the program writes: a plan's two lines, or one line with the number of the refusal.
 -- Assumes nothing.
 use Prim.Native.Nat.{ℕ}
-use mathlib.Core.Path.{_≡_, sym, ap}
+use mathlib.Core.Path.{_≡_, refl, sym, ap}
 use mathlib.Core.Option.{Option}
 use mathlib.Core.List.{List, _++_}
 use Rattle.scope.specs.Numbers.{value, refusal, ofPlanned, ofOutcome}
@@ -11,6 +11,7 @@ use Rattle.scope.specs.BookPromises.{ProgramWrites}
 use Rattle.scope.specs.declared.Plan.{Plan}
 use Rattle.scope.specs.declared.Planned.{Planned}
 use Rattle.scope.specs.declared.Outcome.{Outcome}
+use Rattle.scope.specs.declared.Refusal.{Refusal}
 use Rattle.scope.specs.declared.Clash.{Clash}
 use Rattle.laws.proofs.Chains.{value-not-refusal, value-injective, refusal-number}
 
@@ -33,6 +34,16 @@ unfolding refusedLine
 written-for-a-refusal Outcome.Done answer n i c e = absurd (value-not-refusal e)
 written-for-a-refusal (Outcome.Refused r) answer n i c e =
     ap (λ k. ascii "refused " ++ decimal k ++ ascii "\n") (refusal-number e)
+
+-- the text for a book that was read, and for one that was not
+module _ (s : List ℕ) where
+  pub text-of-read : readBook s .outcome ≡ Outcome.Done → planText (find (readBook s .book) 1024) ≡ programText s
+  unfolding programText
+  text-of-read done = rw (done, programText) refl
+
+  pub text-of-refused : {r : Refusal} → readBook s .outcome ≡ Outcome.Refused r → refusedLine r ≡ programText s
+  unfolding programText
+  text-of-refused refused = rw (refused, programText) refl
 
 -- The program writes the two lines of the plan that the finder gives with limit 1024, or the reader's refusal.
 pub program-writes : ProgramWrites

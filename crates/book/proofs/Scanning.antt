@@ -1,8 +1,7 @@
--- The tests of a book's bytes and of a record as the code makes them: pattern after pattern, each by the place where it
--- stands or by its own record.
+-- The tests of a pattern as the code makes them, by the place where it stands or by its own record, and those of a record,
+-- pattern after pattern.
 -- Assumes nothing.
 use Prim.Native.Nat.{ℕ, _+_, _*_, _≤_, _<_}
-use native.Mathlib.Omega.{arith}
 use mathlib.Core.Path.{_≡_, refl, _∙_}
 use mathlib.Core.Option.{none, some}
 use mathlib.Core.List.{List, [], _∷_}
@@ -13,7 +12,7 @@ use Rattle.scope.specs.Search.{first, whenever, firstOf}
 use Rattle.scope.specs.Plans.{pixelAt, patternAt}
 use Rattle.scope.specs.Books.{byte, start}
 use Rattle.scope.specs.Numbers.{countTest, pixelTest, patternTest, recordTest}
-use Rattle.scope.specs.Numbers.{countRead, pixelRead, patternRead, extraTest, bytesTest}
+use Rattle.scope.specs.Numbers.{countRead, pixelRead, patternRead}
 use Rattle.scope.specs.declared.Pattern.{Pattern}
 use Rattle.scope.specs.declared.Book.{Book}
 use Rattle.scope.specs.declared.Refusal.{Refusal}
@@ -23,8 +22,7 @@ use Rattle.laws.proofs.Chains.{chain-refuses, chain-goes-on, chain-of-one}
 use Rattle.laws.proofs.BookTests.{count-legal-iff, pattern-legal-iff, book-legal-iff}
 use Rattle.laws.proofs.BookRefusals.{count-refused, search-refuses}
 use Rattle.book.specs.Scan.{pixelFrom, pixelReadFrom, patternReadFrom, patternTestOf}
-use Rattle.book.proofs.Bytes.{next-start}
-use Rattle.book.proofs.Reading.{FromTo, count-read-iff, pattern-read-iff, bytes-read-iff, pattern-inside}
+use Rattle.book.proofs.Reading.{FromTo}
 
 -- A pattern's tests by its number are those by the place where it stands, and so are its pixels'.
 pub pattern-read-from : (s : List ℕ) (n : ℕ) → patternRead s n ≡ patternReadFrom s (start s n)
@@ -58,39 +56,11 @@ module _ (s : List ℕ) (i e : ℕ) where
   both-there h =
       pixel-chain ∙ chain-goes-on _ _ (none-whenever _ _ (ltb-false-iff (length s) (i + 2 * e + 2) .1 h)) ∙ chain-of-one _
 
-module _ (s : List ℕ) where
-  -- The tests of the pattern at place i: a refused count decides, and after a legal one the pixels do.
-  module _ (i : ℕ) where
-    pub count-decides-from : (r : Refusal) → countRead s 64 i ≡ some r → patternReadFrom s i ≡ some r
-    unfolding patternReadFrom
-    count-decides-from r e =
-        chain-refuses (countRead s 64 i) (first 0 (byte s i) (pixelReadFrom s (i + 1)) ∷ []) r e
-
-    pub pixels-decide-from :
-        i < length s → FromTo 64 (byte s i) → patternReadFrom s i ≡ first 0 (byte s i) (pixelReadFrom s (i + 1))
-    unfolding patternReadFrom
-    pixels-decide-from h legal =
-        chain-goes-on (countRead s 64 i) (first 0 (byte s i) (pixelReadFrom s (i + 1)) ∷ []) (count-read-iff s 64 i .1 (h, legal))
-        ∙ chain-of-one (first 0 (byte s i) (pixelReadFrom s (i + 1)))
-
-  -- The pixels of a pattern that was read are there.
-  pub read-pattern-inside : (n : ℕ) → patternRead s n ≡ none → start s n + 1 + 2 * byte s (start s n) ≤ length s
-  read-pattern-inside n e = omega (arith, pattern-inside s n (pattern-read-iff s n .0 e), next-start s n)
-
-  -- With a legal count, the first pattern that is refused decides; where all are read and no byte is left, the bytes are taken.
-  module _ (counted : 0 < length s) (legal : FromTo 16 (byte s 0)) where
-    pub pattern-decides :
-        (n : ℕ) (r : Refusal) → n < byte s 0 → ((m : ℕ) → m < n → patternRead s m ≡ none) → patternRead s n ≡ some r
-        → bytesTest s ≡ some r
-    unfolding bytesTest
-    pattern-decides n r below before here =
-        search-refuses (countRead s 16 0) (byte s 0) (patternRead s) (extraTest s ∷ []) r n
-        (count-read-iff s 16 0 .1 (counted, legal)) below here before
-
-    pub all-taken :
-        ((n : ℕ) → n < byte s 0 → patternRead s n ≡ none) → length s ≤ start s (byte s 0) → bytesTest s ≡ none
-    all-taken each over =
-        bytes-read-iff s .1 ((counted, legal), (λ n h. pattern-read-iff s n .0 (each n h), over))
+-- The tests of the pattern at place i: a refused count decides.
+pub count-decides-from :
+    (s : List ℕ) (i : ℕ) (r : Refusal) → countRead s 64 i ≡ some r → patternReadFrom s i ≡ some r
+unfolding patternReadFrom
+count-decides-from s i r e = chain-refuses (countRead s 64 i) (first 0 (byte s i) (pixelReadFrom s (i + 1)) ∷ []) r e
 
 -- The tests of a pattern's record: a refused count decides, and after a legal one the pixels do.
 module _ (t : Pattern) where

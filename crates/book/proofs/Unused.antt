@@ -44,7 +44,7 @@ repeats-same e f g same =
     someBelow-same e (λ l. samePixel (f l) (f e)) (λ l. samePixel (g l) (g e))
     (λ l h. ap₂ samePixel (same l (omega arith)) (same e (omega arith)))
 
-pixelTest-same :
+pub pixelTest-same :
     (i j e : ℕ) (f g : ℕ → Pixel) → ((l : ℕ) → l ≤ e → f l ≡ g l) → pixelTest i j f e ≡ pixelTest i j g e
 unfolding pixelTest
 pixelTest-same i j e f g same = cc (same e (omega arith), repeats-same e f g same)

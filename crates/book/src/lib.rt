@@ -1,14 +1,8 @@
-// Pattern books: the reader, a pattern's part of the bytes, the writer, and the validity of a record.
+// Book records: their validity, the writer, and the window of a pattern's pixels.
 mod cells;
-mod part;
-mod reader;
 mod record;
-mod scanner;
 mod writer;
 
-pub use part::part_outcome;
-pub use part::part_place;
-pub use part::pattern_part;
-pub use reader::read_book;
+pub use cells::cell;
 pub use record::record_outcome;
 pub use writer::write_book;

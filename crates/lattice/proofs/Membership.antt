@@ -1,15 +1,15 @@
 -- Combinations of two vectors: a combination of combinations is one too, and a plan's test decides which pixels are in its lattice.
 -- Assumes nothing.
 use Prim.Native.Nat.{_≤_}
-use mathlib.Core.Path.{_≡_, refl, sym, _∙_}
+use mathlib.Core.Path.{_≡_, refl, _∙_}
 use mathlib.Core.Logic.{Iff·trans}
-use mathlib.Core.Bool.{Bool, true, false}
+use mathlib.Core.Bool.{true}
 use mathlib.Core.List.{[], _∷_}
 use lib.IntN.{ℤ, pos, negsuc, negℤ, _+ℤ_, _*ℤ_, _-ℤ_}
 use Rattle.integers.specs.Division.{floorDiv}
 use Rattle.integers.proofs.Ring.{ring, linear, _·_, reify}
 use Rattle.integers.proofs.Divisions.{Divides, divides-iff, quotient-of-multiple}
-use Rattle.integers.proofs.Comparisons.{and-iff}
+use Rattle.integers.proofs.Comparisons.{and-iff, same-truth}
 use Rattle.scope.specs.Plans.{Pixel, at, plus, minus, Combination, InLattice, latticeTest}
 use Rattle.scope.specs.Meaning.{LatticeMeans}
 use Rattle.scope.specs.declared.Plan.{Plan}
@@ -125,7 +125,7 @@ lattice-means p a-least d-least v =
     (and-iff _ _ (divides-iff (p .d) d-least (v .row)) (divides-iff (p .a) a-least (unslanted p v)))
     (λ (j, i). lattice-of-divisors p d-least v j i, λ c. (row-of-lattice p c, unslanted-of-lattice p d-least v c))
 
--- The test does not depend on which of two pixels is taken from the other
+-- The test does not depend on which of two pixels is taken from the other.
 pub lattice-symmetric :
     (p : Plan) → 1 ≤ p .a → 1 ≤ p .d → (v w : Pixel) → latticeTest p (minus v w) ≡ latticeTest p (minus w v)
 lattice-symmetric p a-least d-least v w =
@@ -135,8 +135,3 @@ lattice-symmetric p a-least d-least v w =
     turned v w e =
         lattice-means p a-least d-least (minus w v) .1
         (combination-of-negative v w (lattice-means p a-least d-least (minus v w) .0 e))
-
-    same-truth : (a b : Bool) → (a ≡ true → b ≡ true) → (b ≡ true → a ≡ true) → a ≡ b
-    same-truth true b f g = sym (f refl)
-    same-truth false true f g = g refl
-    same-truth false false f g = refl

@@ -18,7 +18,7 @@ use Rattle.scope.specs.declared.Pattern.{Pattern}
 use Rattle.scope.specs.declared.Book.{Book}
 use Rattle.scope.specs.declared.Refusal.{Refusal}
 use Rattle.scope.specs.declared.Refusal.the-variants.{Count, Coordinate, Repeat}
-use Rattle.laws.proofs.Searches.{true-not-false, whenever-not-none, found-first}
+use Rattle.laws.proofs.Searches.{true-not-false, whenever-not-none, found-from-0}
 use Rattle.laws.proofs.Chains.{chain-refuses, chain-goes-on}
 use Rattle.laws.proofs.Booleans.{refuses-iff, demands-iff}
 use Rattle.laws.proofs.BookTests.{small-iff, count-legal-iff, no-repeat-iff, pixel-legal-iff, pattern-legal-iff}
@@ -83,15 +83,7 @@ pub search-refuses :
     (t : Option Refusal) (n : ℕ) (f : ℕ → Option Refusal) (ts : List (Option Refusal)) (r : Refusal) (k : ℕ)
     → t ≡ none → k < n → f k ≡ some r → ((m : ℕ) → m < k → f m ≡ none) → firstOf (t ∷ first 0 n f ∷ ts) ≡ some r
 search-refuses t n f ts r k passed below here before =
-    chain-goes-on t _ passed
-    ∙ chain-refuses _ ts r
-    (found-first 0 n f r (record {
-      where-is = k;
-      from = omega arith;
-      below = omega arith;
-      here = here;
-      before = λ m _ earlier. before m earlier;
-    }))
+    chain-goes-on t _ passed ∙ chain-refuses _ ts r (found-from-0 n f k r below before here)
 
 -- A pattern gives the number of its first illegal pixel,
 pixel-decides :

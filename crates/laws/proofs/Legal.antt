@@ -55,7 +55,7 @@ normal-answers x y independent small =
     (answered-none _ Planned.Refused (Planned.Plan (normalForm x y))
     (test-before (independent-iff x y) (last-test (size-within-iff x y)) .iff .1 (independent, small)))
 
-bank-answers : (p : Plan) (v : Pixel) → IsPlan p → ofCounted (bank p v) ≡ value (bankOf p v)
+pub bank-answers : (p : Plan) (v : Pixel) → IsPlan p → ofCounted (bank p v) ≡ value (bankOf p v)
 unfolding bank
 bank-answers p v plan = ap ofCounted (answered-none _ Counted.Refused (Counted.Number (bankOf p v)) (plan-legal-iff p .1 plan))
 

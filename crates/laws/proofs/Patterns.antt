@@ -42,12 +42,16 @@ unfolding patterns
 getD-patterns book n d h =
     getD-gather 0 (book .count) (λ n. pixels (patternAt book n)) n d h ∙ ap (λ n. pixels (patternAt book n)) (zero-add n)
 
--- a pixel of the list stands at a position, a pattern of the list at a number
+-- a pixel is in the list exactly if it stands at a position, a pattern exactly if it stands at a number
 pub mem-pixels : {v : Pixel} (t : Pattern) → List·Memᴰ v (pixels t) → (e : ℕ) × (e < t .used) × (pixelAt t e ≡ v)
 unfolding pixels
 mem-pixels {v} t m =
     let w : At 0 (t .used) (pixelAt t) v = mem-gather 0 (t .used) (pixelAt t) v m in
     (w .index, omega (arith, w .below), w .is)
+
+pub pixels-mem : (t : Pattern) (e : ℕ) → e < t .used → List·Memᴰ (pixelAt t e) (pixels t)
+unfolding pixels
+pixels-mem t e h = gather-mem 0 (t .used) (pixelAt t) e (omega arith) (omega arith)
 
 pub mem-patterns :
     {t : List Pixel} (book : Book) → List·Memᴰ t (patterns book) → (n : ℕ) × (n < book .count) × (pixels (patternAt book n) ≡ t)

@@ -38,6 +38,16 @@ pub record Found {A : Type 0} (k n : ℕ) (f : ℕ → Option A) (x : A) : Type 
   pub here : f where-is ≡ some x
   pub before : (i : ℕ) → k ≤ i → i < where-is → f i ≡ none
 
+-- a search from k: what k gives, or what the numbers after it give
+module _ {A : Type 0} (f : ℕ → Option A) (k n : ℕ) where
+  pub first-here : (x : A) → f k ≡ some x → first k (suc n) f ≡ some x
+  unfolding first
+  first-here x e = rw (e, first)
+
+  pub first-beyond : f k ≡ none → first k (suc n) f ≡ first (suc k) n f
+  unfolding first
+  first-beyond e = rw (e, first)
+
 module _ {A : Type 0} where
   -- what a search gives stands first
   pub first-found : (k n : ℕ) (f : ℕ → Option A) (x : A) → first k n f ≡ some x → Found k n f x
@@ -86,6 +96,11 @@ module _ {A : Type 0} where
             here = t .here;
             before = λ i p q. t .before i (omega arith) q;
           }))
+
+  pub found-from-0 :
+      (n : ℕ) (f : ℕ → Option A) (i : ℕ) (x : A) → i < n → ((j : ℕ) → j < i → f j ≡ none) → f i ≡ some x → first 0 n f ≡ some x
+  found-from-0 n f i x h b e =
+      found-first 0 n f x (record { where-is = i; from = omega arith; below = omega arith; here = e; before = λ j p q. b j q })
 
   -- a search gives nothing exactly where each of its numbers gives nothing
   pub first-none : (k n : ℕ) (f : ℕ → Option A) → first k n f ≡ none → (i : ℕ) → k ≤ i → i < k + n → f i ≡ none
@@ -253,6 +268,14 @@ found-someBelow (suc n) f i p h = by-test (someBelow n f) refl (ℕ-discrete i n
     by-test true e d r = ap (λ (b : Bool). b || f n) e
     by-test false e (yes d) r = ap (λ (b : Bool). b || f n) e ∙ ap f (sym d) ∙ h
     by-test false e (no d) r = absurd (true-not-false (sym (r (omega arith) h) ∙ e))
+
+pub someBelow-iff :
+    (n : ℕ) (f : ℕ → Bool) (P : ℕ → Type 0) → ((i : ℕ) → (f i ≡ true) ↔ P i)
+    → (someBelow n f ≡ true) ↔ ((i : ℕ) × (i < n) × P i)
+someBelow-iff n f P h = (
+  λ e. let (i, less, found) = someBelow-found n f e in (i, less, h i .0 found),
+  λ (i, less, p). found-someBelow n f i less (h i .1 p),
+)
 
 pub someBelow-none : (n : ℕ) (f : ℕ → Bool) → someBelow n f ≡ false → (i : ℕ) → i < n → f i ≡ false
 someBelow-none n f e i p = not-true-is-false (f i) (λ h. true-not-false (sym (found-someBelow n f i p h) ∙ e))

@@ -1,0 +1,5 @@
+pub mod Scanned
+pub mod Fills
+pub mod Taken
+pub mod PartAnswers
+pub mod LongInput
