@@ -18,7 +18,7 @@ use Rattle.laws.proofs.Lists.{getD-take}
 use Rattle.laws.proofs.Patterns.{patterns-mem}
 use Rattle.lattice.proofs.Suits.{suits-all-iff}
 use Rattle.lattice.proofs.Apart.{fetched-banks-differ}
-use Rattle.finder.proofs.Find.{find-value-iff}
+use Rattle.finder.proofs.FindAnswers.{find-value-iff}
 use Rattle.finder.proofs.Least.{finder-is-least}
 use Rattle.buffer.proofs.CallTests.{word-test-iff, bank-test-iff, fetch-test-iff}
 use Rattle.buffer.proofs.Runs.{Holds, word-inside-picture, run-holds}

@@ -22,7 +22,7 @@ use Rattle.lattice.proofs.Banks.{bank-below-count}
 use Rattle.lattice.proofs.Suits.{suits-all-iff}
 use Rattle.lattice.proofs.Apart.{moved-banks-differ}
 use Rattle.finder.proofs.Search.{suiting-is-plan, least-plan-some, some-least-plan}
-use Rattle.finder.proofs.Find.{LegalFind, find-value-iff}
+use Rattle.finder.proofs.FindAnswers.{LegalFind, find-value-iff}
 use Rattle.finder.proofs.Pigeonhole.{pigeonhole}
 use Rattle.finder.proofs.Boxes.{box-suits, box-within}
 

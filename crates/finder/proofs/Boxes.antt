@@ -127,7 +127,7 @@ box-suits ts =
             (omega (arith, box-is-greatest ts .rows (minus v w) d))
 
 -- two numbers from -16 to 15 are less than 32 apart
-range-difference : (y z : ℤ) → InRange y → InRange z → natAbs (y -ℤ z) < 32
+pub range-difference : (y z : ℤ) → InRange y → InRange z → natAbs (y -ℤ z) < 32
 range-difference y z (y-least, y-most) (z-least, z-most) =
     let ρ : List ℤ = y ∷ z ∷ [] in
     size-below (y -ℤ z)

@@ -19,7 +19,7 @@ use Rattle.scope.specs.declared.Plan.{Plan}
 use Rattle.scope.specs.declared.Pattern.{Pattern}
 use Rattle.scope.specs.declared.Book.{Book}
 use Rattle.scope.specs.declared.Clash.{Clash}
-use Rattle.laws.proofs.Searches.{Found, first-found, first-none, none-first, whenever-some}
+use Rattle.laws.proofs.Searches.{Found, first-found, first-none, none-first, first-same, whenever-some}
 use Rattle.laws.proofs.Patterns.{origin, length-pixels, getD-pixels, length-patterns, getD-patterns}
 use Rattle.laws.proofs.Patterns.{mem-patterns, patterns-mem, pattern-different}
 use Rattle.lattice.proofs.Membership.{lattice-means}
@@ -71,6 +71,18 @@ clash-in-found p n t c h =
             absurd (no-meeting-iff p t n e m .0 (rw same at (l .before m (omega arith) before)) meets)
         by-test (no x) (no y) (no z) = inr (omega arith, omega arith)
 
+-- The clash of a book is the first of those of its patterns.
+module _ (p : Plan) (book : Book) where
+  abbrev pub patternClash : ℕ → Option Clash
+  patternClash n = clashIn p n (pixels (patternAt book n))
+
+  pub clash-of-book : clash p (patterns book) ≡ first 0 (book .count) patternClash
+  unfolding clash
+  clash-of-book =
+      ap (λ (m : ℕ). first 0 m (λ n. clashIn p n (getD (patterns book) n []))) (length-patterns book)
+      ∙ first-same 0 (book .count) (λ n. clashIn p n (getD (patterns book) n [])) patternClash
+      (λ n from below. ap (clashIn p n) (getD-patterns book n [] (omega arith)))
+
 module _ (book : Book) (p : Plan) (a-least : 1 ≤ p .a) (d-least : 1 ≤ p .d) where
   -- two positions of a pattern record meet exactly if their difference is in the lattice
   meets-at-iff :
@@ -101,7 +113,7 @@ module _ (book : Book) (p : Plan) (a-least : 1 ≤ p .a) (d-least : 1 ≤ p .d) 
 
   -- What the search in pattern n of a book finds is the first clash there.
   pub first-clash-in-pattern :
-      (n : ℕ) → n < book .count → (c : Clash) → clashIn p n (pixels (patternAt book n)) ≡ some c
+      (n : ℕ) → n < book .count → (c : Clash) → patternClash p book n ≡ some c
       → FirstClashIn book p c × (c .pattern ≡ n)
   first-clash-in-pattern n in-book c h = (
     record {
@@ -116,41 +128,30 @@ module _ (book : Book) (p : Plan) (a-least : 1 ≤ p .a) (d-least : 1 ≤ p .d) 
       f : FirstIn p n (pixels (patternAt book n)) c
       f = clash-in-found p n (pixels (patternAt book n)) c h
 
-  -- The search in a book looks for a clash in each of its patterns.
-  search-at : (n : ℕ) → n < book .count → clashIn p n (getD (patterns book) n []) ≡ clashIn p n (pixels (patternAt book n))
-  search-at n in-book = ap (clashIn p n) (getD-patterns book n [] in-book)
-
-  -- a pattern in which it finds nothing has no clash, and so has a book
-  none-found-none-meets : (n e l : ℕ) → Meets book p n e l → clashIn p n (getD (patterns book) n []) ≡ none → ⊥
+  -- In a pattern in which it finds nothing no two positions meet, nor do they in such a book.
+  none-found-none-meets : (n e l : ℕ) → Meets book p n e l → patternClash p book n ≡ none → ⊥
   none-found-none-meets n e l m none-in =
       let (within, meets) = positions-of-meets n e l m in
-      no-clash-iff-none-meets p n (pixels (patternAt book n)) .0 (sym (search-at n (m .in-book)) ∙ none-in) e l (m .ordered) within meets
+      no-clash-iff-none-meets p n (pixels (patternAt book n)) .0 none-in e l (m .ordered) within meets
+
+  no-clash-each : clash p (patterns book) ≡ none → (n : ℕ) → n < book .count → patternClash p book n ≡ none
+  no-clash-each h n in-book =
+      first-none 0 (book .count) (patternClash p book) (sym (clash-of-book p book) ∙ h) n (omega arith) (omega arith)
 
   pub no-clash-none-meets : clash p (patterns book) ≡ none → (n e l : ℕ) → Meets book p n e l → ⊥
-  unfolding clash
-  no-clash-none-meets h n e l m =
-      none-found-none-meets n e l m
-      (first-none 0 (length (patterns book)) (λ n. clashIn p n (getD (patterns book) n [])) h n (omega arith)
-      (omega (arith, m .in-book, length-patterns book)))
+  no-clash-none-meets h n e l m = none-found-none-meets n e l m (no-clash-each h n (m .in-book))
 
   -- What it finds is the first clash of the lowest pattern that has one.
   pub first-clash-in-book :
       (c : Clash) → clash p (patterns book) ≡ some c
       → FirstClashIn book p c × ((n e l : ℕ) → Meets book p n e l → c .pattern ≤ n)
-  unfolding clash
   first-clash-in-book c h = (found .0, λ n e l m. not-before n e l m (decLt n (k .where-is)))
     where
-      ts : List (List Pixel)
-      ts = patterns book
-
-      k : Found 0 (length ts) (λ n. clashIn p n (getD ts n [])) c
-      k = first-found 0 (length ts) (λ n. clashIn p n (getD ts n [])) c h
-
-      in-book : k .where-is < book .count
-      in-book = omega (arith, k .below, length-patterns book)
+      k : Found 0 (book .count) (patternClash p book) c
+      k = first-found 0 (book .count) (patternClash p book) c (sym (clash-of-book p book) ∙ h)
 
       found : FirstClashIn book p c × (c .pattern ≡ k .where-is)
-      found = first-clash-in-pattern (k .where-is) in-book c (sym (search-at (k .where-is) in-book) ∙ k .here)
+      found = first-clash-in-pattern (k .where-is) (omega (arith, k .below)) c (k .here)
 
       not-before : (n e l : ℕ) → Meets book p n e l → Dec (n < k .where-is) → c .pattern ≤ n
       not-before n e l m (no after) = omega (arith, found .1)
@@ -159,32 +160,27 @@ module _ (book : Book) (p : Plan) (a-least : 1 ≤ p .a) (d-least : 1 ≤ p .d) 
 
   -- Of a legal book it finds nothing exactly if the plan suits the book.
   pub no-clash-iff-suits-all : IsBook book → (clash p (patterns book) ≡ none) ↔ (suitsAll p (patterns book) ≡ true)
-  unfolding clash
   no-clash-iff-suits-all legal = (there, back)
     where
       ts : List (List Pixel)
       ts = patterns book
 
-      at-number : ℕ → Option Clash
-      at-number n = clashIn p n (getD ts n [])
-
-      pattern-iff : (n : ℕ) → n < book .count → (at-number n ≡ none) ↔ (suits p (pixels (patternAt book n)) ≡ true)
+      pattern-iff : (n : ℕ) → n < book .count → (patternClash p book n ≡ none) ↔ (suits p (pixels (patternAt book n)) ≡ true)
       pattern-iff n in-book =
-          rw (search-at n in-book)
-          (no-clash-iff-suits p a-least d-least n (pixels (patternAt book n))
-          (pattern-different (patternAt book n) (legal .each n in-book)))
+          no-clash-iff-suits p a-least d-least n (pixels (patternAt book n))
+          (pattern-different (patternAt book n) (legal .each n in-book))
 
       there : clash p ts ≡ none → suitsAll p ts ≡ true
       there h = suits-all-iff p ts .1 (λ t m. in-pattern t (mem-patterns book m))
         where
           in-pattern : (t : List Pixel) → (n : ℕ) × (n < book .count) × (pixels (patternAt book n) ≡ t) → suits p t ≡ true
-          in-pattern t (n, in-book, is) =
-              ap (suits p) (sym is)
-              ∙ pattern-iff n in-book .0 (first-none 0 (length ts) at-number h n (omega arith) (omega (arith, length-patterns book)))
+          in-pattern t (n, in-book, is) = ap (suits p) (sym is) ∙ pattern-iff n in-book .0 (no-clash-each h n in-book)
 
       back : suitsAll p ts ≡ true → clash p ts ≡ none
-      back h = none-first 0 (length ts) at-number (λ n _ below. in-pattern n (omega (arith, length-patterns book)))
+      back h =
+          clash-of-book p book
+          ∙ none-first 0 (book .count) (patternClash p book) (λ n _ below. in-pattern n (omega arith))
         where
-          in-pattern : (n : ℕ) → n < book .count → at-number n ≡ none
+          in-pattern : (n : ℕ) → n < book .count → patternClash p book n ≡ none
           in-pattern n in-book =
               pattern-iff n in-book .1 (suits-all-iff p ts .0 h (pixels (patternAt book n)) (patterns-mem book n in-book))

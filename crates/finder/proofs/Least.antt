@@ -23,7 +23,7 @@ use Rattle.lattice.proofs.Suits.{suits-means, suits-all-iff}
 use Rattle.lattice.proofs.NormalForm.{normal-form-is-only}
 use Rattle.finder.proofs.Search.{Suiting, Least, suiting-is-plan, plan-is-suiting, suiting-banks}
 use Rattle.finder.proofs.Search.{least-plan-some, least-plan-none, none-least-plan}
-use Rattle.finder.proofs.Find.{LegalFind, find-value-iff, find-none-iff}
+use Rattle.finder.proofs.FindAnswers.{LegalFind, find-value-iff, find-none-iff}
 
 -- the determinant of a plan's own two vectors is its count
 determinant-of-plan : (p : Plan) → determinant (along p) (up p) ≡ pos (banks p)

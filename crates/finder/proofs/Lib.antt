@@ -1,5 +1,5 @@
 pub mod Search
-pub mod Find
+pub mod FindAnswers
 pub mod Least
 pub mod Pigeonhole
 pub mod Boxes
@@ -7,3 +7,9 @@ pub mod Bounds
 pub mod ClashSearch
 pub mod Checks
 pub mod Clashes
+pub mod Marking
+pub mod Rows
+pub mod Marks
+pub mod Hits
+pub mod Tables
+pub mod TableSearch

@@ -1,1 +1,4 @@
-// The theory of the finder and the check: proofs/ has its laws. No function has code yet.
+// The finder: the plan with the fewest banks.
+mod finding;
+
+pub use finding::find;

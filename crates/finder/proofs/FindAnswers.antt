@@ -1,4 +1,4 @@
--- What the call `find` answers, in terms of its search: a plan or 7 for a legal book and limit, and no 7 else.
+-- What the call `find` answers by its search: a plan or 7 for a legal book and limit, and neither for any other.
 -- Assumes nothing.
 use Prim.Native.Nat.{ℕ, _≤_}
 use native.Mathlib.Omega.{arith}
@@ -13,11 +13,30 @@ use Rattle.scope.specs.Meaning.{IsBook}
 use Rattle.scope.specs.declared.Plan.{Plan}
 use Rattle.scope.specs.declared.Book.{Book}
 use Rattle.scope.specs.declared.Planned.{Planned}
+use Rattle.scope.specs.declared.Clash.{Clash}
+use Rattle.scope.specs.declared.Refusal.{Refusal}
 use Rattle.laws.proofs.Chains.{value-not-refusal, value-injective, answered-none, RefusedBy, answered-value, answered-refusal}
 use Rattle.laws.proofs.Booleans.{last-test, test-before}
 use Rattle.laws.proofs.Tests.{limit-legal-iff}
 use Rattle.laws.proofs.BookTests.{book-legal-iff}
 use Rattle.laws.proofs.RefusalNumbers.{find-refusals}
+
+-- what an answer tells of its search
+found-value : (o : Option Plan) (p : Plan) → ofPlanned (found o) ≡ value p → o ≡ some p
+unfolding found
+found-value none p e = absurd (value-not-refusal (sym e))
+found-value (some q) p e = ap some (value-injective e)
+
+found-refusal : {n i : ℕ} {c : Option Clash} (o : Option Plan) → ofPlanned (found o) ≡ refusal n i c → o ≡ none
+unfolding found
+found-refusal none e = refl
+found-refusal (some p) e = absurd (value-not-refusal e)
+
+pub plan-found : {r : Planned} {p : Plan} (o : Option Plan) → r ≡ found o → r ≡ Planned.Plan p → o ≡ some p
+plan-found {p} o answer e = found-value o p (ap ofPlanned (sym answer ∙ e))
+
+pub none-found : {r : Planned} {x : Refusal} (o : Option Plan) → r ≡ found o → r ≡ Planned.Refused x → o ≡ none
+none-found o answer e = found-refusal o (ap ofPlanned (sym answer ∙ e))
 
 -- "A book and a limit are legal if no number but 7 turns them down."
 pub record LegalFind (book : Book) (limit : ℕ) : Type 0 where
@@ -33,22 +52,11 @@ legal-find-iff book limit =
       λ h. (h .legal-book, (h .limit-least, h .limit-most)),
     )
 
--- a legal call answers what its search found
-legal-find : (book : Book) (limit : ℕ) → LegalFind book limit → find book limit ≡ found (leastPlan (patterns book) limit)
+-- A legal call answers what its search found.
+pub legal-find : (book : Book) (limit : ℕ) → LegalFind book limit → find book limit ≡ found (leastPlan (patterns book) limit)
 unfolding find
 legal-find book limit h =
     answered-none (findTest book limit) Planned.Refused (found (leastPlan (patterns book) limit)) (legal-find-iff book limit .1 h)
-
--- what was found, by the answer
-found-value : (o : Option Plan) (p : Plan) → ofPlanned (found o) ≡ value p → o ≡ some p
-unfolding found
-found-value none p e = absurd (value-not-refusal (sym e))
-found-value (some q) p e = ap some (value-injective e)
-
-found-refusal : (o : Option Plan) → ofPlanned (found o) ≡ refusal 7 0 none → o ≡ none
-unfolding found
-found-refusal none e = refl
-found-refusal (some p) e = absurd (value-not-refusal e)
 
 module _ (book : Book) (limit : ℕ) where
   -- A plan is answered exactly where the call is legal and the search finds it.

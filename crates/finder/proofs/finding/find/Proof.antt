@@ -1,0 +1,111 @@
+-- `finder::finding::find` meets its contract: the record's tests come first, then that of the limit, and where neither refuses
+-- the search by the book's table answers.
+-- Assumes nothing.
+use Prim.Native.Nat.{ℕ, _≤_}
+use native.Mathlib.Omega.{arith}
+use mathlib.Core.Path.{_≡_, refl, sym, _∙_}
+use mathlib.Core.Option.{none, some}
+use mathlib.Core.List.{[], _∷_}
+use borrow.Author.Needs.{needs}
+use Rattle.scope.specs.Plans.{patterns}
+use Rattle.scope.specs.Finding.{leastPlan}
+use Rattle.scope.specs.Numbers.{recordTest, limitTest}
+use Rattle.scope.specs.Calls.{findTest, found, find}
+use Rattle.scope.specs.declared.Book.{Book}
+use Rattle.scope.specs.declared.Planned.{Planned}
+use Rattle.scope.specs.declared.Refusal.{Refusal}
+use Rattle.laws.proofs.Chains.{chain-refuses, chain-goes-on, answered-some}
+use Rattle.laws.proofs.Deciding.{limit-decides}
+use Rattle.laws.proofs.BookTests.{book-legal-iff}
+use Rattle.book.proofs.Outcomes.{record-taken, record-turned-down}
+use Rattle.finder.proofs.FindAnswers.{legal-find}
+use Rattle.finder.proofs.finding.find.Statement.{statement}
+use Rattle.finder.proofs.finding.find.Tie as tie
+
+-- What the call answers, by its tests.
+module _ (book : Book) (limit : ℕ) where
+  refused : (r : Refusal) → findTest book limit ≡ some r → Planned.Refused r ≡ find book limit
+  unfolding find
+  refused r e = sym (answered-some (findTest book limit) Planned.Refused (found (leastPlan (patterns book) limit)) r e)
+
+  book-refused : (r : Refusal) → recordTest book ≡ some r → Planned.Refused r ≡ find book limit
+  unfolding findTest
+  book-refused r e = refused r (chain-refuses (recordTest book) (limitTest limit ∷ []) r e)
+
+  module _ (legal : recordTest book ≡ none) where
+    limit-refused : ((1 ≤ limit) × (limit ≤ 1024) → ⊥) → Planned.Refused Refusal.Limit ≡ find book limit
+    unfolding findTest
+    limit-refused h =
+        refused Refusal.Limit
+        (chain-goes-on (recordTest book) (limitTest limit ∷ []) legal
+        ∙ chain-refuses (limitTest limit) [] Refusal.Limit (limit-decides limit .refuses h))
+
+    searched : 1 ≤ limit → limit ≤ 1024 → found (leastPlan (patterns book) limit) ≡ find book limit
+    searched least most =
+        sym (legal-find book limit
+        (record { legal-book = book-legal-iff book .0 legal; limit-least = least; limit-most = most }))
+
+record-outcome-requires : tie.Need-record-outcome-requires
+record-outcome-requires c κs = search needs
+
+enum-known-outcome : tie.Need-enum-known-outcome
+enum-known-outcome c = search needs
+
+returns : tie.Need-returns
+returns c =
+    let u = c .before .before .before .before .args in
+    book-refused (u .book) (u .limit) (c .before .outcome .given .0 .0)
+    (record-turned-down (u .book) (c .before .before .before .record-outcome .ensures) (c .before .outcome .given .1))
+
+enum-told : tie.Need-enum-told
+enum-told c = search needs
+
+-- the record's tests found nothing
+legal : (c : tie.After-enum-told) → recordTest (c .before .before .before .args .book) ≡ none
+legal c =
+    record-taken (c .before .before .before .args .book) (c .before .before .record-outcome .ensures) (c .enum-told .given .1)
+
+returns-2 : tie.Need-returns-2
+returns-2 c =
+    let u = c .before .before .before .before .args in
+    limit-refused (u .book) (u .limit) (legal (c .before)) (λ h. omega (arith, c .if1 .taken))
+
+returns-3 : tie.Need-returns-3
+returns-3 c =
+    let u = c .before .before .before .before .before .args in
+    limit-refused (u .book) (u .limit) (legal (c .before .before)) (λ h. omega (arith, c .if2 .taken))
+
+slice-aggregate-mark-book : tie.Need-slice-aggregate-mark-book
+slice-aggregate-mark-book c = search needs
+
+mark-book-requires : tie.Need-mark-book-requires
+mark-book-requires c κs = (legal (c .before .before .before), refl)
+
+slice-aggregate-least-plan : tie.Need-slice-aggregate-least-plan
+slice-aggregate-least-plan c = search needs
+
+least-plan-requires : tie.Need-least-plan-requires
+least-plan-requires c κs = search needs
+
+returns-4 : tie.Need-returns-4
+returns-4 c =
+    let e = c .before .before .before .before .before in
+    let u = e .before .before .before .before .before .args in
+    c .least-plan .ensures .is (u .book) (legal (e .before .before)) (c .before .before .before .mark-book .ensures)
+    ∙ searched (u .book) (u .limit) (legal (e .before .before)) (omega arith) (omega arith)
+
+pub find-spec : {M : Type 1} → statement M
+find-spec =
+    tie.close
+    (tie.spec
+    record-outcome-requires
+    enum-known-outcome
+    returns
+    enum-told
+    returns-2
+    returns-3
+    slice-aggregate-mark-book
+    mark-book-requires
+    slice-aggregate-least-plan
+    least-plan-requires
+    returns-4)

@@ -1,0 +1,101 @@
+-- `finder::finding::least_d` meets its contract. The loop's invariant: no plan with a smaller d suits. The measure is the number
+-- of d's that are left.
+-- Assumes nothing.
+use Prim.Native.Nat.{_+_, _-_, _≤_}
+use native.Mathlib.Nat.{le-div-iff-mul-le, div-le-self}
+use native.Mathlib.Omega.{arith}
+use mathlib.Core.Path.{refl}
+use mathlib.Core.Logic.{⊎-elim}
+use borrow.Author.Needs.{needs}
+use Rattle.scope.specs.Finding.{leastB, leastD}
+use Rattle.finder.proofs.TableSearch.{NoneFrom, none-yet, one-more-none, found-at, found-nowhere, divisor-searched, no-divisor-none}
+use Rattle.finder.proofs.finding.least_d.Statement.{statement}
+use Rattle.finder.proofs.finding.least_d.Tie as tie
+
+abbrev Inv-loop : tie.InvT-loop
+Inv-loop marks n d₀ d = (1 ≤ d) × (d ≤ n + 1) × NoneFrom marks (λ ts. leastB ts n) 1 d
+
+abbrev μ-loop : tie.MeasureT-loop
+μ-loop marks n d₀ d = n + 1 - d
+
+loop-holds : tie.Need-loop-holds Inv-loop μ-loop
+loop-holds c = (omega arith, omega arith, none-yet _ 1)
+
+rem-if1 : tie.Need-rem-if1 Inv-loop μ-loop
+rem-if1 c = omega arith
+
+div-least-b : tie.Need-div-least-b Inv-loop μ-loop
+div-least-b c = omega arith
+
+least-b-requires : tie.Need-least-b-requires Inv-loop μ-loop
+least-b-requires c κs =
+    let l = c .before .before in
+    let n = l .before .before .args .n in
+    let h = l .before .before .pre in (
+      h .0,
+      le-div-iff-mul-le (l .loop .inv .0) .1 (omega arith),
+      omega (arith, h .1, div-le-self n (l .loop .d)),
+      l .loop .inv .0,
+      omega (arith, h .1),
+    )
+
+enum-told : tie.Need-enum-told Inv-loop μ-loop
+enum-told c = search needs
+
+returns : tie.Need-returns Inv-loop μ-loop
+unfolding leastD
+returns c =
+    let l = c .before .before .before .before .before in
+    let n = l .before .before .args .n in
+    found-at (λ ts. leastB ts n) 1 n (l .loop .d) (l .loop .inv .2) (l .loop .inv .0) (omega arith)
+    (divisor-searched n (l .loop .d) (c .before .before .before .if1 .taken) (c .before .before .least-b .ensures))
+    (c .enum-told .given .1)
+
+enum-told-2 : tie.Need-enum-told-2 Inv-loop μ-loop
+enum-told-2 c = search needs
+
+add-d : tie.Need-add-d Inv-loop μ-loop
+add-d c = omega (arith, c .before .before .before .before .pre)
+
+loop-less : tie.Need-loop-less Inv-loop μ-loop
+loop-less c = omega arith
+
+loop-again : tie.Need-loop-again Inv-loop μ-loop
+loop-again c =
+    let l = c .before .before in
+    let n = l .before .before .args .n in
+    let d = l .loop .d in (
+      omega arith,
+      omega arith,
+      ⊎-elim
+          (λ w.
+          one-more-none (λ ts. leastB ts n) 1 d (l .loop .inv .2) (divisor-searched n d (w .0 .taken) (w .1 .ensures))
+          (w .3 .given .1))
+          (λ w. one-more-none (λ ts. leastB ts n) 1 d (l .loop .inv .2) (no-divisor-none n d (w .left)) refl)
+          (c .if1 .came),
+    )
+
+returns-2 : tie.Need-returns-2 Inv-loop μ-loop
+unfolding leastD
+returns-2 c =
+    let l = c .before in
+    let n = l .before .before .args .n in
+    found-nowhere (λ ts. leastB ts n) 1 n (l .loop .d) (l .loop .inv .2) (omega arith)
+
+pub least-d-spec : {M : Type 1} → statement M
+least-d-spec =
+    tie.close
+    (tie.spec
+    Inv-loop
+    μ-loop
+    loop-holds
+    rem-if1
+    div-least-b
+    least-b-requires
+    enum-told
+    returns
+    enum-told-2
+    add-d
+    loop-less
+    loop-again
+    returns-2)

@@ -1,0 +1,72 @@
+-- `finder::finding::least_plan` meets its contract. The loop's invariant: no plan with fewer than n banks suits. The measure is
+-- the number of counts that are left.
+-- Assumes nothing.
+use Prim.Native.Nat.{_+_, _-_, _≤_}
+use native.Mathlib.Omega.{arith}
+use borrow.Author.Needs.{needs}
+use Rattle.scope.specs.Finding.{leastD, leastPlan}
+use Rattle.finder.proofs.TableSearch.{NoneFrom, none-yet, one-more-none, found-at, found-nowhere}
+use Rattle.finder.proofs.finding.least_plan.Statement.{statement}
+use Rattle.finder.proofs.finding.least_plan.Tie as tie
+
+abbrev Inv-loop : tie.InvT-loop
+Inv-loop marks limit n₀ n = (1 ≤ n) × (n ≤ limit + 1) × NoneFrom marks leastD 1 n
+
+abbrev μ-loop : tie.MeasureT-loop
+μ-loop marks limit n₀ n = limit + 1 - n
+
+loop-holds : tie.Need-loop-holds Inv-loop μ-loop
+loop-holds c = (omega arith, omega arith, none-yet leastD 1)
+
+least-d-requires : tie.Need-least-d-requires Inv-loop μ-loop
+least-d-requires c κs = let h = c .before .before .before .pre in (h .0, omega (arith, h .1))
+
+enum-told : tie.Need-enum-told Inv-loop μ-loop
+enum-told c = search needs
+
+returns : tie.Need-returns Inv-loop μ-loop
+unfolding leastPlan
+returns c =
+    let l = c .before .before .before .before in
+    found-at leastD 1 (l .before .before .args .limit) (l .loop .n) (l .loop .inv .2) (l .loop .inv .0) (omega arith)
+    (c .before .before .least-d .ensures)
+    (c .enum-told .given .1)
+
+enum-told-2 : tie.Need-enum-told-2 Inv-loop μ-loop
+enum-told-2 c = search needs
+
+add-n : tie.Need-add-n Inv-loop μ-loop
+add-n c = omega (arith, c .before .before .before .before .before .before .pre)
+
+loop-less : tie.Need-loop-less Inv-loop μ-loop
+loop-less c = omega arith
+
+loop-again : tie.Need-loop-again Inv-loop μ-loop
+loop-again c =
+    let l = c .before .before .before .before in (
+      omega arith,
+      omega arith,
+      one-more-none leastD 1 (l .loop .n) (l .loop .inv .2) (c .before .before .least-d .ensures) (c .enum-told2 .given .1),
+    )
+
+returns-2 : tie.Need-returns-2 Inv-loop μ-loop
+unfolding leastPlan
+returns-2 c =
+    let l = c .before in
+    found-nowhere leastD 1 (l .before .before .args .limit) (l .loop .n) (l .loop .inv .2) (omega arith)
+
+pub least-plan-spec : {M : Type 1} → statement M
+least-plan-spec =
+    tie.close
+    (tie.spec
+    Inv-loop
+    μ-loop
+    loop-holds
+    least-d-requires
+    enum-told
+    returns
+    enum-told-2
+    add-n
+    loop-less
+    loop-again
+    returns-2)

@@ -1,0 +1,122 @@
+-- `finder::finding::mark_from` meets its contract. The loop's invariant: the differences of the pixels before position l are
+-- marked. The measure is what is left of the count.
+-- Assumes nothing.
+use Prim.Native.Nat.{ℕ, _-_, _≤_}
+use native.Mathlib.Numerals.{add-one}
+use native.Mathlib.Omega.{arith}
+use mathlib.Core.Path.{_≡_, refl, _∙_, ap, ap₂}
+use mathlib.Core.List.{List}
+use lib.ListN.{length, set}
+use mir.Syntax.{w8}
+use mir.Facts.{toZ-ofZ}
+use borrow.Author.Needs.{needs}
+use Rattle.scope.specs.Plans.{Pixel, at, minus, pixelAt}
+use Rattle.scope.specs.declared.Pattern.{Pattern}
+use Rattle.finder.specs.Table.{cellOf, markFrom}
+use Rattle.finder.proofs.Marking.{cell-below, length-markFrom}
+use Rattle.finder.proofs.finding.mark_from.Statement.{statement}
+use Rattle.finder.proofs.finding.mark_from.Tie as tie
+
+abbrev Inv-loop : tie.InvT-loop
+Inv-loop e marks₀ columns rows used x y l₀ marks l =
+    (l ≤ used) × (marks ≡ markFrom (record { columns = columns; rows = rows; used = used }) e l marks₀)
+
+abbrev μ-loop : tie.MeasureT-loop
+μ-loop e marks₀ columns rows used x y l₀ marks l = used - l
+
+array-copy-out-x : tie.Need-array-copy-out-x Inv-loop μ-loop
+array-copy-out-x c = omega arith
+
+array-copy-out-y : tie.Need-array-copy-out-y Inv-loop μ-loop
+array-copy-out-y c = omega arith
+
+loop-holds : tie.Need-loop-holds Inv-loop μ-loop
+unfolding markFrom
+loop-holds c = (omega arith, refl)
+
+array-copy-out-difference-cell : tie.Need-array-copy-out-difference-cell Inv-loop μ-loop
+array-copy-out-difference-cell c = omega arith
+
+array-copy-out-difference-cell-2 : tie.Need-array-copy-out-difference-cell-2 Inv-loop μ-loop
+array-copy-out-difference-cell-2 c = omega arith
+
+difference-cell-requires : tie.Need-difference-cell-requires Inv-loop μ-loop
+difference-cell-requires c κs = search needs
+
+-- in a turn, at position l of the pattern t, where the difference's cell is known
+module _ (c : tie.After-difference-cell Inv-loop μ-loop) where
+  abbrev head : tie.At-loop Inv-loop μ-loop
+  head = c .before .before .before .before
+
+  abbrev start : tie.Start Inv-loop μ-loop
+  start = head .before .before .before .before .before .before
+
+  abbrev t : Pattern
+  t = start .args .t
+
+  abbrev e : ℕ
+  e = start .args .e
+
+  abbrev l : ℕ
+  l = head .loop .l
+
+  cell-is : c .difference-cell .result ≡ cellOf (minus (pixelAt t l) (pixelAt t e))
+  unfolding pixelAt at
+  cell-is =
+      c .difference-cell .ensures
+      ∙ ap₂ (λ (v w : Pixel). cellOf (minus v w))
+      (ap₂ at (toZ-ofZ {w = w8} (record { sfits = c .before .before .difference-cell-arg .given }))
+      (toZ-ofZ {w = w8} (record { sfits = c .before .difference-cell-arg2 .given })))
+      (ap₂ at (toZ-ofZ {w = w8} (record { sfits = head .before .before .x .given }))
+      (toZ-ofZ {w = w8} (record { sfits = head .before .y .given })))
+
+-- the table keeps its length
+table-length :
+    (c : tie.At-loop Inv-loop μ-loop)
+    → length (c .loop .marks) ≡ length (c .before .before .before .before .before .before .args .marks .now)
+table-length c = ap length (c .loop .inv .1) ∙ length-markFrom _ _ (c .loop .l) _
+
+slice-write-marks : tie.Need-slice-write-marks Inv-loop μ-loop
+slice-write-marks c =
+    let cell = cell-below (minus (pixelAt (t c) (l c)) (pixelAt (t c) (e c))) in
+    omega (arith, cell-is c, cell, table-length (head c))
+
+add-l : tie.Need-add-l Inv-loop μ-loop
+add-l c = omega arith
+
+loop-less : tie.Need-loop-less Inv-loop μ-loop
+loop-less c = omega arith
+
+loop-again : tie.Need-loop-again Inv-loop μ-loop
+unfolding markFrom
+loop-again c =
+    let mark : List ℕ → ℕ → List ℕ = λ marks k. set marks k 1 in
+    (omega arith, rw (add-one (l c)) (ap₂ mark (head c .loop .inv .1) (cell-is c)))
+
+same-length : tie.Need-same-length Inv-loop μ-loop
+same-length c = table-length (c .before)
+
+returns : tie.Need-returns Inv-loop μ-loop
+returns c =
+    let u = c .before .before .before .before .before .before .before .args in
+    let done : c .before .loop .l ≡ u .t .used = omega arith in
+    c .before .loop .inv .1 ∙ ap (λ (n : ℕ). markFrom (u .t) (u .e) n (u .marks .now)) done
+
+pub mark-from-spec : {M : Type 1} → statement M
+mark-from-spec =
+    tie.close
+    (tie.spec
+    Inv-loop
+    μ-loop
+    array-copy-out-x
+    array-copy-out-y
+    loop-holds
+    array-copy-out-difference-cell
+    array-copy-out-difference-cell-2
+    difference-cell-requires
+    slice-write-marks
+    add-l
+    loop-less
+    loop-again
+    same-length
+    returns)

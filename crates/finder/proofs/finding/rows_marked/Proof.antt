@@ -1,0 +1,69 @@
+-- `finder::finding::rows_marked` meets its contract: before each turn the rows before j are passed, and j's cells start with `from`.
+-- Assumes nothing.
+use Prim.Native.Nat.{_-_}
+use native.Mathlib.Omega.{arith}
+use mathlib.Core.Path.{sym, _∙_}
+use Rattle.finder.proofs.Rows.{RowsPassed, no-row-passed, row-passed, row-passed-around, row-found, rows-unmarked, start-small}
+use Rattle.finder.proofs.finding.rows_marked.Statement.{statement}
+use Rattle.finder.proofs.finding.rows_marked.Tie as tie
+
+abbrev Inv-loop : tie.InvT-loop
+Inv-loop marks a b d s j₀ from₀ j from = RowsPassed marks a b d j from
+
+abbrev μ-loop : tie.MeasureT-loop
+μ-loop marks a b d s j₀ from₀ j from = 32 - j
+
+loop-holds : tie.Need-loop-holds Inv-loop μ-loop
+loop-holds c = no-row-passed (omega arith) (omega arith) (c .before .pre .5)
+
+row-marked-requires : tie.Need-row-marked-requires Inv-loop μ-loop
+row-marked-requires c κs =
+    let k = start-small (c .before .loop .inv) in
+    (omega arith, omega arith, omega arith, omega arith, omega arith)
+
+returns : tie.Need-returns Inv-loop μ-loop
+returns c =
+    row-found (c .before .before .before .loop .inv) (c .before .before .loop-test .taken)
+    (sym (c .if1 .taken) ∙ c .before .row-marked .ensures)
+
+add-j : tie.Need-add-j Inv-loop μ-loop
+add-j c = omega arith
+
+add-from : tie.Need-add-from Inv-loop μ-loop
+add-from c = omega (arith, start-small (c .before .before .before .loop .inv))
+
+loop-less : tie.Need-loop-less Inv-loop μ-loop
+loop-less c = omega arith
+
+loop-again : tie.Need-loop-again Inv-loop μ-loop
+loop-again c =
+    let rows = c .before .before .before .before .loop .inv in
+    row-passed-around rows (sym (c .before .if1 .left) ∙ c .before .before .row-marked .ensures) (c .if2 .taken)
+
+loop-less-2 : tie.Need-loop-less-2 Inv-loop μ-loop
+loop-less-2 c = omega arith
+
+loop-again-2 : tie.Need-loop-again-2 Inv-loop μ-loop
+loop-again-2 c =
+    let rows = c .before .before .before .before .loop .inv in
+    row-passed rows (sym (c .before .if1 .left) ∙ c .before .before .row-marked .ensures) (c .if2 .left)
+
+returns-2 : tie.Need-returns-2 Inv-loop μ-loop
+returns-2 c = rows-unmarked (c .before .loop .inv) (c .loop-test .left)
+
+pub rows-marked-spec : {M : Type 1} → statement M
+rows-marked-spec =
+    tie.close
+    (tie.spec
+    Inv-loop
+    μ-loop
+    loop-holds
+    row-marked-requires
+    returns
+    add-j
+    add-from
+    loop-less
+    loop-again
+    loop-less-2
+    loop-again-2
+    returns-2)

@@ -1,0 +1,204 @@
+// The finder. It marks the differences of a book's patterns in a table of the upper half window, rows 0 to 31 and columns -31 to
+// 31, and tries the plans in order: a plan suits if no cell of its lattice is marked, but for the origin's.
+use book::record_outcome;
+use integers::raised8;
+use scope::Book;
+use scope::Outcome;
+use scope::Pattern;
+use scope::Plan;
+use scope::Planned;
+use scope::Refusal;
+ghost use mathlib.Core.Path.{_≡_};
+ghost use mathlib.Core.Option.{none};
+ghost use Prim.Native.Nat.{_+_, _%_, _≤_, _<_};
+ghost use lib.ListN.{length, replicate};
+ghost use Rattle.scope.specs.Search.{first};
+ghost use Rattle.scope.specs.Plans.{at, minus};
+ghost use Rattle.scope.specs.Finding.{trial, leastD, leastPlan};
+ghost use Rattle.scope.specs.Numbers.{recordTest};
+ghost use Rattle.scope.specs.Calls.{find};
+ghost use Rattle.finder.specs.Table.{cellOf, markFrom, markPattern, markBook, rowMarked, rowsMarked, SearchedIn};
+
+// The cell of (i, j) - (x, y): 63 to a row, column -31 first; 2016 where the difference is outside the half window.
+fn difference_cell(i: i8, j: i8, x: i8, y: i8) -> usize
+    ensures { λ r. ⌜ r ≡ cellOf (minus (at i j) (at x y)) ⌝ }
+{
+    let right = raised8(i) + 31;
+    let left = raised8(x);
+    let upper = raised8(j);
+    let lower = raised8(y);
+    if right < left {
+        return 2016;
+    }
+    if 62 < right - left {
+        return 2016;
+    }
+    if upper < lower {
+        return 2016;
+    }
+    if 31 < upper - lower {
+        return 2016;
+    }
+    (63 * (upper - lower) + (right - left)) as usize
+}
+
+// Marks the differences of a pattern's pixels and its pixel e.
+fn mark_from(t: Pattern, e: usize, marks: &mut [u8])
+    requires { ⌜ (e < t .used) × (t .used ≤ 64) × (length (now marks) ≡ 2017) ⌝ }
+    ensures { λ r. ⌜ now (marks .exit) ≡ markFrom t e (t .used) (now (marks .entry)) ⌝ }
+{
+    let columns = t.columns;
+    let rows = t.rows;
+    let used = t.used;
+    let x = columns[e];
+    let y = rows[e];
+    let mut l = 0;
+    while l < used {
+        let k = difference_cell(columns[l], rows[l], x, y);
+        marks[k] = 1;
+        l += 1;
+    }
+}
+
+// Marks the differences of a pattern.
+fn mark_pattern(t: Pattern, marks: &mut [u8])
+    requires { ⌜ (t .used ≤ 64) × (length (now marks) ≡ 2017) ⌝ }
+    ensures { λ r. ⌜ now (marks .exit) ≡ markPattern t (t .used) (now (marks .entry)) ⌝ }
+{
+    let used = t.used;
+    let mut e = 0;
+    while e < used {
+        mark_from(t, e, marks);
+        e += 1;
+    }
+}
+
+// Marks the differences of a book's patterns in an empty table.
+fn mark_book(book: Book, marks: &mut [u8])
+    requires { ⌜ (recordTest book ≡ none) × (now marks ≡ replicate 2017 0) ⌝ }
+    ensures { λ r. ⌜ now (marks .exit) ≡ markBook book (book .count) ⌝ }
+{
+    let count = book.count;
+    let mut n = 0;
+    while n < count {
+        let t = book.patterns[n];
+        mark_pattern(t, marks);
+        n += 1;
+    }
+}
+
+// Whether a cell s, s + a, .. of row j is marked.
+fn row_marked(marks: &[u8], a: usize, j: usize, s: usize) -> bool
+    requires { ⌜ (length (now marks) ≡ 2017) × (1 ≤ a) × (a ≤ 1024) × (j < 32) × (s < 2048) ⌝ }
+    ensures { λ r. ⌜ r ≡ rowMarked (now (marks .entry)) a j s ⌝ }
+{
+    let first = 63 * j;
+    let mut x = s;
+    while x < 63 {
+        if marks[first + x] == 1 {
+            return true;
+        }
+        x += a;
+    }
+    false
+}
+
+// Whether a lattice point of the plan a, b, d in the rows from d on is marked; s is the first cell that it has in row d.
+fn rows_marked(marks: &[u8], a: usize, b: usize, d: usize, s: usize) -> bool
+    requires { ⌜ (length (now marks) ≡ 2017) × (b < a) × (a ≤ 1024) × (1 ≤ d) × (d ≤ 1024) × (s ≡ (31 + b) % a) ⌝ }
+    ensures { λ r. ⌜ r ≡ rowsMarked (now (marks .entry)) a b d ⌝ }
+{
+    let mut j = d;
+    let mut from = s;
+    while j < 32 {
+        if row_marked(marks, a, j, from) {
+            return true;
+        }
+        j += d;
+        from += b;
+        if a <= from {
+            from -= a;
+        }
+    }
+    false
+}
+
+// Of the suiting plans with this a and d the one with least b; the table is that of a book.
+fn least_b(marks: &[u8], a: usize, d: usize) -> Planned
+    requires { ⌜ (length (now marks) ≡ 2017) × (1 ≤ a) × (a ≤ 1024) × (1 ≤ d) × (d ≤ 1024) ⌝ }
+    ensures { λ r. ⌜ SearchedIn (now (marks .entry)) (λ ts. first 0 a (trial ts a d)) r ⌝ }
+{
+    if row_marked(marks, a, 0, 31 + a) {
+        return Planned::Refused(Refusal::NoPlan);
+    }
+    let mut s = 31 % a;
+    let mut b = 0;
+    while b < a {
+        if !rows_marked(marks, a, b, d, s) {
+            return Planned::Plan(Plan {
+                a: a as u32,
+                b: b as u32,
+                d: d as u32,
+            });
+        }
+        b += 1;
+        s += 1;
+        if s == a {
+            s = 0;
+        }
+    }
+    Planned::Refused(Refusal::NoPlan)
+}
+
+// Of the suiting plans with n banks the one with least d, then least b.
+fn least_d(marks: &[u8], n: usize) -> Planned
+    requires { ⌜ (length (now marks) ≡ 2017) × (n ≤ 1024) ⌝ }
+    ensures { λ r. ⌜ SearchedIn (now (marks .entry)) (λ ts. leastD ts n) r ⌝ }
+{
+    let mut d = 1;
+    while d <= n {
+        if n % d == 0 {
+            let p = least_b(marks, n / d, d);
+            if let Planned::Plan(_) = p {
+                return p;
+            }
+        }
+        d += 1;
+    }
+    Planned::Refused(Refusal::NoPlan)
+}
+
+// Of the suiting plans with at most `limit` banks the one with the fewest, or 7.
+fn least_plan(marks: &[u8], limit: usize) -> Planned
+    requires { ⌜ (length (now marks) ≡ 2017) × (limit ≤ 1024) ⌝ }
+    ensures { λ r. ⌜ SearchedIn (now (marks .entry)) (λ ts. leastPlan ts limit) r ⌝ }
+{
+    let mut n = 1;
+    while n <= limit {
+        let p = least_d(marks, n);
+        if let Planned::Plan(_) = p {
+            return p;
+        }
+        n += 1;
+    }
+    Planned::Refused(Refusal::NoPlan)
+}
+
+// The plan with the fewest banks within the limit, or 2, 3, 4, 6, 7.
+pub fn find(book: Book, limit: u32) -> Planned
+    ensures { λ r. ⌜ r ≡ find book limit ⌝ }
+{
+    let outcome = record_outcome(book);
+    if let Outcome::Refused(r) = outcome {
+        return Planned::Refused(r);
+    }
+    if limit == 0 {
+        return Planned::Refused(Refusal::Limit);
+    }
+    if 1024 < limit {
+        return Planned::Refused(Refusal::Limit);
+    }
+    let mut marks = [0u8; 2017];
+    mark_book(book, &mut marks);
+    least_plan(&marks, limit as usize)
+}
