@@ -1,0 +1,2 @@
+pub mod Meetings
+pub mod Verdicts
