@@ -1,33 +1,33 @@
 // The library for C and Rust: the calls on numbers, slices and arrays. Each answers a number, 0 where it was not refused, and
 // puts what it has to tell at the start of `answer`, the rest unchanged: its values, or the refusal's place and, of 10, the
 // clash's pattern and its earlier and later position.
-mod flat;
-mod told;
-
-use book::part_outcome;
-use book::part_place;
-use book::pattern_part;
-use book::read_book;
 use book::record_outcome;
 use book::write_book;
-use flat::book_of;
-use flat::put_pixels;
-use flat::put_used;
+use boundary::book_of;
+use boundary::put_pixels;
+use boundary::put_used;
+use boundary::tell_counted;
+use boundary::tell_located;
+use boundary::tell_outcome;
+use boundary::tell_planned;
+use boundary::tell_verdict;
+use checker::check;
+use finder::find;
 use lattice::normal_form;
+use reader::part_outcome;
+use reader::part_place;
+use reader::pattern_part;
+use reader::read_book;
 use scope::Outcome;
 use scope::Plan;
-use told::tell_counted;
-use told::tell_located;
-use told::tell_outcome;
-use told::tell_planned;
 ghost use mathlib.Core.Path.{_≡_};
 ghost use mathlib.Core.List.{[], _∷_};
 ghost use lib.ListN.{length};
 ghost use Rattle.scope.specs.Plans.{at, plan};
-ghost use Rattle.scope.specs.Numbers.{ofPlanned, ofCounted, ofLocated, ofOutcome};
-ghost use Rattle.scope.specs.Calls.{readBook, patternPart, partOutcome, partPlace, recordOutcome, writeBook, normal, bank, depth, address, locate};
-ghost use Rattle.capi.specs.Told.{Tells, planRow, numberRow, pixelRow, noRow};
-ghost use Rattle.capi.specs.Flat.{flatBook, flatColumns, flatRows, flatUsed, ofReading, countRow, whenRead};
+ghost use Rattle.scope.specs.Numbers.{ofPlanned, ofCounted, ofLocated, ofOutcome, ofVerdict};
+ghost use Rattle.scope.specs.Calls.{readBook, patternPart, partOutcome, partPlace, recordOutcome, writeBook, normal, find, check, bank, depth, address, locate};
+ghost use Rattle.boundary.specs.Told.{Tells, planRow, numberRow, pixelRow, checkedRow, noRow};
+ghost use Rattle.boundary.specs.Flat.{flatBook, flatColumns, flatRows, flatUsed, ofReading, countRow, whenRead};
 
 // The normal form of (x1, x2) and (y1, y2): a, b, d.
 #[no_mangle]
@@ -178,4 +178,40 @@ pub extern "C" fn bankplan_test_record(
     ensures { λ n. ⌜ Tells noRow (ofOutcome (recordOutcome (flatBook (now (columns .entry)) (now (rows .entry)) (now (used .entry)) count))) (now (answer .entry)) (now (answer .exit)) n ⌝ }
 {
     tell_outcome(record_outcome(book_of(columns, rows, used, count)), answer)
+}
+
+// The plan with the fewest banks within the limit for a record given as flat arrays: a, b, d.
+#[no_mangle]
+pub extern "C" fn bankplan_find(
+    columns: &[i8; 1024],
+    rows: &[i8; 1024],
+    used: &[usize; 16],
+    count: usize,
+    limit: u32,
+    answer: &mut [u64; 4],
+) -> u64
+    ensures { λ n. ⌜ Tells planRow (ofPlanned (find (flatBook (now (columns .entry)) (now (rows .entry)) (now (used .entry)) count) limit)) (now (answer .entry)) (now (answer .exit)) n ⌝ }
+{
+    tell_planned(find(book_of(columns, rows, used, count), limit), answer)
+}
+
+// The verdict on (x1, x2) and (y1, y2) for a record given as flat arrays: a, b, d and the surplus, or a refusal; a clash is 10.
+#[no_mangle]
+pub extern "C" fn bankplan_check(
+    columns: &[i8; 1024],
+    rows: &[i8; 1024],
+    used: &[usize; 16],
+    count: usize,
+    x1: i16,
+    x2: i16,
+    y1: i16,
+    y2: i16,
+    answer: &mut [u64; 4],
+) -> u64
+    ensures { λ n. ⌜ Tells checkedRow (ofVerdict (check (flatBook (now (columns .entry)) (now (rows .entry)) (now (used .entry)) count) (at x1 x2) (at y1 y2))) (now (answer .entry)) (now (answer .exit)) n ⌝ }
+{
+    tell_verdict(
+        check(book_of(columns, rows, used, count), x1, x2, y1, y2),
+        answer,
+    )
 }

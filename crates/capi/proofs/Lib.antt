@@ -1,2 +1,0 @@
-pub mod Passed
-pub mod Flattened

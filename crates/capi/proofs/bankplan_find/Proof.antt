@@ -1,0 +1,30 @@
+-- `capi::bankplan_find` meets its contract.
+-- Assumes nothing.
+use borrow.Author.Needs.{needs}
+use Rattle.scope.specs.Numbers.{ofPlanned}
+use Rattle.boundary.proofs.Passed.{told-of}
+use Rattle.capi.proofs.bankplan_find.Statement.{statement}
+use Rattle.capi.proofs.bankplan_find.Tie as tie
+
+book-of-requires : tie.Need-book-of-requires
+book-of-requires c κs = search needs
+
+find-requires : tie.Need-find-requires
+find-requires c κs = search needs
+
+tell-planned-requires : tie.Need-tell-planned-requires
+tell-planned-requires c κs = search needs
+
+returns : tie.Need-returns
+returns c =
+    let r = c .before .before in
+    told-of ofPlanned (rw (r .before .book-of .ensures) at (r .find .ensures)) (c .tell-planned .ensures)
+
+pub bankplan-find-spec : {M : Type 1} → statement M
+bankplan-find-spec =
+    tie.close
+    (tie.spec
+    book-of-requires
+    find-requires
+    tell-planned-requires
+    returns)
