@@ -1,0 +1,114 @@
+-- The lines of an answer as the parts that are put, and how long they are.
+-- Assumes nothing.
+use Prim.Native.Nat.{ℕ, _*_, _^_, _≤_, _<_}
+use native.Mathlib.Omega.{arith}
+use native.Mathlib.Nat.{mul-le-mul}
+use mathlib.Core.Path.{_≡_, sym}
+use mathlib.Core.List.{List, [], _∷_, _++_, append-assoc}
+use lib.ListN.{length, replicate, length-append}
+use Rattle.scope.specs.Plans.{banks}
+use Rattle.scope.specs.Banks.{overStart}
+use Rattle.scope.specs.Numbers.{numberOf}
+use Rattle.scope.specs.Program.{ascii, decimal, planLines, refusedLine}
+use Rattle.scope.specs.declared.Plan.{Plan}
+use Rattle.scope.specs.declared.Refusal.{Refusal}
+use Rattle.scope.specs.declared.Refusal.the-variants.{Ends, Count, Coordinate, Repeat, Extra, Limit, NoPlan, Dependent, Large}
+use Rattle.scope.specs.declared.Refusal.the-variants.{Unsuited, NotPlan, Sides, Memory, Outside, Cell, Output, NoPattern, Ring}
+use Rattle.text.specs.Texts.{textOf}
+use Rattle.text.proofs.Digits.{digits-at-most}
+
+-- A refusal's line without its end.
+abbrev pub refusedPart : Refusal → List ℕ
+refusedPart r = ascii "refused " ++ decimal (numberOf r)
+
+pub refused-line-is : (r : Refusal) → refusedLine r ≡ refusedPart r ++ (10 ∷ [])
+unfolding refusedLine
+refused-line-is r = sym (append-assoc (ascii "refused ") (decimal (numberOf r)) (10 ∷ []))
+
+regroup :
+    (a b c d e f g h i : List ℕ)
+    → a ++ b ++ c ++ d ++ e ++ f ++ g ++ h ++ i ≡ ((((a ++ b) ++ (c ++ d)) ++ (e ++ f)) ++ (g ++ h)) ++ i
+regroup a b c d e f g h i = simp append-assoc
+
+-- A plan's numbers with the words before them, and its lines up to each of them.
+module _ (p : Plan) where
+  abbrev pub banksPart : List ℕ
+  banksPart = ascii "banks " ++ decimal (p .a * p .d)
+
+  abbrev pub aPart : List ℕ
+  aPart = ascii "\nplan " ++ decimal (p .a)
+
+  abbrev pub bPart : List ℕ
+  bPart = ascii " " ++ decimal (p .b)
+
+  abbrev pub dPart : List ℕ
+  dPart = ascii " " ++ decimal (p .d)
+
+  abbrev pub upToA : List ℕ
+  upToA = banksPart ++ aPart
+
+  abbrev pub upToB : List ℕ
+  upToB = upToA ++ bPart
+
+  abbrev pub upToD : List ℕ
+  upToD = upToB ++ dPart
+
+  pub plan-lines-are : planLines p ≡ upToD ++ (10 ∷ [])
+  unfolding planLines
+  plan-lines-are =
+      regroup (ascii "banks ") (decimal (banks p)) (ascii "\nplan ") (decimal (p .a)) (ascii " ") (decimal (p .b)) (ascii " ")
+      (decimal (p .d)) (ascii "\n")
+
+-- The product of two numbers of 32 bits has at most 64.
+pub product-below : (a d : ℕ) → a < 2 ^ 32 → d < 2 ^ 32 → a * d < 2 ^ 64
+product-below a d h k =
+    let most : a * d ≤ 4294967295 * 4294967295 = mul-le-mul {n₂ = 4294967295} {m₂ = 4294967295} (omega arith) (omega arith) in
+    omega arith
+
+-- A plan's lines have at most 65 bytes.
+pub plan-lines-at-most : (p : Plan) → p .a < 2 ^ 32 → p .b < 2 ^ 32 → p .d < 2 ^ 32 → length (planLines p) ≤ 65
+unfolding ascii
+plan-lines-at-most p ha hb hd =
+    rw (plan-lines-are p)
+    (simp length-append
+    (omega (
+      arith,
+      digits-at-most 19 (p .a * p .d) (omega (arith, product-below (p .a) (p .d) ha hd)),
+      digits-at-most 9 (p .a) (omega arith),
+      digits-at-most 9 (p .b) (omega arith),
+      digits-at-most 9 (p .d) (omega arith),
+    )))
+
+-- A refusal's number has at most two digits, and its line at most 11 bytes.
+number-at-most : (r : Refusal) → numberOf r ≤ 18
+number-at-most (Ends i) = omega arith
+number-at-most (Count i) = omega arith
+number-at-most (Coordinate i) = omega arith
+number-at-most (Repeat i) = omega arith
+number-at-most (Extra i) = omega arith
+number-at-most Limit = omega arith
+number-at-most NoPlan = omega arith
+number-at-most Dependent = omega arith
+number-at-most Large = omega arith
+number-at-most (Unsuited c) = omega arith
+number-at-most NotPlan = omega arith
+number-at-most Sides = omega arith
+number-at-most Memory = omega arith
+number-at-most Outside = omega arith
+number-at-most Cell = omega arith
+number-at-most Output = omega arith
+number-at-most NoPattern = omega arith
+number-at-most Ring = omega arith
+
+pub refused-line-at-most : (r : Refusal) → length (refusedLine r) ≤ 11
+unfolding ascii
+refused-line-at-most r =
+    rw (refused-line-is r)
+    (simp length-append (omega (arith, digits-at-most 1 (numberOf r) (omega (arith, number-at-most r)))))
+
+-- A text whose bytes were put to 80 zeros.
+pub text-put :
+    (xs bytes : List ℕ) (n : ℕ) → (n ≡ length xs) × (bytes ≡ overStart xs (replicate 80 0))
+    → record { bytes = bytes; length = n } ≡ textOf xs
+unfolding textOf
+text-put xs bytes n (e, come) = rw (e, come)

@@ -1,0 +1,67 @@
+-- `text::program::program_text` meets its contract: the reader's outcome and the finder's answer decide the text.
+-- Assumes nothing.
+use Prim.Native.Nat.{ℕ}
+use mathlib.Core.Path.{_≡_, sym, _∙_, ap}
+use mathlib.Core.List.{List}
+use borrow.Author.Needs.{needs}
+use Rattle.scope.specs.Calls.{readBook}
+use Rattle.scope.specs.Program.{planText}
+use Rattle.scope.specs.declared.Outcome.{Outcome}
+use Rattle.book.proofs.ProgramText.{text-of-read, text-of-refused}
+use Rattle.text.specs.Texts.{textOf}
+use Rattle.text.proofs.ProgramTexts.{also-of-longer}
+use Rattle.text.proofs.program.program_text.Statement.{statement}
+use Rattle.text.proofs.program.program_text.Tie as tie
+
+read-book-requires : tie.Need-read-book-requires
+read-book-requires c κs = search needs
+
+enum-known-outcome : tie.Need-enum-known-outcome
+enum-known-outcome c = search needs
+
+refused-text-requires : tie.Need-refused-text-requires
+refused-text-requires c κs = search needs
+
+-- what the reader gave
+module _ (c : tie.After-read-book) where
+  abbrev bytes : List ℕ
+  bytes = c .before .before .args .s .now
+
+  outcome-is : {o : Outcome} → c .read-book .result .outcome ≡ o → readBook bytes .outcome ≡ o
+  outcome-is e = sym (ap (λ x. x .outcome) (c .read-book .ensures)) ∙ e
+
+returns : tie.Need-returns
+returns c =
+    let r = c .before .before .before .before in
+    also-of-longer (bytes r) _
+    (c .refused-text .ensures ∙ ap textOf (text-of-refused (bytes r) (outcome-is r (c .before .before .outcome .given .1))))
+
+enum-told : tie.Need-enum-told
+enum-told c = search needs
+
+find-requires : tie.Need-find-requires
+find-requires c κs = search needs
+
+planned-text-requires : tie.Need-planned-text-requires
+planned-text-requires c κs = search needs
+
+returns-2 : tie.Need-returns-2
+returns-2 c =
+    let r = c .before .before .before .before .before in
+    also-of-longer (bytes r) _
+    (c .planned-text .ensures
+    ∙ ap (λ p. textOf (planText p)) (rw (r .read-book .ensures) at (c .before .find .ensures))
+    ∙ ap textOf (text-of-read (bytes r) (outcome-is r (c .before .before .before .enum-told .given .1))))
+
+pub program-text-spec : {M : Type 1} → statement M
+program-text-spec =
+    tie.close
+    (tie.spec
+    read-book-requires
+    enum-known-outcome
+    refused-text-requires
+    returns
+    enum-told
+    find-requires
+    planned-text-requires
+    returns-2)
