@@ -3,6 +3,9 @@
 use crate::library::{self, Record, Told};
 use crate::{as_told, oracle, Random, Tally};
 
+// Counts near the edges, and far from them.
+const COUNTS: [usize; 8] = [0, 1, 2, 16, 17, 64, 65, usize::MAX];
+
 // What stands in a record before a call; a legal book has none of it.
 fn untouched() -> Record {
     Record { columns: [77; 1024], rows: [-77; 1024], used: [777; 16], count: 0 }
@@ -26,12 +29,12 @@ fn legal_book(random: &mut Random) -> Vec<oracle::Pattern> {
         .collect()
 }
 
-fn bytes_of(book: &[oracle::Pattern]) -> Vec<u8> {
+pub fn bytes_of(book: &[oracle::Pattern]) -> Vec<u8> {
     oracle::write(&oracle::record_of(book), usize::MAX).unwrap()
 }
 
 // A byte changed, put in or added, or the end cut off.
-fn damage(bytes: &mut Vec<u8>, random: &mut Random) {
+pub fn damage(bytes: &mut Vec<u8>, random: &mut Random) {
     let at = random.from_to(0, bytes.len() as i64 - 1) as usize;
     match random.from_to(0, 5) {
         0 => bytes[at] = random.one_of(&[0, 1, 15, 16, 17, 64, 65, 127, 128, 239, 240, 255]),
@@ -174,34 +177,48 @@ fn random_books() -> Tally {
     t
 }
 
+// Puts any numbers into a record's unused entries, which do not count.
+pub fn fill_unused(r: &mut Record, random: &mut Random) {
+    for n in 0..16 {
+        for e in r.used[n]..64 {
+            r.columns[64 * n + e] = random.next() as i8;
+            r.rows[64 * n + e] = random.next() as i8;
+        }
+        if n >= r.count {
+            r.used[n] = random.one_of(&COUNTS);
+        }
+    }
+}
+
+// The record of a random legal book, its unused entries filled.
+pub fn legal_record(random: &mut Random) -> Record {
+    let mut r = oracle::record_of(&legal_book(random));
+    fill_unused(&mut r, random);
+    r
+}
+
+// A count, a coordinate or a pixel of it changed; it may still be a book.
+pub fn damaged_record(random: &mut Random) -> Record {
+    let mut r = legal_record(random);
+    let n = random.from_to(0, r.count as i64 - 1) as usize;
+    let e = 64 * n + random.from_to(0, r.used[n] as i64 - 1) as usize;
+    match random.from_to(0, 5) {
+        0 => r.count = random.one_of(&COUNTS),
+        1 => r.used[n] = random.one_of(&COUNTS),
+        2 => r.columns[e] = random.one_of(&[-128, -17, -16, 15, 16, 127]),
+        3 => r.rows[e] = random.one_of(&[-128, -17, -16, 15, 16, 127]),
+        4 => (r.columns[e], r.rows[e]) = (r.columns[64 * n], r.rows[64 * n]),
+        _ => r.used[n] = 64,
+    }
+    r
+}
+
 fn records() -> Tally {
     let mut t = Tally::new("records, legal and damaged");
     let mut random = Random::new(7);
-    let counts = [0, 1, 2, 16, 17, 64, 65, usize::MAX];
     for _ in 0..20_000 {
-        let mut r = oracle::record_of(&legal_book(&mut random));
-        // what stands in unused entries does not count
-        for n in 0..16 {
-            for e in r.used[n]..64 {
-                r.columns[64 * n + e] = random.next() as i8;
-                r.rows[64 * n + e] = random.next() as i8;
-            }
-            if n >= r.count {
-                r.used[n] = random.one_of(&counts);
-            }
-        }
-        ask_record(&mut t, &r);
-        let n = random.from_to(0, r.count as i64 - 1) as usize;
-        let e = 64 * n + random.from_to(0, r.used[n] as i64 - 1) as usize;
-        match random.from_to(0, 5) {
-            0 => r.count = random.one_of(&counts),
-            1 => r.used[n] = random.one_of(&counts),
-            2 => r.columns[e] = random.one_of(&[-128, -17, -16, 15, 16, 127]),
-            3 => r.rows[e] = random.one_of(&[-128, -17, -16, 15, 16, 127]),
-            4 => (r.columns[e], r.rows[e]) = (r.columns[64 * n], r.rows[64 * n]),
-            _ => r.used[n] = 64,
-        }
-        ask_record(&mut t, &r);
+        ask_record(&mut t, &legal_record(&mut random));
+        ask_record(&mut t, &damaged_record(&mut random));
     }
     t
 }

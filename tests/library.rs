@@ -32,6 +32,25 @@ extern "C" {
         count: usize,
         answer: &mut [u64; 4],
     ) -> u64;
+    fn bankplan_find(
+        columns: &[i8; 1024],
+        rows: &[i8; 1024],
+        used: &[usize; 16],
+        count: usize,
+        limit: u32,
+        answer: &mut [u64; 4],
+    ) -> u64;
+    fn bankplan_check(
+        columns: &[i8; 1024],
+        rows: &[i8; 1024],
+        used: &[usize; 16],
+        count: usize,
+        x1: i16,
+        x2: i16,
+        y1: i16,
+        y2: i16,
+        answer: &mut [u64; 4],
+    ) -> u64;
 }
 
 /// A plan's three numbers, legal or not.
@@ -109,4 +128,12 @@ pub fn write_book(r: &Record, out: &mut [u8]) -> Told {
 
 pub fn test_record(r: &Record) -> Told {
     told(|t| unsafe { bankplan_test_record(&r.columns, &r.rows, &r.used, r.count, t) })
+}
+
+pub fn find(r: &Record, limit: u32) -> Told {
+    told(|t| unsafe { bankplan_find(&r.columns, &r.rows, &r.used, r.count, limit, t) })
+}
+
+pub fn check(r: &Record, x: (i16, i16), y: (i16, i16)) -> Told {
+    told(|t| unsafe { bankplan_check(&r.columns, &r.rows, &r.used, r.count, x.0, x.1, y.0, y.1, t) })
 }

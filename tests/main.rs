@@ -2,9 +2,12 @@
 //! inputs, legal and damaged. Prints how many cases each subject had; a mismatch ends the run with a failure.
 
 mod books;
+mod finds;
 mod library;
 mod oracle;
 mod plans;
+mod program;
+mod search;
 
 /// Cases of one subject, and the first few mismatches.
 pub struct Tally {
@@ -71,6 +74,8 @@ pub fn as_told<T>(answer: Result<T, oracle::Refused>, row: impl FnOnce(T) -> Vec
 fn main() {
     let mut tallies = plans::run();
     tallies.extend(books::run());
+    tallies.extend(finds::run());
+    tallies.extend(program::run_all());
     let (mut cases, mut wrong) = (0, 0);
     for t in tallies {
         let (c, w) = t.done();

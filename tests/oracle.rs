@@ -52,7 +52,7 @@ fn is_side(n: u32) -> bool {
 }
 
 /// v is a whole-number combination of x and y, by Cramer's rule.
-fn is_combination(x: (i64, i64), y: (i64, i64), v: (i64, i64)) -> bool {
+pub fn is_combination(x: (i64, i64), y: (i64, i64), v: (i64, i64)) -> bool {
     let det = x.0 * y.1 - x.1 * y.0;
     let m = v.0 * y.1 - v.1 * y.0;
     let n = x.0 * v.1 - x.1 * v.0;

@@ -1,0 +1,91 @@
+//! Document 01's finder and check again, by trying every plan. It shares nothing with the library.
+
+use crate::library::Plan;
+use crate::oracle::{is_combination, normal_form, Pattern, Refused};
+
+pub fn plan(a: i64, b: i64, d: i64) -> Plan {
+    Plan { a: a as u32, b: b as u32, d: d as u32 }
+}
+
+/// "d divides j and a divides i - b × (j/d)"
+fn in_lattice(p: Plan, (i, j): (i64, i64)) -> bool {
+    let (a, b, d) = (i64::from(p.a), i64::from(p.b), i64::from(p.d));
+    j % d == 0 && (i - b * (j / d)) % a == 0
+}
+
+fn minus(v: (i64, i64), w: (i64, i64)) -> (i64, i64) {
+    (v.0 - w.0, v.1 - w.1)
+}
+
+/// "none of the pattern's differences is in the lattice"
+pub fn suits(p: Plan, t: &Pattern) -> bool {
+    t.iter().all(|&v| t.iter().all(|&w| v == w || !in_lattice(p, minus(v, w))))
+}
+
+/// The pixels of a pattern have different banks: they are counted bank by bank.
+pub fn one_to_a_bank(p: Plan, t: &Pattern) -> bool {
+    let (a, b, d) = (i64::from(p.a), i64::from(p.b), i64::from(p.d));
+    let mut taken = [false; 1024];
+    t.iter().all(|&(i, j)| {
+        let bank = j.rem_euclid(d) * a + (i - b * j.div_euclid(d)).rem_euclid(a);
+        !std::mem::replace(&mut taken[bank as usize], true)
+    })
+}
+
+// Every plan with at most `limit` banks, by N, then d, then b.
+fn plans(limit: i64) -> impl Iterator<Item = Plan> {
+    (1..=limit).flat_map(|n| {
+        (1..=n).filter(move |d| n % d == 0).flat_map(move |d| (0..n / d).map(move |b| plan(n / d, b, d)))
+    })
+}
+
+/// The first plan within the limit that passes the test for each pattern.
+pub fn first_plan(book: &[Pattern], limit: i64, test: impl Fn(Plan, &Pattern) -> bool) -> Option<Plan> {
+    plans(limit).find(|&p| book.iter().all(|t| test(p, t)))
+}
+
+/// A book of 16 patterns of 64 pixels whose differences fill the window, so that it needs all 1,024 banks. The columns of a
+/// pattern are one of four sets, and so are its rows; their differences are 0 to 7, 8 to 23, 24 to 31, and multiples of four.
+pub fn hardest() -> Vec<Pattern> {
+    let sets: [[i64; 8]; 4] = [
+        [0, 1, 2, 3, 4, 5, 6, 7],
+        [0, 1, 2, 3, 11, 15, 19, 23],
+        [0, 1, 2, 3, 27, 29, 30, 31],
+        [0, 4, 8, 12, 16, 20, 24, 28],
+    ];
+    let mut book = Vec::new();
+    for rows in &sets {
+        for columns in &sets {
+            book.push(rows.iter().flat_map(|j| columns.iter().map(move |i| (i - 16, j - 16))).collect());
+        }
+    }
+    book
+}
+
+/// What the check says of two vectors: the plan with its surplus, or a clash.
+#[derive(Clone, Copy, Debug, PartialEq)]
+pub enum Verdict {
+    Suits(Plan, i64),
+    Clash(usize, usize, usize),
+}
+
+/// The clash of the lowest pattern, with the least earlier, then the least later position: a difference is a whole-number
+/// combination of the vectors themselves.
+fn clash(book: &[Pattern], x: (i64, i64), y: (i64, i64)) -> Option<Verdict> {
+    for (n, t) in book.iter().enumerate() {
+        for e in 0..t.len() {
+            for l in e + 1..t.len() {
+                if is_combination(x, y, minus(t[l], t[e])) {
+                    return Some(Verdict::Clash(n, e, l));
+                }
+            }
+        }
+    }
+    None
+}
+
+/// The check of two vectors for a legal book whose least count is known.
+pub fn check(book: &[Pattern], least: i64, x: (i64, i64), y: (i64, i64)) -> Result<Verdict, Refused> {
+    let p = normal_form(x, y)?;
+    Ok(clash(book, x, y).unwrap_or(Verdict::Suits(p, i64::from(p.a * p.d) - least)))
+}
