@@ -27,6 +27,10 @@ use Rattle.lattice.proofs.Tests.{tests-mean}
 restated : {P Q : Type 0} {ts : List (Option Refusal)} → Clear ts P → P ↔ Q → Clear ts Q
 restated c h = record { iff = Iff·trans (c .iff) h }
 
+no-tests : Clear [] Unit
+unfolding firstOf
+no-tests = record { iff = (λ e. tt, λ h. refl) }
+
 module _ (p : Plan) (W H words : ℕ) where
   -- the tests of a picture before the rest of a chain
   picture-before :
@@ -38,6 +42,10 @@ module _ (p : Plan) (W H words : ℕ) where
         λ h. (record { plan = h .0; W-side = h .1 .0 .0; H-side = h .1 .0 .1; memory = h .1 .1 .0 }, h .1 .1 .1),
         λ h. (h .0 .plan, ((h .0 .W-side, h .0 .H-side), (h .0 .memory, h .1))),
       )
+
+  -- The tests of a picture and its memory alone.
+  pub picture-test-iff : (firstOf (planTest p ∷ sidesTest W H ∷ memoryTest p W H words ∷ []) ≡ none) ↔ IsPicture p W H words
+  picture-test-iff = restated (picture-before no-tests) (λ h. h .0, λ h. (h, tt)) .iff
 
   -- Store and load: a picture and its memory, and the pixel inside.
   pub word-test-iff : (v : Pixel) → (wordTest p W H words v ≡ none) ↔ (IsPicture p W H words × Inside W H v)

@@ -1,14 +1,13 @@
 -- The sum of a bank is the total of its words, and it stays far below 2^64.
 -- Assumes nothing.
 use Prim.Native.Nat.{ℕ, zero, suc, _+_, _*_, _≤_, _<_}
-use native.Mathlib.Nat.{mul-le-mul, mul-le-mul-left, le-trans}
+use native.Mathlib.Nat.{mul-le-mul, le-trans}
 use native.Mathlib.Omega.{arith}
 use mathlib.Core.Path.{_≡_, refl, _∙_, ap}
 use mathlib.Core.List.{List, [], _∷_, foldr}
 use lib.ListN.{length, getD, take, drop, length-drop}
 use lib.Seq.{length-take-le}
-use Rattle.integers.specs.Division.{ceilDiv}
-use Rattle.integers.proofs.Divisions.{ceiling-division}
+use Rattle.formulas.proofs.Ceilings.{ceiling-at-most}
 use Rattle.scope.specs.Banks.{across, depthOf, bankWords, bankSum}
 use Rattle.scope.specs.Meaning.{IsPlan, IsSide}
 use Rattle.scope.specs.PicturePromises.{totalBelow}
@@ -57,10 +56,6 @@ pub total-below : (n m : ℕ) (f : ℕ → ℕ) → ((i : ℕ) → f i < m) → 
 unfolding totalBelow
 total-below zero m f h = omega arith
 total-below (suc n) m f h = omega (arith, total-below n m f h, h n)
-
--- a quotient rounded up is at most the number
-ceiling-at-most : (n d : ℕ) → 1 ≤ d → ceilDiv n d ≤ n
-ceiling-at-most n d h = ceiling-division n d h n .1 (omega (arith, mul-le-mul-left n h))
 
 -- The depth of a picture is at most 4096 × 4096.
 pub depth-at-most : (p : Plan) (W H : ℕ) → IsPlan p → IsSide W → IsSide H → depthOf p W H ≤ 4096 * 4096

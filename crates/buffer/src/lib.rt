@@ -1,1 +1,1 @@
-// The theory of stored pictures: proofs/ has its laws. No function has code yet.
+// The theory of stored pictures: proofs/ has its laws. The code is in `pictures` and `fetches`.

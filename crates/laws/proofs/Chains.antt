@@ -8,7 +8,7 @@ use mathlib.Core.Option.{Option, none, some}
 use mathlib.Core.List.{List, [], _∷_, _++_, List·Memᴰ, List·Memᴰ·head, List·Memᴰ·tail, List·Memᴰ·not-nil, List·Memᴰ·cases-cons}
 use Rattle.scope.specs.Search.{firstOf}
 use Rattle.scope.specs.Numbers.{Answer, value, refusal, numberOf, placeOf, clashOf, turnedDown}
-use Rattle.scope.specs.Calls.{answered, changed}
+use Rattle.scope.specs.Calls.{Result, answered, changed}
 use Rattle.scope.specs.Meaning.{ChainIsFirst}
 use Rattle.scope.specs.declared.Clash.{Clash}
 use Rattle.scope.specs.declared.Refusal.{Refusal}
@@ -41,6 +41,16 @@ pub chain-of-one : (t : Option Refusal) → firstOf (t ∷ []) ≡ t
 unfolding firstOf
 chain-of-one none = refl
 chain-of-one (some r) = refl
+
+-- Tests of a chain that follow each other can stand in it as one test.
+pub tests-as-one :
+    (before these after : List (Option Refusal)) → firstOf (before ++ (these ++ after)) ≡ firstOf (before ++ (firstOf these ∷ after))
+unfolding firstOf
+tests-as-one [] [] after = refl
+tests-as-one [] (none ∷ these) after = tests-as-one [] these after
+tests-as-one [] (some r ∷ these) after = refl
+tests-as-one (none ∷ before) these after = tests-as-one before these after
+tests-as-one (some r ∷ before) these after = refl
 
 -- It finds nothing exactly where none of its tests does.
 all-none : (tests : List (Option Refusal)) → firstOf tests ≡ none → (t : Option Refusal) → List·Memᴰ t tests → t ≡ none
@@ -97,6 +107,22 @@ module _ {X : Type 0} where
   unfolding answered
   answered-some t refused x r e = rw (e, answered)
 
+  -- a refusal that is not the value is what the tests found
+  pub answered-refused :
+      (t : Option Refusal) (refused : Refusal → X) (x : X) (r : Refusal) → ((s : Refusal) → refused s ≡ refused r → s ≡ r)
+      → (x ≡ refused r → ⊥) → answered t refused x ≡ refused r → t ≡ some r
+  unfolding answered
+  answered-refused none refused x r told no-refusal e = absurd (no-refusal e)
+  answered-refused (some s) refused x r told no-refusal e = ap some (told s e)
+
+-- A call gives this answer and leaves this content.
+abbrev pub Gives : {X Y : Type 0} → Result X Y → X → Y → Type 0
+Gives result answer content = (answer ≡ result .answer) × (content ≡ result .content)
+
+pub same-gives :
+    {X Y : Type 0} {R S : Result X Y} {answer : X} {content : Y} → R ≡ S → Gives R answer content → Gives S answer content
+same-gives {X} {Y} e (answer, content) = (answer ∙ ap (λ (R : Result X Y). R .answer) e, content ∙ ap (λ (R : Result X Y). R .content) e)
+
 -- A call that changes what it was lent: its answer and the content, each as of a call that gives only that.
 module _ {X Y : Type 0} (t : Option Refusal) (refused : Refusal → X) (old : Y) (x : X) (new : Y) where
   pub changed-answer : changed t refused old x new .answer ≡ answered t refused x
@@ -122,11 +148,17 @@ module _ {X Y : Type 0} (t : Option Refusal) (refused : Refusal → X) (old : Y)
   pub changed-none-content : t ≡ none → changed t refused old x new .content ≡ new
   changed-none-content e = changed-content ∙ answered-none t (λ r. old) new e
 
-  pub changed-some-answer : (r : Refusal) → t ≡ some r → changed t refused old x new .answer ≡ refused r
+  changed-some-answer : (r : Refusal) → t ≡ some r → changed t refused old x new .answer ≡ refused r
   changed-some-answer r e = changed-answer ∙ answered-some t refused x r e
 
-  pub changed-some-content : (r : Refusal) → t ≡ some r → changed t refused old x new .content ≡ old
+  changed-some-content : (r : Refusal) → t ≡ some r → changed t refused old x new .content ≡ old
   changed-some-content r e = changed-content ∙ answered-some t (λ r. old) new r e
+
+  pub value-given : t ≡ none → Gives (changed t refused old x new) x new
+  value-given e = (sym (changed-none-answer e), sym (changed-none-content e))
+
+  pub refusal-given : (r : Refusal) → t ≡ some r → Gives (changed t refused old x new) (refused r) old
+  refusal-given r e = (sym (changed-some-answer r e), sym (changed-some-content r e))
 
 -- The tests found a refusal with this number, place and clash.
 abbrev pub RefusedBy : Option Refusal → ℕ → ℕ → Option Clash → Type 0

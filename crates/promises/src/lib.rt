@@ -1,1 +1,1 @@
-// Every promise of the definitions, kept: proofs/ has the one value. No function has code yet.
+// Every promise of the definitions, kept: proofs/ has the one value. It has no code.
