@@ -14,4 +14,5 @@ pub mod ProgramText
 pub mod Outcomes
 pub mod Window
 pub mod Scanning
+pub mod RecordLoops
 pub mod Puts

@@ -2,7 +2,9 @@
 -- pattern after pattern.
 -- Assumes nothing.
 use Prim.Native.Nat.{ℕ, _+_, _*_, _≤_, _<_}
+use native.Mathlib.Omega.{arith}
 use mathlib.Core.Path.{_≡_, refl, _∙_}
+use mathlib.Core.Bool.{Bool, true, false, cond}
 use mathlib.Core.Option.{none, some}
 use mathlib.Core.List.{List, [], _∷_}
 use lib.Dec.{ltb}
@@ -21,8 +23,19 @@ use Rattle.laws.proofs.Searches.{some-whenever, none-whenever}
 use Rattle.laws.proofs.Chains.{chain-refuses, chain-goes-on, chain-of-one}
 use Rattle.laws.proofs.BookTests.{count-legal-iff, pattern-legal-iff, book-legal-iff}
 use Rattle.laws.proofs.BookRefusals.{count-refused, search-refuses}
-use Rattle.book.specs.Scan.{pixelFrom, pixelReadFrom, patternReadFrom, patternTestOf}
+use Rattle.book.specs.Scan.{entryNumber, pixelFrom, pixelReadFrom, patternReadFrom, patternTestOf}
 use Rattle.book.proofs.Reading.{FromTo}
+
+-- The entry for a pattern's number is one of the record's, and below 16 it is that number.
+pub entry-number-below : (n : ℕ) → entryNumber n < 16
+entry-number-below n = by-test (ltb n 16) refl
+  where
+    by-test : (b : Bool) → ltb n 16 ≡ b → cond b n 15 < 16
+    by-test true e = ltb-iff n 16 .0 e
+    by-test false e = omega arith
+
+pub entry-number-is : (n : ℕ) → n < 16 → entryNumber n ≡ n
+entry-number-is n h = rw (ltb-iff n 16 .1 h) refl
 
 -- A pattern's tests by its number are those by the place where it stands, and so are its pixels'.
 pub pattern-read-from : (s : List ℕ) (n : ℕ) → patternRead s n ≡ patternReadFrom s (start s n)

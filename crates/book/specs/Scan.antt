@@ -40,6 +40,10 @@ unfoldable pub patternReadFrom : List ℕ → ℕ → Option Refusal
 unfolding firstOf first countRead pixelReadFrom byte
 patternReadFrom s i = firstOf (countRead s 64 i ∷ first 0 (byte s i) (pixelReadFrom s (i + 1)) ∷ [])
 
+-- the number of the entry that stands for pattern n: n, or the last one where there is none
+abbrev pub entryNumber : ℕ → ℕ
+entryNumber n = cond (ltb n 16) n 15
+
 -- the tests of one pattern of a record
 unfoldable pub patternTestOf : Pattern → Option Refusal
 unfolding firstOf first countTest pixelTest pixelAt

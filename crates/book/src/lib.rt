@@ -4,5 +4,7 @@ mod record;
 mod writer;
 
 pub use cells::cell;
+pub use record::entry_number;
+pub use record::pattern_outcome;
 pub use record::record_outcome;
 pub use writer::write_book;

@@ -9,8 +9,15 @@ ghost use Rattle.scope.specs.Search.{first};
 ghost use Rattle.scope.specs.Plans.{pixelAt};
 ghost use Rattle.scope.specs.Numbers.{pixelTest};
 ghost use Rattle.scope.specs.Calls.{recordOutcome};
-ghost use Rattle.book.specs.Scan.{outcomeOf, patternTestOf};
+ghost use Rattle.book.specs.Scan.{outcomeOf, entryNumber, patternTestOf};
 ghost use Prim.Native.Nat.{_≤_};
+
+// The number of the entry that stands for pattern n: n, or the last one where there is none.
+pub fn entry_number(n: usize) -> usize
+    ensures { λ r. ⌜ r ≡ entryNumber n ⌝ }
+{
+    if n < 16 { n } else { 15 }
+}
 
 // The tests of a pattern's pixels. Each pixel that was tested has its flag set.
 fn pixels_outcome(t: Pattern) -> Outcome
@@ -37,7 +44,7 @@ fn pixels_outcome(t: Pattern) -> Outcome
 }
 
 // The tests of a pattern.
-fn pattern_outcome(t: Pattern) -> Outcome
+pub fn pattern_outcome(t: Pattern) -> Outcome
     ensures { λ r. ⌜ r ≡ outcomeOf (patternTestOf t) ⌝ }
 {
     let used = t.used;

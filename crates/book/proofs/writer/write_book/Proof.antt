@@ -3,7 +3,7 @@
 -- Assumes nothing.
 use Prim.Native.Nat.{ℕ, _≤_, _<_}
 use native.Mathlib.Omega.{arith}
-use mathlib.Core.Path.{_≡_, sym, _∙_, ap}
+use mathlib.Core.Path.{_≡_, _∙_, ap}
 use mathlib.Core.Option.{Option, none, some}
 use mathlib.Core.List.{List, [], _∷_}
 use lib.ListN.{length}
@@ -16,8 +16,7 @@ use Rattle.scope.specs.Calls.{writeBook}
 use Rattle.scope.specs.declared.Book.{Book}
 use Rattle.scope.specs.declared.Counted.{Counted}
 use Rattle.scope.specs.declared.Refusal.{Refusal}
-use Rattle.laws.proofs.Chains.{chain-refuses, chain-goes-on}
-use Rattle.laws.proofs.Chains.{changed-none-answer, changed-none-content, changed-some-answer, changed-some-content}
+use Rattle.laws.proofs.Chains.{chain-refuses, chain-goes-on, Gives, value-given, refusal-given}
 use Rattle.laws.proofs.Deciding.{output-decides}
 use Rattle.laws.proofs.BookTests.{book-legal-iff}
 use Rattle.laws.proofs.Legal.{write-test-iff}
@@ -40,14 +39,11 @@ module _ (book : Book) (out : List ℕ) where
   number = Counted.Number (length bytes)
 
   abbrev Answers : Counted → List ℕ → Type 0
-  Answers answer content = (answer ≡ writeBook book out .answer) × (content ≡ writeBook book out .content)
+  Answers = Gives (writeBook book out)
 
   refused : (r : Refusal) → tests ≡ some r → Answers (Counted.Refused r) out
   unfolding writeBook
-  refused r found = (
-    sym (changed-some-answer tests Counted.Refused out number (overStart bytes out) r found),
-    sym (changed-some-content tests Counted.Refused out number (overStart bytes out) r found),
-  )
+  refused = refusal-given tests Counted.Refused out number (overStart bytes out)
 
   book-refused : (r : Refusal) → recordTest book ≡ some r → Answers (Counted.Refused r) out
   book-refused r found = refused r (chain-refuses (recordTest book) (room ∷ []) r found)
@@ -61,10 +57,8 @@ module _ (book : Book) (out : List ℕ) where
   written : recordTest book ≡ none → length bytes ≤ length out → Answers number (overStart bytes out)
   unfolding writeBook
   written legal enough =
-      let none-found : tests ≡ none = write-test-iff book (length out) .1 (book-legal-iff book .0 legal, enough) in (
-        sym (changed-none-answer tests Counted.Refused out number (overStart bytes out) none-found),
-        sym (changed-none-content tests Counted.Refused out number (overStart bytes out) none-found),
-      )
+      value-given tests Counted.Refused out number (overStart bytes out)
+      (write-test-iff book (length out) .1 (book-legal-iff book .0 legal, enough))
 
 record-outcome-requires : tie.Need-record-outcome-requires
 record-outcome-requires c κs = search needs
