@@ -1,66 +1,23 @@
 // The check: the normal form of the vectors, then its clash with a pattern of the book, or its surplus over the least count.
-use crate::Met;
 use book::record_outcome;
+use clashes::Met;
+use clashes::clash_in;
 use finder::find;
 use lattice::normal_form;
 use scope::Book;
 use scope::Checked;
-use scope::Clash;
-use scope::Counted;
 use scope::Outcome;
-use scope::Pattern;
 use scope::Plan;
 use scope::Planned;
 use scope::Verdict;
 ghost use mathlib.Core.Path.{_≡_};
 ghost use mathlib.Core.Bool.{true};
 ghost use mathlib.Core.Option.{none};
-ghost use Prim.Native.Nat.{_≤_, _<_};
-ghost use Rattle.scope.specs.Plans.{at, isPlan, pixels, patterns};
-ghost use Rattle.scope.specs.Finding.{clashIn, clash, leastCount};
-ghost use Rattle.scope.specs.Banks.{bankOf};
+ghost use Rattle.scope.specs.Plans.{at, isPlan, patterns};
+ghost use Rattle.scope.specs.Finding.{clash, leastCount};
 ghost use Rattle.scope.specs.Numbers.{recordTest};
 ghost use Rattle.scope.specs.Calls.{judged, check};
-ghost use Rattle.checker.specs.Clashing.{metAt};
-
-// The bank of a pattern's pixel under a plan.
-fn bank_in(p: Plan, i: i8, j: i8) -> usize
-    requires { ⌜ isPlan p ≡ true ⌝ }
-    ensures { λ r. ⌜ (r ≡ bankOf p (at i j)) × (r < 1024) ⌝ }
-{
-    let answer = p.bank(i as i16, j as i16);
-    match answer {
-        Counted::Number(k) => k as usize,
-        Counted::Refused(_) => 0,
-    }
-}
-
-// The clash of pattern n, whose record is t. The pixels are taken from the last to the first; `next` has for each bank the
-// position of the one taken last, 0 for none: position 0 is taken last of all.
-fn clash_in(p: Plan, n: usize, t: Pattern) -> Met
-    requires { ⌜ (isPlan p ≡ true) × (t .used ≤ 64) ⌝ }
-    ensures { λ r. ⌜ r ≡ metAt (clashIn p n (pixels t)) ⌝ }
-{
-    let columns = t.columns;
-    let rows = t.rows;
-    let mut next = [0u8; 1024];
-    let mut met = Met::Nowhere;
-    let mut e = t.used;
-    while 0 < e {
-        e -= 1;
-        let k = bank_in(p, columns[e], rows[e]);
-        let later = next[k] as usize;
-        if 0 < later {
-            met = Met::At(Clash {
-                pattern: n,
-                earlier: e,
-                later,
-            });
-        }
-        next[k] = e as u8;
-    }
-    met
-}
+ghost use Rattle.clashes.specs.Clashing.{metAt};
 
 // The clash of the lowest pattern that has one.
 fn first_clash(p: Plan, book: Book) -> Met

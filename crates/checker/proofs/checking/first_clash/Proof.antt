@@ -11,8 +11,9 @@ use Rattle.scope.specs.Plans.{patternAt}
 use Rattle.scope.specs.Meaning.{IsBook}
 use Rattle.laws.proofs.BookTests.{book-legal-iff}
 use Rattle.finder.proofs.ClashSearch.{patternClash}
-use Rattle.checker.specs.Clashing.{metAt}
-use Rattle.checker.proofs.Verdicts.{at-found, nowhere-found, clash-at, clash-nowhere}
+use Rattle.clashes.specs.Clashing.{metAt}
+use Rattle.clashes.proofs.Answers.{met-of-plan, at-found, nowhere-found}
+use Rattle.checker.proofs.Verdicts.{clash-at, clash-nowhere}
 use Rattle.checker.proofs.checking.first_clash.Statement.{statement}
 use Rattle.checker.proofs.checking.first_clash.Tie as tie
 
@@ -36,10 +37,7 @@ element-copy-out-t : tie.Need-element-copy-out-t Inv-loop μ-loop
 element-copy-out-t c = omega (arith, legal (c .before) .most)
 
 clash-in-requires : tie.Need-clash-in-requires Inv-loop μ-loop
-unfolding patternAt
-clash-in-requires c κs =
-    let l = c .before .before in
-    (l .before .pre .0, legal l .each (l .loop .n) (c .before .loop-test .taken) .most)
+clash-in-requires c κs = search needs
 
 -- what was met in the n-th pattern
 pattern-answer :
@@ -47,7 +45,12 @@ pattern-answer :
     let l = c .before .before .before in
     c .clash-in .result ≡ metAt (patternClash (l .before .args .p) (l .before .args .t2) (l .loop .n))
 unfolding patternAt
-pattern-answer c = c .clash-in .ensures
+pattern-answer c =
+    let l = c .before .before .before in
+    let t = patternAt (l .before .args .t2) (l .loop .n) in
+    c .clash-in .ensures
+    ∙ met-of-plan (l .before .args .p) (l .loop .n) t (l .before .pre .0)
+    (legal l .each (l .loop .n) (c .before .before .loop-test .taken) .most)
 
 enum-told : tie.Need-enum-told Inv-loop μ-loop
 enum-told c = search needs

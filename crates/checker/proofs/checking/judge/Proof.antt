@@ -15,7 +15,7 @@ use Rattle.scope.proofs.PlanFacts.{plan-means}
 use Rattle.laws.proofs.BookTests.{book-legal-iff}
 use Rattle.finder.proofs.ClashSearch.{no-clash-iff-suits-all}
 use Rattle.finder.proofs.Checks.{judged-clash, judged-suits, least-count-at-most}
-use Rattle.checker.proofs.Verdicts.{at-found, nowhere-found}
+use Rattle.clashes.proofs.Answers.{at-found, nowhere-found}
 use Rattle.checker.proofs.checking.judge.Statement.{statement}
 use Rattle.checker.proofs.checking.judge.Tie as tie
 

@@ -1,4 +1,4 @@
--- `checker::checking::bank_in` meets its contract: a plan answers with the bank.
+-- `clashes::bank_in` meets its contract: a plan answers with the bank.
 -- Assumes nothing.
 use Prim.Native.Nat.{_<_}
 use native.Mathlib.Omega.{arith}
@@ -17,8 +17,8 @@ use Rattle.scope.proofs.PlanFacts.{plan-means}
 use Rattle.laws.proofs.Chains.{value-not-refusal, value-injective}
 use Rattle.laws.proofs.Legal.{bank-answers}
 use Rattle.lattice.proofs.Banks.{bank-below-count}
-use Rattle.checker.proofs.checking.bank_in.Statement.{statement}
-use Rattle.checker.proofs.checking.bank_in.Tie as tie
+use Rattle.clashes.proofs.bank_in.Statement.{statement}
+use Rattle.clashes.proofs.bank_in.Tie as tie
 
 cast-bank : tie.Need-cast-bank
 cast-bank c = widened-fits w8 w16 tt (c .args .i) (c .fits .i)

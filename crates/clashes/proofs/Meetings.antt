@@ -26,8 +26,8 @@ use Rattle.laws.proofs.Lists.{getD-set-same, getD-set-other}
 use Rattle.laws.proofs.Patterns.{origin, length-pixels, getD-pixels}
 use Rattle.lattice.proofs.Membership.{lattice-means}
 use Rattle.lattice.proofs.Banks.{same-bank-means-lattice, lattice-means-same-bank}
-use Rattle.checker.specs.Clashing.{metAt}
-use Rattle.checker.specs.declared.Met.{Met}
+use Rattle.clashes.specs.Clashing.{metAt}
+use Rattle.clashes.specs.declared.Met.{Met}
 
 -- the first of the positions k, k + 1, .., m of them, that has bank β, and 0 if there is none
 unfoldable pub nextPlace : (ℕ → ℕ) → ℕ → ℕ → ℕ → ℕ

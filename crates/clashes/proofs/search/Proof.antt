@@ -1,4 +1,4 @@
--- `checker::checking::clash_in` meets its contract. The loop's invariant: the positions from e on are searched. The measure is e.
+-- `clashes::search` meets its contract. The loop's invariant: the positions from e on are searched. The measure is e.
 -- Assumes nothing.
 use Prim.Native.Nat.{ℕ, suc, _-_, _≤_, _<_}
 use native.Mathlib.Omega.{arith}
@@ -14,9 +14,9 @@ use borrow.Author.Needs.{needs}
 use Rattle.scope.specs.Plans.{at, isPlan, pixelAt}
 use Rattle.scope.specs.Banks.{bankOf}
 use Rattle.scope.specs.declared.Pattern.{Pattern}
-use Rattle.checker.proofs.Meetings.{bankAt, place-at-most, Searched, none-searched, all-searched, clash-met, none-met}
-use Rattle.checker.proofs.checking.clash_in.Statement.{statement}
-use Rattle.checker.proofs.checking.clash_in.Tie as tie
+use Rattle.clashes.proofs.Meetings.{bankAt, place-at-most, Searched, none-searched, all-searched, clash-met, none-met}
+use Rattle.clashes.proofs.search.Statement.{statement}
+use Rattle.clashes.proofs.search.Tie as tie
 
 -- the loop's columns and rows, and the count that it starts from, as the record they came from
 abbrev pattern : List ℤ → List ℤ → ℕ → Pattern
@@ -107,8 +107,8 @@ loop-again c =
 returns : tie.Need-returns Inv-loop μ-loop
 returns c = all-searched (c .before .loop .inv .1) (c .loop-test .left)
 
-pub clash-in-spec : {M : Type 1} → statement M
-clash-in-spec =
+pub search-spec : {M : Type 1} → statement M
+search-spec =
     tie.close
     (tie.spec
     Inv-loop
