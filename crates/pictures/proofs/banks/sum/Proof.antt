@@ -1,0 +1,109 @@
+-- `pictures::banks::sum` meets its contract: where the bank's tests find nothing its words are summed, and elsewhere the
+-- refusal comes back.
+-- Assumes nothing.
+use Prim.Native.Nat.{ℕ, _+_, _*_, _-_}
+use native.Mathlib.Omega.{arith}
+use mathlib.Core.Path.{_≡_, sym, _∙_, ap}
+use mathlib.Core.Option.{Option}
+use mathlib.Core.List.{List, foldr}
+use lib.ListN.{length, take, drop}
+use borrow.Author.Needs.{needs}
+use Rattle.scope.specs.Banks.{bankSum}
+use Rattle.scope.specs.Calls.{wholeBankTest, sum}
+use Rattle.scope.specs.declared.Plan.{Plan}
+use Rattle.scope.specs.declared.Counted.{Counted}
+use Rattle.scope.specs.declared.Refusal.{Refusal}
+use Rattle.laws.proofs.Chains.{answered-none, answered-some}
+use Rattle.pictures.specs.Places.{bankDepth}
+use Rattle.pictures.proofs.PictureTests.{bank-refusal-told}
+use Rattle.pictures.proofs.WholeBanks.{found-nothing, bank-below, end-at-most, end-in-memory, part-is-bank, part-at-most}
+use Rattle.pictures.proofs.banks.sum.Statement.{statement}
+use Rattle.pictures.proofs.banks.sum.Tie as tie
+
+-- What the call answers, by the depth that is told.
+module _ (p : Plan) (W H : ℕ) (mem : List ℕ) (k : ℕ) where
+  abbrev tests : Option Refusal
+  tests = wholeBankTest p W H (length mem) k
+
+  abbrev total : Counted
+  total = Counted.Number (bankSum p W H mem k)
+
+  summed :
+      {deep n : ℕ} → bankDepth p W H (length mem) k ≡ Counted.Number deep
+      → n ≡ foldr _+_ 0 (take ((k + 1) * deep - k * deep) (drop (k * deep) mem))
+      → Counted.Number n ≡ sum p W H mem k
+  unfolding sum bankSum
+  summed told e =
+      ap Counted.Number (e ∙ ap (foldr _+_ 0) (part-is-bank p W H mem k told))
+      ∙ sym (answered-none tests Counted.Refused total (found-nothing p W H (length mem) k told))
+
+  refused :
+      {answer : Counted} {r : Refusal} → answer ≡ bankDepth p W H (length mem) k → answer ≡ Counted.Refused r
+      → Counted.Refused r ≡ sum p W H mem k
+  unfolding sum
+  refused {r} is told =
+      sym (answered-some tests Counted.Refused total r (bank-refusal-told p W H (length mem) k is told))
+
+bank-depth-requires : tie.Need-bank-depth-requires
+bank-depth-requires c κs = search needs
+
+enum-known-depth : tie.Need-enum-known-depth
+enum-known-depth c = search needs
+
+-- the bank's depth was told
+told :
+    (c : tie.After-known-told) →
+    let u = c .before .before .before .before .before .args in
+    bankDepth (u .p) (u .w) (u .h) (length (u .mem .now)) (u .k) ≡ Counted.Number (c .before .depth .given .0 .0)
+told c = sym (c .before .before .before .bank-depth .ensures) ∙ c .before .depth .given .1
+
+mul-start : tie.Need-mul-start
+mul-start c = omega (arith, end-at-most _ _ _ _ _ (told c))
+
+add-end : tie.Need-add-end
+add-end c = omega (arith, bank-below _ _ _ _ _ (told c))
+
+mul-end : tie.Need-mul-end
+mul-end c = omega (arith, end-at-most _ _ _ _ _ (told c))
+
+mul-sum-words : tie.Need-mul-sum-words
+mul-sum-words c = omega (arith, end-at-most _ _ _ _ _ (told c))
+
+sub-sum-words : tie.Need-sub-sum-words
+sub-sum-words c = search needs
+
+part-sum-words-start : tie.Need-part-sum-words-start
+part-sum-words-start c = search needs
+
+part-sum-words-end : tie.Need-part-sum-words-end
+part-sum-words-end c = omega (arith, end-in-memory _ _ _ _ _ (told c))
+
+sum-words-requires : tie.Need-sum-words-requires
+sum-words-requires c κs = part-at-most _ _ _ _ _ (told (c .before))
+
+enum-known-depth-2 : tie.Need-enum-known-depth-2
+enum-known-depth-2 c = search needs
+
+returns : tie.Need-returns
+returns c = summed _ _ _ _ _ (told (c .before .before)) (c .sum-words .ensures)
+
+returns-2 : tie.Need-returns-2
+returns-2 c = refused _ _ _ _ _ (c .before .before .before .bank-depth .ensures) (c .before .depth2 .given .1)
+
+pub sum-spec : {M : Type 1} → statement M
+sum-spec =
+    tie.close
+    (tie.spec
+    bank-depth-requires
+    enum-known-depth
+    mul-start
+    add-end
+    mul-end
+    mul-sum-words
+    sub-sum-words
+    part-sum-words-start
+    part-sum-words-end
+    sum-words-requires
+    enum-known-depth-2
+    returns
+    returns-2)

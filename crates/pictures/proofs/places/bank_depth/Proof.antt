@@ -1,0 +1,114 @@
+-- `pictures::places::bank_depth` meets its contract: 11, 12, 13 come with the depth, then 15.
+-- Assumes nothing.
+use Prim.Native.Nat.{ℕ, _*_, _≤_, _<_}
+use native.Mathlib.Omega.{arith}
+use mathlib.Core.Path.{_≡_, sym, _∙_, ap}
+use mathlib.Core.Option.{none, some}
+use mathlib.Core.List.{[], _∷_}
+use borrow.Author.Needs.{needs}
+use Rattle.scope.specs.Plans.{banks}
+use Rattle.scope.specs.Banks.{depthOf}
+use Rattle.scope.specs.Numbers.{bankTest}
+use Rattle.scope.specs.Calls.{wholeBankTest}
+use Rattle.scope.specs.declared.Plan.{Plan}
+use Rattle.scope.specs.declared.Counted.{Counted}
+use Rattle.scope.specs.declared.Refusal.{Refusal}
+use Rattle.laws.proofs.Chains.{chain-refuses, chain-goes-on, chain-of-one, answered-none, answered-some}
+use Rattle.laws.proofs.Deciding.{bank-decides}
+use Rattle.pictures.specs.Places.{pictureTest, pictureDepth, bankDepth}
+use Rattle.pictures.proofs.PictureTests.{picture-test-iff, picture-before-bank, picture-told, picture-refusal-told}
+use Rattle.pictures.proofs.places.bank_depth.Statement.{statement}
+use Rattle.pictures.proofs.places.bank_depth.Tie as tie
+
+module _ (p : Plan) (W H words k : ℕ) where
+  -- what the call answers, by its tests
+  refused : (r : Refusal) → wholeBankTest p W H words k ≡ some r → bankDepth p W H words k ≡ Counted.Refused r
+  unfolding bankDepth
+  refused = answered-some (wholeBankTest p W H words k) Counted.Refused (Counted.Number (depthOf p W H))
+
+  given : wholeBankTest p W H words k ≡ none → bankDepth p W H words k ≡ Counted.Number (depthOf p W H)
+  unfolding bankDepth
+  given = answered-none (wholeBankTest p W H words k) Counted.Refused (Counted.Number (depthOf p W H))
+
+  -- and by what the callee answered
+  module _ {answer : Counted} (is : answer ≡ pictureDepth p W H words) where
+    no-picture : (r : Refusal) → answer ≡ Counted.Refused r → answer ≡ bankDepth p W H words k
+    no-picture r e =
+        e
+        ∙ sym
+        (refused r
+        (picture-before-bank p W H words k
+        ∙ chain-refuses (pictureTest p W H words) (bankTest p k ∷ []) r (picture-refusal-told p W H words is e)))
+
+    module _ {n : ℕ} (e : answer ≡ Counted.Number n) where
+      count-at-most : p .a * p .d ≤ 1024
+      count-at-most = picture-test-iff p W H words .0 (picture-told p W H words is e .0) .plan .most
+
+      past-picture : wholeBankTest p W H words k ≡ bankTest p k
+      past-picture =
+          picture-before-bank p W H words k
+          ∙ chain-goes-on (pictureTest p W H words) (bankTest p k ∷ []) (picture-told p W H words is e .0)
+          ∙ chain-of-one (bankTest p k)
+
+      no-such-bank : p .a * p .d ≤ k → Counted.Refused Refusal.Cell ≡ bankDepth p W H words k
+      unfolding banks
+      no-such-bank h = sym (refused Refusal.Cell (past-picture ∙ bank-decides p k .refuses (λ l. omega arith)))
+
+      bank-there : k < p .a * p .d → answer ≡ bankDepth p W H words k
+      unfolding banks
+      bank-there h =
+          e ∙ ap Counted.Number (sym (picture-told p W H words is e .1)) ∙ sym (given (past-picture ∙ bank-decides p k .passes h))
+
+picture-depth-requires : tie.Need-picture-depth-requires
+picture-depth-requires c κs = search needs
+
+enum-told : tie.Need-enum-told
+enum-told c = search needs
+
+-- the callee gave a number
+module _ (c : tie.After-struct-known) where
+  abbrev start : tie.Start
+  start = c .before .before .before .before
+
+  is-depth :
+      c .before .before .before .picture-depth .result
+      ≡ pictureDepth (start .args .p) (start .args .w) (start .args .h) (start .args .words)
+  is-depth = c .before .before .before .picture-depth .ensures
+
+  count-small : start .args .p .a * start .args .p .d ≤ 1024
+  count-small = count-at-most _ _ _ _ (start .args .k) is-depth (c .before .enum-told .given .1)
+
+mul-if1 : tie.Need-mul-if1
+mul-if1 c = omega (arith, count-small c)
+
+cast-if1 : tie.Need-cast-if1
+cast-if1 c = omega (arith, count-small c)
+
+returns : tie.Need-returns
+returns c =
+    let s = c .before in
+    no-such-bank _ _ _ _ _ (is-depth s) (s .before .enum-told .given .1) (c .if1 .taken)
+
+enum-told-2 : tie.Need-enum-told-2
+enum-told-2 c = search needs
+
+returns-2 : tie.Need-returns-2
+returns-2 c =
+    let s = c .before in
+    bank-there _ _ _ _ _ (is-depth s) (s .before .enum-told .given .1) (c .if1 .left)
+
+returns-3 : tie.Need-returns-3
+returns-3 c = no-picture _ _ _ _ _ (c .before .before .picture-depth .ensures) _ (c .enum-told2 .given .1)
+
+pub bank-depth-spec : {M : Type 1} → statement M
+bank-depth-spec =
+    tie.close
+    (tie.spec
+    picture-depth-requires
+    enum-told
+    mul-if1
+    cast-if1
+    returns
+    enum-told-2
+    returns-2
+    returns-3)

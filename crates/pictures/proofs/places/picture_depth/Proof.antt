@@ -1,0 +1,145 @@
+-- `pictures::places::picture_depth` meets its contract: 11 and 12 come with the depth, then 13.
+-- Assumes nothing.
+use Prim.Native.Nat.{ℕ, _*_, _≤_, _<_}
+use native.Mathlib.Nat.{mul-le-mul}
+use native.Mathlib.Omega.{arith}
+use mathlib.Core.Path.{_≡_, sym, _∙_, ap}
+use mathlib.Core.Option.{Option, none, some}
+use mathlib.Core.List.{[], _∷_}
+use borrow.Author.Needs.{needs}
+use Rattle.scope.specs.Search.{firstOf}
+use Rattle.scope.specs.Plans.{banks}
+use Rattle.scope.specs.Banks.{depthOf}
+use Rattle.scope.specs.Numbers.{planTest, sidesTest, memoryTest}
+use Rattle.scope.specs.Calls.{depth}
+use Rattle.scope.specs.Meaning.{IsPlan, IsSide}
+use Rattle.scope.specs.declared.Plan.{Plan}
+use Rattle.scope.specs.declared.Counted.{Counted}
+use Rattle.scope.specs.declared.Refusal.{Refusal}
+use Rattle.laws.proofs.Booleans.{last-test, test-before}
+use Rattle.laws.proofs.Chains.{chain-refuses, chain-goes-on, chain-of-one, answered-none, answered-some}
+use Rattle.laws.proofs.Deciding.{memory-decides}
+use Rattle.laws.proofs.Tests.{plan-legal-iff, sides-legal-iff}
+use Rattle.buffer.proofs.Sums.{depth-at-most}
+use Rattle.pictures.specs.Places.{pictureTest, pictureDepth}
+use Rattle.pictures.proofs.Answers.{number-told, refusal-told}
+use Rattle.pictures.proofs.PictureTests.{depth-before-memory}
+use Rattle.pictures.proofs.places.picture_depth.Statement.{statement}
+use Rattle.pictures.proofs.places.picture_depth.Tie as tie
+
+module _ (p : Plan) (W H words : ℕ) where
+  -- what the call answers, by its tests
+  refused : (r : Refusal) → pictureTest p W H words ≡ some r → pictureDepth p W H words ≡ Counted.Refused r
+  unfolding pictureDepth
+  refused = answered-some (pictureTest p W H words) Counted.Refused (Counted.Number (depthOf p W H))
+
+  given : pictureTest p W H words ≡ none → pictureDepth p W H words ≡ Counted.Number (depthOf p W H)
+  unfolding pictureDepth
+  given = answered-none (pictureTest p W H words) Counted.Refused (Counted.Number (depthOf p W H))
+
+  abbrev depthTest : Option Refusal
+  depthTest = firstOf (planTest p ∷ sidesTest W H ∷ [])
+
+  abbrev room : Option Refusal
+  room = memoryTest p W H words
+
+  -- and by what the depth's call answered
+  module _ {answer : Counted} (is : answer ≡ depth p W H) where
+    no-depth : (r : Refusal) → answer ≡ Counted.Refused r → answer ≡ pictureDepth p W H words
+    unfolding depth
+    no-depth r e =
+        e
+        ∙ sym
+        (refused r
+        (depth-before-memory p W H words
+        ∙ chain-refuses depthTest (room ∷ []) r (refusal-told depthTest (depthOf p W H) is e)))
+
+    module _ {n : ℕ} (e : answer ≡ Counted.Number n) where
+      depth-told : (depthTest ≡ none) × (depthOf p W H ≡ n)
+      unfolding depth
+      depth-told = number-told depthTest (depthOf p W H) is e
+
+      past-depth : pictureTest p W H words ≡ room
+      past-depth =
+          depth-before-memory p W H words ∙ chain-goes-on depthTest (room ∷ []) (depth-told .0) ∙ chain-of-one room
+
+      legal : IsPlan p × (IsSide W × IsSide H)
+      legal = test-before (plan-legal-iff p) (last-test (sides-legal-iff W H)) .iff .0 (depth-told .0)
+
+      words-at-most : p .a * p .d * n ≤ 1024 * (4096 * 4096)
+      words-at-most =
+          mul-le-mul (legal .0 .most) (rw (depth-told .1) at (depth-at-most p W H (legal .0) (legal .1 .0) (legal .1 .1)))
+
+      memory-short : words < p .a * p .d * n → Counted.Refused Refusal.Memory ≡ pictureDepth p W H words
+      unfolding banks
+      memory-short h =
+          sym
+          (refused Refusal.Memory
+          (past-depth ∙ memory-decides p W H words .refuses (λ l. omega (arith, rw (depth-told .1) at l))))
+
+      memory-enough : p .a * p .d * n ≤ words → Counted.Number n ≡ pictureDepth p W H words
+      unfolding banks
+      memory-enough h =
+          ap Counted.Number (sym (depth-told .1))
+          ∙ sym (given (past-depth ∙ memory-decides p W H words .passes (rw (depth-told .1) h)))
+
+depth-requires : tie.Need-depth-requires
+depth-requires c κs = search needs
+
+enum-known-answer : tie.Need-enum-known-answer
+enum-known-answer c = search needs
+
+-- the plan's call gave a number, n
+module _ (c : tie.After-struct-known) where
+  abbrev start : tie.Start
+  start = c .before .before .before .before .before
+
+  abbrev p : Plan
+  p = start .args .p
+
+  abbrev n : ℕ
+  n = c .before .before .answer .given .0 .0
+
+  is : c .before .before .before .before .depth .result ≡ depth p (start .args .w) (start .args .h)
+  is = c .before .before .before .before .depth .ensures
+
+  number-is : c .before .before .before .before .depth .result ≡ Counted.Number n
+  number-is = c .before .before .answer .given .1
+
+  count-small : p .a * p .d ≤ 1024
+  count-small = legal p (start .args .w) (start .args .h) (start .args .words) is number-is .0 .most
+
+mul-if1 : tie.Need-mul-if1
+mul-if1 c = omega (arith, count-small c)
+
+cast-if1 : tie.Need-cast-if1
+cast-if1 c = omega (arith, count-small c)
+
+mul-if1-2 : tie.Need-mul-if1-2
+mul-if1-2 c = omega (arith, words-at-most _ _ _ (start c .args .words) (is c) (number-is c))
+
+returns : tie.Need-returns
+returns c = memory-short _ _ _ _ (is (c .before)) (number-is (c .before)) (c .if1 .taken)
+
+enum-told : tie.Need-enum-told
+enum-told c = search needs
+
+returns-2 : tie.Need-returns-2
+returns-2 c = memory-enough _ _ _ _ (is (c .before)) (number-is (c .before)) (c .if1 .left)
+
+returns-3 : tie.Need-returns-3
+returns-3 c = no-depth _ _ _ _ (c .before .before .depth .ensures) _ (c .enum-told .given .1)
+
+pub picture-depth-spec : {M : Type 1} → statement M
+picture-depth-spec =
+    tie.close
+    (tie.spec
+    depth-requires
+    enum-known-answer
+    mul-if1
+    cast-if1
+    mul-if1-2
+    returns
+    enum-told
+    returns-2
+    returns-3)

@@ -1,0 +1,51 @@
+// Where a word or a bank stands in a memory of so many words.
+use scope::Counted;
+use scope::Plan;
+use scope::Refusal;
+ghost use mathlib.Core.Path.{_≡_};
+ghost use Rattle.scope.specs.Plans.{at};
+ghost use Rattle.pictures.specs.Places.{pictureDepth, wordPlace, bankDepth};
+
+// The depth of a picture that the memory holds, or 11, 12, 13.
+pub fn picture_depth(p: Plan, w: u32, h: u32, words: usize) -> Counted
+    ensures { λ r. ⌜ r ≡ pictureDepth p w h words ⌝ }
+{
+    let answer = p.depth(w, h);
+    if let Counted::Number(depth) = answer {
+        if (words as u64) < (p.a * p.d) as u64 * depth {
+            return Counted::Refused(Refusal::Memory);
+        }
+    }
+    answer
+}
+
+// The place of the word of the pixel (i, j), or 11, 12, 13, 14.
+pub fn word_place(p: Plan, w: u32, h: u32, words: usize, i: i16, j: i16) -> Counted
+    ensures { λ r. ⌜ r ≡ wordPlace p w h words (at i j) ⌝ }
+{
+    let answer = picture_depth(p, w, h, words);
+    if let Counted::Number(depth) = answer {
+        let address = p.address(w, h, i, j);
+        if let Counted::Number(u) = address {
+            let bank = p.bank(i, j);
+            if let Counted::Number(k) = bank {
+                return Counted::Number(k * depth + u);
+            }
+        }
+        return address;
+    }
+    answer
+}
+
+// How many words bank k has, which begins at k times as many, or 11, 12, 13, 15.
+pub fn bank_depth(p: Plan, w: u32, h: u32, words: usize, k: u64) -> Counted
+    ensures { λ r. ⌜ r ≡ bankDepth p w h words k ⌝ }
+{
+    let answer = picture_depth(p, w, h, words);
+    if let Counted::Number(_) = answer {
+        if (p.a * p.d) as u64 <= k {
+            return Counted::Refused(Refusal::Cell);
+        }
+    }
+    answer
+}
