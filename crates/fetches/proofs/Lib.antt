@@ -1,0 +1,5 @@
+pub mod Deliveries
+pub mod Moved
+pub mod OfBooks
+pub mod Starts
+pub mod Wrapped
