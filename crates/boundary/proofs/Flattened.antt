@@ -21,7 +21,7 @@ entry-there xs n e h =
     getD-gather 0 64 (λ e. getD xs (64 * n + e) (pos 0)) e (pos 0) h ∙ ap (λ e. getD xs (64 * n + e) (pos 0)) (zero-add e)
 
 module _ (columns rows : List ℤ) (used : List ℕ) (count : ℕ) where
-  pattern-there : (n : ℕ) → n < 16 → patternAt (flatBook columns rows used count) n ≡ flatPattern columns rows used n
+  pub pattern-there : (n : ℕ) → n < 16 → patternAt (flatBook columns rows used count) n ≡ flatPattern columns rows used n
   unfolding patternAt flatBook
   pattern-there n h =
       getD-gather 0 16 (flatPattern columns rows used) n noPattern h ∙ ap (flatPattern columns rows used) (zero-add n)

@@ -7,6 +7,7 @@ use lib.ListN.{getD}
 use Rattle.scope.specs.Search.{gather}
 use Rattle.scope.specs.Plans.{patternAt}
 use Rattle.scope.specs.Numbers.{Answer, value, turnedDown}
+use Rattle.book.specs.Scan.{entryNumber}
 use Rattle.scope.specs.declared.Pattern.{Pattern}
 use Rattle.scope.specs.declared.Book.{Book}
 use Rattle.scope.specs.declared.Reading.{Reading}
@@ -22,6 +23,11 @@ unfoldable pub flatPattern : List ℤ → List ℤ → List ℕ → ℕ → Patt
 unfolding entries
 flatPattern columns rows used n =
     record { columns = entries columns n; rows = entries rows n; used = getD used n 0 }
+
+-- the record that stands for pattern n: its entry, the last one where there is none
+unfoldable pub flatEntry : List ℤ → List ℤ → List ℕ → ℕ → Pattern
+unfolding flatPattern
+flatEntry columns rows used n = flatPattern columns rows used (entryNumber n)
 
 unfoldable pub flatBook : List ℤ → List ℤ → List ℕ → ℕ → Book
 unfolding gather flatPattern

@@ -1,9 +1,14 @@
 // Book records as flat arrays.
+use book::entry_number;
+use book::pattern_outcome;
 use scope::Book;
+use scope::Outcome;
 use scope::Pattern;
+use scope::Refusal;
 ghost use mathlib.Core.Path.{_≡_};
 ghost use Prim.Native.Nat.{_<_};
-ghost use Rattle.boundary.specs.Flat.{entries, flatPattern, flatBook, flatColumns, flatRows, flatUsed};
+ghost use Rattle.scope.specs.Calls.{recordOutcome};
+ghost use Rattle.boundary.specs.Flat.{entries, flatPattern, flatEntry, flatBook, flatColumns, flatRows, flatUsed};
 
 // The 64 entries of pattern n.
 fn entries_of(xs: &[i8; 1024], n: usize) -> [i8; 64]
@@ -48,6 +53,39 @@ pub fn book_of(columns: &[i8; 1024], rows: &[i8; 1024], used: &[usize; 16], coun
         n += 1;
     }
     Book { patterns, count }
+}
+
+// Whether the record of flat arrays is a book, or 2, 3, 4. No `Book` is made for it.
+pub fn tested_of(
+    columns: &[i8; 1024],
+    rows: &[i8; 1024],
+    used: &[usize; 16],
+    count: usize,
+) -> Outcome
+    ensures { λ r. ⌜ r ≡ recordOutcome (flatBook (now (columns .entry)) (now (rows .entry)) (now (used .entry)) count) ⌝ }
+{
+    if count == 0 {
+        return Outcome::Refused(Refusal::Count(0));
+    }
+    if 16 < count {
+        return Outcome::Refused(Refusal::Count(0));
+    }
+    let mut n = 0;
+    while n < count {
+        let outcome = pattern_outcome(pattern_of(columns, rows, used, n));
+        if let Outcome::Refused(_) = outcome {
+            return outcome;
+        }
+        n += 1;
+    }
+    Outcome::Done
+}
+
+// The record of pattern n of flat arrays, the last one where there is none.
+pub fn entry_of(columns: &[i8; 1024], rows: &[i8; 1024], used: &[usize; 16], n: usize) -> Pattern
+    ensures { λ r. ⌜ r ≡ flatEntry (now (columns .entry)) (now (rows .entry)) (now (used .entry)) n ⌝ }
+{
+    pattern_of(columns, rows, used, entry_number(n))
 }
 
 // Puts a record's columns and rows into two arrays.

@@ -3,10 +3,13 @@ mod flat;
 mod told;
 
 pub use flat::book_of;
+pub use flat::entry_of;
 pub use flat::put_pixels;
 pub use flat::put_used;
+pub use flat::tested_of;
 pub use told::number_of;
 pub use told::tell_counted;
+pub use told::tell_loaded;
 pub use told::tell_located;
 pub use told::tell_outcome;
 pub use told::tell_planned;

@@ -2,6 +2,7 @@
 use integers::size;
 use scope::Clash;
 use scope::Counted;
+use scope::Loaded;
 use scope::Located;
 use scope::Outcome;
 use scope::Planned;
@@ -9,7 +10,7 @@ use scope::Refusal;
 use scope::Verdict;
 ghost use mathlib.Core.Path.{_≡_};
 ghost use mathlib.Core.List.{_∷_};
-ghost use Rattle.scope.specs.Numbers.{rowOf, numberOf, placeOf, clashOf, ofPlanned, ofCounted, ofLocated, ofOutcome, ofVerdict};
+ghost use Rattle.scope.specs.Numbers.{rowOf, numberOf, placeOf, clashOf, ofPlanned, ofCounted, ofLoaded, ofLocated, ofOutcome, ofVerdict};
 ghost use Rattle.boundary.specs.Told.{Tells, clashIf, clashRow, planRow, checkedRow, numberRow, pixelRow, noRow, putFrom};
 
 // A refusal's number, its place, and its clash if the number is 10.
@@ -110,6 +111,19 @@ pub fn tell_counted(c: Counted, answer: &mut [u64; 4]) -> u64
             0
         }
         Counted::Refused(r) => tell_refusal(r, answer),
+    }
+}
+
+// A word, or the refusal.
+pub fn tell_loaded(l: Loaded, answer: &mut [u64; 4]) -> u64
+    ensures { λ n. ⌜ Tells numberRow (ofLoaded l) (now (answer .entry)) (now (answer .exit)) n ⌝ }
+{
+    match l {
+        Loaded::Word(x) => {
+            answer[0] = x as u64;
+            0
+        }
+        Loaded::Refused(r) => tell_refusal(r, answer),
     }
 }
 

@@ -1,7 +1,8 @@
 // The library for C and Rust: the calls on numbers, slices and arrays. Each answers a number, 0 where it was not refused, and
 // puts what it has to tell at the start of `answer`, the rest unchanged: its values, or the refusal's place and, of 10, the
 // clash's pattern and its earlier and later position.
-use book::record_outcome;
+mod memory;
+
 use book::write_book;
 use boundary::book_of;
 use boundary::put_pixels;
@@ -11,6 +12,7 @@ use boundary::tell_located;
 use boundary::tell_outcome;
 use boundary::tell_planned;
 use boundary::tell_verdict;
+use boundary::tested_of;
 use checker::check;
 use finder::find;
 use lattice::normal_form;
@@ -177,7 +179,7 @@ pub extern "C" fn bankplan_test_record(
 ) -> u64
     ensures { λ n. ⌜ Tells noRow (ofOutcome (recordOutcome (flatBook (now (columns .entry)) (now (rows .entry)) (now (used .entry)) count))) (now (answer .entry)) (now (answer .exit)) n ⌝ }
 {
-    tell_outcome(record_outcome(book_of(columns, rows, used, count)), answer)
+    tell_outcome(tested_of(columns, rows, used, count), answer)
 }
 
 // The plan with the fewest banks within the limit for a record given as flat arrays: a, b, d.

@@ -1,0 +1,46 @@
+-- `capi::memory::bankplan_ring_fetch` meets its contract.
+-- Assumes nothing.
+use borrow.Author.Needs.{needs}
+use Rattle.scope.specs.Plans.{at, plan}
+use Rattle.scope.specs.Numbers.{ofCounted}
+use Rattle.scope.proofs.PlanFacts.{pixel-handed}
+use Rattle.fetches.proofs.OfBooks.{ring-fetch-by-entry}
+use Rattle.boundary.specs.Flat.{flatBook}
+use Rattle.boundary.proofs.Passed.{told-of}
+use Rattle.capi.proofs.Entries.{entry-there}
+use Rattle.capi.proofs.memory.bankplan_ring_fetch.Statement.{statement}
+use Rattle.capi.proofs.memory.bankplan_ring_fetch.Tie as tie
+
+tested-of-requires : tie.Need-tested-of-requires
+tested-of-requires c κs = search needs
+
+entry-of-requires : tie.Need-entry-of-requires
+entry-of-requires c κs = search needs
+
+ring-fetch-pattern-requires : tie.Need-ring-fetch-pattern-requires
+ring-fetch-pattern-requires c κs = search needs
+
+tell-counted-requires : tie.Need-tell-counted-requires
+tell-counted-requires c κs = search needs
+
+same-length : tie.Need-same-length
+same-length c = search needs
+
+returns : tie.Need-returns
+unfolding plan flatBook
+returns c =
+    let f = c .before .before .before .before in
+    let e = f .before .before in
+    let s = e .before .before .before .before in
+    let u = s .args in
+    let (number, content) =
+    ring-fetch-by-entry (flatBook (u .columns .now) (u .rows .now) (u .used .now) (u .count)) (plan (u .a) (u .b) (u .d)) (u .w) (u .h)
+    (u .mem .now) (u .n) (at (u .i) (u .j)) (u .out .now) (e .before .tested-of .ensures)
+    (entry-there (u .columns .now) (u .rows .now) (u .used .now) (u .count) (u .n) (e .entry-of .ensures))
+    (pixel-handed (s .fits .i) (s .fits .j))
+    (f .ring-fetch-pattern .ensures) in
+    (told-of ofCounted number (c .tell-counted .ensures), content)
+
+pub bankplan-ring-fetch-spec : {M : Type 1} → statement M
+bankplan-ring-fetch-spec =
+    tie.close (tie.spec tested-of-requires entry-of-requires ring-fetch-pattern-requires tell-counted-requires same-length returns)

@@ -1,0 +1,29 @@
+-- `capi::memory::bankplan_store` meets its contract.
+-- Assumes nothing.
+use borrow.Author.Needs.{needs}
+use Rattle.scope.specs.Plans.{plan}
+use Rattle.scope.specs.Numbers.{ofOutcome}
+use Rattle.scope.proofs.PlanFacts.{pixel-handed}
+use Rattle.boundary.proofs.Passed.{told-of}
+use Rattle.capi.proofs.memory.bankplan_store.Statement.{statement}
+use Rattle.capi.proofs.memory.bankplan_store.Tie as tie
+
+store-requires : tie.Need-store-requires
+store-requires c κs = search needs
+
+tell-outcome-requires : tie.Need-tell-outcome-requires
+tell-outcome-requires c κs = search needs
+
+same-length : tie.Need-same-length
+same-length c = search needs
+
+returns : tie.Need-returns
+unfolding plan
+returns c =
+    let b = c .before .before .before .before in
+    let f = b .before .before .before .fits in
+    let stored = rw (pixel-handed (f .i) (f .j)) at (b .store .ensures) in
+    (told-of ofOutcome (stored .0) (c .tell-outcome .ensures), stored .1)
+
+pub bankplan-store-spec : {M : Type 1} → statement M
+bankplan-store-spec = tie.close (tie.spec store-requires tell-outcome-requires same-length returns)

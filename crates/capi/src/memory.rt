@@ -1,0 +1,154 @@
+// The calls on a picture: the memory is a slice of 16-bit words.
+use boundary::entry_of;
+use boundary::tell_counted;
+use boundary::tell_loaded;
+use boundary::tell_outcome;
+use boundary::tested_of;
+use fetches::fetch_pattern;
+use fetches::ring_fetch_pattern;
+use pictures::clear;
+use pictures::load;
+use pictures::store;
+use pictures::sum;
+use scope::Plan;
+ghost use mathlib.Core.Path.{_≡_};
+ghost use Rattle.scope.specs.Plans.{at, plan};
+ghost use Rattle.scope.specs.Numbers.{ofCounted, ofLoaded, ofOutcome};
+ghost use Rattle.scope.specs.Calls.{store, load, clear, sum, fetch, ringFetch};
+ghost use Rattle.boundary.specs.Told.{Tells, numberRow, noRow};
+ghost use Rattle.boundary.specs.Flat.{flatBook};
+
+// Stores x at the pixel (i, j).
+#[no_mangle]
+pub extern "C" fn bankplan_store(
+    a: u32,
+    b: u32,
+    d: u32,
+    w: u32,
+    h: u32,
+    mem: &mut [u16],
+    i: i16,
+    j: i16,
+    x: u16,
+    answer: &mut [u64; 4],
+) -> u64
+    ensures told { λ n. ⌜ Tells noRow (ofOutcome (store (plan a b d) w h (now (mem .entry)) (at i j) x .answer)) (now (answer .entry)) (now (answer .exit)) n ⌝ }
+    ensures mem { λ n. ⌜ now (mem .exit) ≡ store (plan a b d) w h (now (mem .entry)) (at i j) x .content ⌝ }
+{
+    tell_outcome(store(Plan { a, b, d }, w, h, mem, i, j, x), answer)
+}
+
+// The word at the pixel (i, j).
+#[no_mangle]
+pub extern "C" fn bankplan_load(
+    a: u32,
+    b: u32,
+    d: u32,
+    w: u32,
+    h: u32,
+    mem: &[u16],
+    i: i16,
+    j: i16,
+    answer: &mut [u64; 4],
+) -> u64
+    ensures { λ n. ⌜ Tells numberRow (ofLoaded (load (plan a b d) w h (now (mem .entry)) (at i j))) (now (answer .entry)) (now (answer .exit)) n ⌝ }
+{
+    tell_loaded(load(Plan { a, b, d }, w, h, mem, i, j), answer)
+}
+
+// Clears bank k.
+#[no_mangle]
+pub extern "C" fn bankplan_clear(
+    a: u32,
+    b: u32,
+    d: u32,
+    w: u32,
+    h: u32,
+    mem: &mut [u16],
+    k: u64,
+    answer: &mut [u64; 4],
+) -> u64
+    ensures told { λ n. ⌜ Tells noRow (ofOutcome (clear (plan a b d) w h (now (mem .entry)) k .answer)) (now (answer .entry)) (now (answer .exit)) n ⌝ }
+    ensures mem { λ n. ⌜ now (mem .exit) ≡ clear (plan a b d) w h (now (mem .entry)) k .content ⌝ }
+{
+    tell_outcome(clear(Plan { a, b, d }, w, h, mem, k), answer)
+}
+
+// The sum of bank k's words.
+#[no_mangle]
+pub extern "C" fn bankplan_sum(
+    a: u32,
+    b: u32,
+    d: u32,
+    w: u32,
+    h: u32,
+    mem: &[u16],
+    k: u64,
+    answer: &mut [u64; 4],
+) -> u64
+    ensures { λ n. ⌜ Tells numberRow (ofCounted (sum (plan a b d) w h (now (mem .entry)) k)) (now (answer .entry)) (now (answer .exit)) n ⌝ }
+{
+    tell_counted(sum(Plan { a, b, d }, w, h, mem, k), answer)
+}
+
+// Fetches pattern n of a record given as flat arrays, moved to (i, j), and tells how many words.
+#[no_mangle]
+pub extern "C" fn bankplan_fetch(
+    columns: &[i8; 1024],
+    rows: &[i8; 1024],
+    used: &[usize; 16],
+    count: usize,
+    a: u32,
+    b: u32,
+    d: u32,
+    w: u32,
+    h: u32,
+    mem: &[u16],
+    n: usize,
+    i: i16,
+    j: i16,
+    out: &mut [u16],
+    answer: &mut [u64; 4],
+) -> u64
+    ensures told { λ m. ⌜ Tells numberRow (ofCounted (fetch (flatBook (now (columns .entry)) (now (rows .entry)) (now (used .entry)) count) (plan a b d) w h (now (mem .entry)) n (at i j) (now (out .entry)) .answer)) (now (answer .entry)) (now (answer .exit)) m ⌝ }
+    ensures out { λ m. ⌜ now (out .exit) ≡ fetch (flatBook (now (columns .entry)) (now (rows .entry)) (now (used .entry)) count) (plan a b d) w h (now (mem .entry)) n (at i j) (now (out .entry)) .content ⌝ }
+{
+    let tested = tested_of(columns, rows, used, count);
+    let t = entry_of(columns, rows, used, n);
+    let p = Plan { a, b, d };
+    tell_counted(
+        fetch_pattern(tested, count, t, p, w, h, mem, n, i, j, out),
+        answer,
+    )
+}
+
+// The same around the picture's edges.
+#[no_mangle]
+pub extern "C" fn bankplan_ring_fetch(
+    columns: &[i8; 1024],
+    rows: &[i8; 1024],
+    used: &[usize; 16],
+    count: usize,
+    a: u32,
+    b: u32,
+    d: u32,
+    w: u32,
+    h: u32,
+    mem: &[u16],
+    n: usize,
+    i: i16,
+    j: i16,
+    out: &mut [u16],
+    answer: &mut [u64; 4],
+) -> u64
+    ensures told { λ m. ⌜ Tells numberRow (ofCounted (ringFetch (flatBook (now (columns .entry)) (now (rows .entry)) (now (used .entry)) count) (plan a b d) w h (now (mem .entry)) n (at i j) (now (out .entry)) .answer)) (now (answer .entry)) (now (answer .exit)) m ⌝ }
+    ensures out { λ m. ⌜ now (out .exit) ≡ ringFetch (flatBook (now (columns .entry)) (now (rows .entry)) (now (used .entry)) count) (plan a b d) w h (now (mem .entry)) n (at i j) (now (out .entry)) .content ⌝ }
+{
+    let tested = tested_of(columns, rows, used, count);
+    let t = entry_of(columns, rows, used, n);
+    let p = Plan { a, b, d };
+    tell_counted(
+        ring_fetch_pattern(tested, count, t, p, w, h, mem, n, i, j, out),
+        answer,
+    )
+}
