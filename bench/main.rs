@@ -4,36 +4,14 @@
 use std::hint::black_box;
 use std::time::Instant;
 
+#[path = "../tests/library.rs"]
+#[allow(dead_code)]
+mod library;
+mod pictures;
 mod unverified;
+mod words;
 
-extern "C" {
-    fn bankplan_find(
-        columns: &[i8; 1024],
-        rows: &[i8; 1024],
-        used: &[usize; 16],
-        count: usize,
-        limit: u32,
-        answer: &mut [u64; 4],
-    ) -> u64;
-    fn bankplan_check(
-        columns: &[i8; 1024],
-        rows: &[i8; 1024],
-        used: &[usize; 16],
-        count: usize,
-        x1: i16,
-        x2: i16,
-        y1: i16,
-        y2: i16,
-        answer: &mut [u64; 4],
-    ) -> u64;
-}
-
-pub struct Record {
-    pub columns: [i8; 1024],
-    pub rows: [i8; 1024],
-    pub used: [usize; 16],
-    pub count: usize,
-}
+use library::{bankplan_check, bankplan_find, Plan, Record};
 
 // A call's number and the numbers it told; those that it did not set are 0.
 type Told = (u64, [u64; 4]);
@@ -48,7 +26,7 @@ fn proved_check(r: &Record, x: (i16, i16), y: (i16, i16)) -> Told {
     (unsafe { bankplan_check(&r.columns, &r.rows, &r.used, r.count, x.0, x.1, y.0, y.1, &mut answer) }, answer)
 }
 
-fn told(p: Result<unverified::Plan, u64>) -> Told {
+fn told(p: Result<Plan, u64>) -> Told {
     p.map_or_else(|n| (n, [0; 4]), |p| (0, [p.a.into(), p.b.into(), p.d.into(), 0]))
 }
 
@@ -151,7 +129,9 @@ fn seconds<const N: usize>(versions: [&dyn Fn() -> u64; N]) -> [f64; N] {
 }
 
 fn time(s: f64) -> String {
-    if s < 1e-4 {
+    if s < 1e-7 {
+        format!("{:.1} ns", s * 1e9)
+    } else if s < 1e-4 {
         format!("{:.2} µs", s * 1e6)
     } else {
         format!("{:.2} ms", s * 1e3)
@@ -188,7 +168,14 @@ fn main() {
             assert_eq!(proved_check(r, x, y), told_verdict(unverified::check(r, x, y)), "{name}");
         }
     }
+    let mut fetched = Vec::from([2, 3, 4, 9].map(|k| {
+        let [a, b, d, _] = proved_find(&books[k].1).1.map(|x| x as u32);
+        (books[k].0, &books[k].1, Plan { a, b, d })
+    }));
+    // a supplier's plan of several rows
+    fetched.push(("3 by 3 block, plan 6, 4, 5", &books[2].1, Plan { a: 6, b: 4, d: 5 }));
     if std::env::args().nth(1).as_deref() == Some("answers") {
+        pictures::pictures(&fetched, false);
         println!("the unverified versions give the same answers");
         return;
     }
@@ -223,4 +210,5 @@ fn main() {
             println!("| {name}, {x:?} {y:?} | {said} | {} | {} | {:.2} |", time(proved), time(unproved), proved / unproved);
         }
     }
+    pictures::pictures(&fetched, true);
 }

@@ -1,12 +1,6 @@
 //! The same work in Rust as one would write it without proofs: the same checks, the same table, the same order of search.
 
-use crate::Record;
-
-pub struct Plan {
-    pub a: u32,
-    pub b: u32,
-    pub d: u32,
-}
+use crate::library::{Plan, Record};
 
 fn small(z: i8) -> bool {
     (-16..=15).contains(&z)
@@ -185,24 +179,20 @@ pub enum Verdict {
     Suits(Plan, u32),
 }
 
-fn clash(r: &Record, p: &Plan) -> Option<Verdict> {
+/// The clash of pattern n.
+pub fn clash_of(r: &Record, p: &Plan, n: usize) -> Option<Verdict> {
     let (a, b, d) = (p.a as i32, p.b as i32, p.d as i32);
-    for n in 0..r.count {
-        let mut next = [0u8; 1024];
-        let mut met = None;
-        for e in (0..r.used[n]).rev() {
-            let (i, j) = (i32::from(r.columns[64 * n + e]), i32::from(r.rows[64 * n + e]));
-            let bank = (j.rem_euclid(d) * a + (i - b * j.div_euclid(d)).rem_euclid(a)) as usize;
-            if next[bank] > 0 {
-                met = Some(Verdict::Clash(n, e, next[bank] as usize));
-            }
-            next[bank] = e as u8;
+    let mut next = [0u8; 1024];
+    let mut met = None;
+    for e in (0..r.used[n]).rev() {
+        let (i, j) = (i32::from(r.columns[64 * n + e]), i32::from(r.rows[64 * n + e]));
+        let bank = (j.rem_euclid(d) * a + (i - b * j.div_euclid(d)).rem_euclid(a)) as usize;
+        if next[bank] > 0 {
+            met = Some(Verdict::Clash(n, e, next[bank] as usize));
         }
-        if met.is_some() {
-            return met;
-        }
+        next[bank] = e as u8;
     }
-    None
+    met
 }
 
 /// The verdict on two vectors, or the refusal's number.
@@ -212,7 +202,7 @@ pub fn check(r: &Record, x: (i16, i16), y: (i16, i16)) -> Result<Verdict, u64> {
         number => return Err(number),
     }
     let p = normal_form(x, y)?;
-    if let Some(met) = clash(r, &p) {
+    if let Some(met) = (0..r.count).find_map(|n| clash_of(r, &p, n)) {
         return Ok(met);
     }
     let least = search(&marks(r), 1024).map_or(1024, |q| q.a * q.d);

@@ -197,9 +197,8 @@ pub fn legal_record(random: &mut Random) -> Record {
     r
 }
 
-// A count, a coordinate or a pixel of it changed; it may still be a book.
-pub fn damaged_record(random: &mut Random) -> Record {
-    let mut r = legal_record(random);
+// A count, a coordinate or a pixel of a legal record changed; it may still be a book.
+pub fn damage_record(r: &mut Record, random: &mut Random) {
     let n = random.from_to(0, r.count as i64 - 1) as usize;
     let e = 64 * n + random.from_to(0, r.used[n] as i64 - 1) as usize;
     match random.from_to(0, 5) {
@@ -210,6 +209,11 @@ pub fn damaged_record(random: &mut Random) -> Record {
         4 => (r.columns[e], r.rows[e]) = (r.columns[64 * n], r.rows[64 * n]),
         _ => r.used[n] = 64,
     }
+}
+
+pub fn damaged_record(random: &mut Random) -> Record {
+    let mut r = legal_record(random);
+    damage_record(&mut r, random);
     r
 }
 

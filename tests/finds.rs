@@ -4,7 +4,7 @@ use crate::books::{damaged_record, fill_unused, legal_record};
 use crate::library::{self, Plan, Record, Told};
 use crate::oracle::{self, Pattern};
 use crate::search::{self, first_plan, one_to_a_bank, suits, Verdict};
-use crate::{Random, Tally};
+use crate::{wide, Random, Tally};
 
 fn refused(number: u64) -> Told {
     Told { number, row: vec![0] }
@@ -130,10 +130,6 @@ fn vectors(random: &mut Random, least: Plan) -> ((i16, i16), (i16, i16)) {
         (x, y) = (y, (x.0 + k * y.0, x.1 + k * y.1));
     }
     ((x.0 as i16, x.1 as i16), (y.0 as i16, y.1 as i16))
-}
-
-fn wide(v: (i16, i16)) -> (i64, i64) {
-    (v.0.into(), v.1.into())
 }
 
 // Everything that is asked of a legal book whose least plan is known: limits around the count, and suppliers' vectors.

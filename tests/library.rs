@@ -1,13 +1,14 @@
-//! The static library's functions, each behind a safe function that lends it slices and arrays.
+//! The static library's functions, each behind a safe function that lends it slices and arrays. The benchmark uses the
+//! declarations too.
 
 // A slice passes as a pointer and then a length, an array as a pointer.
 extern "C" {
-    fn bankplan_normal_form(x1: i16, x2: i16, y1: i16, y2: i16, answer: &mut [u64; 4]) -> u64;
-    fn bankplan_bank(a: u32, b: u32, d: u32, i: i16, j: i16, answer: &mut [u64; 4]) -> u64;
-    fn bankplan_depth(a: u32, b: u32, d: u32, w: u32, h: u32, answer: &mut [u64; 4]) -> u64;
-    fn bankplan_address(a: u32, b: u32, d: u32, w: u32, h: u32, i: i16, j: i16, answer: &mut [u64; 4]) -> u64;
-    fn bankplan_locate(a: u32, b: u32, d: u32, w: u32, h: u32, k: u64, i: u64, answer: &mut [u64; 4]) -> u64;
-    fn bankplan_read_book(
+    pub fn bankplan_normal_form(x1: i16, x2: i16, y1: i16, y2: i16, answer: &mut [u64; 4]) -> u64;
+    pub fn bankplan_bank(a: u32, b: u32, d: u32, i: i16, j: i16, answer: &mut [u64; 4]) -> u64;
+    pub fn bankplan_depth(a: u32, b: u32, d: u32, w: u32, h: u32, answer: &mut [u64; 4]) -> u64;
+    pub fn bankplan_address(a: u32, b: u32, d: u32, w: u32, h: u32, i: i16, j: i16, answer: &mut [u64; 4]) -> u64;
+    pub fn bankplan_locate(a: u32, b: u32, d: u32, w: u32, h: u32, k: u64, i: u64, answer: &mut [u64; 4]) -> u64;
+    pub fn bankplan_read_book(
         book: *const u8,
         book_len: usize,
         columns: &mut [i8; 1024],
@@ -15,8 +16,8 @@ extern "C" {
         used: &mut [usize; 16],
         answer: &mut [u64; 4],
     ) -> u64;
-    fn bankplan_pattern_part(book: *const u8, book_len: usize, n: usize, answer: &mut [u64; 4]) -> u64;
-    fn bankplan_write_book(
+    pub fn bankplan_pattern_part(book: *const u8, book_len: usize, n: usize, answer: &mut [u64; 4]) -> u64;
+    pub fn bankplan_write_book(
         columns: &[i8; 1024],
         rows: &[i8; 1024],
         used: &[usize; 16],
@@ -25,14 +26,14 @@ extern "C" {
         out_len: usize,
         answer: &mut [u64; 4],
     ) -> u64;
-    fn bankplan_test_record(
+    pub fn bankplan_test_record(
         columns: &[i8; 1024],
         rows: &[i8; 1024],
         used: &[usize; 16],
         count: usize,
         answer: &mut [u64; 4],
     ) -> u64;
-    fn bankplan_find(
+    pub fn bankplan_find(
         columns: &[i8; 1024],
         rows: &[i8; 1024],
         used: &[usize; 16],
@@ -40,7 +41,7 @@ extern "C" {
         limit: u32,
         answer: &mut [u64; 4],
     ) -> u64;
-    fn bankplan_check(
+    pub fn bankplan_check(
         columns: &[i8; 1024],
         rows: &[i8; 1024],
         used: &[usize; 16],
@@ -49,6 +50,71 @@ extern "C" {
         x2: i16,
         y1: i16,
         y2: i16,
+        answer: &mut [u64; 4],
+    ) -> u64;
+    pub fn bankplan_store(
+        a: u32,
+        b: u32,
+        d: u32,
+        w: u32,
+        h: u32,
+        mem: *mut u16,
+        words: usize,
+        i: i16,
+        j: i16,
+        x: u16,
+        answer: &mut [u64; 4],
+    ) -> u64;
+    pub fn bankplan_load(
+        a: u32,
+        b: u32,
+        d: u32,
+        w: u32,
+        h: u32,
+        mem: *const u16,
+        words: usize,
+        i: i16,
+        j: i16,
+        answer: &mut [u64; 4],
+    ) -> u64;
+    pub fn bankplan_clear(a: u32, b: u32, d: u32, w: u32, h: u32, mem: *mut u16, words: usize, k: u64, answer: &mut [u64; 4]) -> u64;
+    pub fn bankplan_sum(a: u32, b: u32, d: u32, w: u32, h: u32, mem: *const u16, words: usize, k: u64, answer: &mut [u64; 4]) -> u64;
+    pub fn bankplan_fetch(
+        columns: &[i8; 1024],
+        rows: &[i8; 1024],
+        used: &[usize; 16],
+        count: usize,
+        a: u32,
+        b: u32,
+        d: u32,
+        w: u32,
+        h: u32,
+        mem: *const u16,
+        words: usize,
+        n: usize,
+        i: i16,
+        j: i16,
+        out: *mut u16,
+        room: usize,
+        answer: &mut [u64; 4],
+    ) -> u64;
+    pub fn bankplan_ring_fetch(
+        columns: &[i8; 1024],
+        rows: &[i8; 1024],
+        used: &[usize; 16],
+        count: usize,
+        a: u32,
+        b: u32,
+        d: u32,
+        w: u32,
+        h: u32,
+        mem: *const u16,
+        words: usize,
+        n: usize,
+        i: i16,
+        j: i16,
+        out: *mut u16,
+        room: usize,
         answer: &mut [u64; 4],
     ) -> u64;
 }
@@ -136,4 +202,38 @@ pub fn find(r: &Record, limit: u32) -> Told {
 
 pub fn check(r: &Record, x: (i16, i16), y: (i16, i16)) -> Told {
     told(|t| unsafe { bankplan_check(&r.columns, &r.rows, &r.used, r.count, x.0, x.1, y.0, y.1, t) })
+}
+
+pub fn store(p: Plan, w: u32, h: u32, mem: &mut [u16], v: (i16, i16), x: u16) -> Told {
+    told(|t| unsafe { bankplan_store(p.a, p.b, p.d, w, h, mem.as_mut_ptr(), mem.len(), v.0, v.1, x, t) })
+}
+
+pub fn load(p: Plan, w: u32, h: u32, mem: &[u16], v: (i16, i16)) -> Told {
+    told(|t| unsafe { bankplan_load(p.a, p.b, p.d, w, h, mem.as_ptr(), mem.len(), v.0, v.1, t) })
+}
+
+pub fn clear(p: Plan, w: u32, h: u32, mem: &mut [u16], bank: u64) -> Told {
+    told(|t| unsafe { bankplan_clear(p.a, p.b, p.d, w, h, mem.as_mut_ptr(), mem.len(), bank, t) })
+}
+
+pub fn sum(p: Plan, w: u32, h: u32, mem: &[u16], bank: u64) -> Told {
+    told(|t| unsafe { bankplan_sum(p.a, p.b, p.d, w, h, mem.as_ptr(), mem.len(), bank, t) })
+}
+
+/// Fetches pattern n of a record, moved to o; the count of words is told.
+pub fn fetch(r: &Record, p: Plan, w: u32, h: u32, mem: &[u16], n: usize, o: (i16, i16), out: &mut [u16]) -> Told {
+    let Record { columns, rows, used, count } = r;
+    let (words, room) = (mem.len(), out.len());
+    let (mem, out) = (mem.as_ptr(), out.as_mut_ptr());
+    told(|t| unsafe { bankplan_fetch(columns, rows, used, *count, p.a, p.b, p.d, w, h, mem, words, n, o.0, o.1, out, room, t) })
+}
+
+/// The same with columns modulo W and rows modulo H.
+pub fn ring_fetch(r: &Record, p: Plan, w: u32, h: u32, mem: &[u16], n: usize, o: (i16, i16), out: &mut [u16]) -> Told {
+    let Record { columns, rows, used, count } = r;
+    let (words, room) = (mem.len(), out.len());
+    let (mem, out) = (mem.as_ptr(), out.as_mut_ptr());
+    told(|t| unsafe {
+        bankplan_ring_fetch(columns, rows, used, *count, p.a, p.b, p.d, w, h, mem, words, n, o.0, o.1, out, room, t)
+    })
 }

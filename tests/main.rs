@@ -2,9 +2,14 @@
 //! inputs, legal and damaged. Prints how many cases each subject had; a mismatch ends the run with a failure.
 
 mod books;
+mod calls;
+mod fetches;
 mod finds;
 mod library;
+mod lists;
+mod memory;
 mod oracle;
+mod pictures;
 mod plans;
 mod program;
 mod search;
@@ -63,6 +68,14 @@ impl Random {
     }
 }
 
+pub fn told(number: u64, row: &[u64]) -> library::Told {
+    library::Told { number, row: row.to_vec() }
+}
+
+pub fn wide(v: (i16, i16)) -> (i64, i64) {
+    (v.0.into(), v.1.into())
+}
+
 /// An oracle's answer as the library tells it.
 pub fn as_told<T>(answer: Result<T, oracle::Refused>, row: impl FnOnce(T) -> Vec<u64>) -> library::Told {
     match answer {
@@ -75,6 +88,7 @@ fn main() {
     let mut tallies = plans::run();
     tallies.extend(books::run());
     tallies.extend(finds::run());
+    tallies.extend(pictures::run());
     tallies.extend(program::run_all());
     let (mut cases, mut wrong) = (0, 0);
     for t in tallies {

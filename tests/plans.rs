@@ -1,21 +1,13 @@
 //! The normal form, and a plan's bank, depth, address and reverse map.
 
 use crate::library::{self, Plan, Told};
-use crate::{as_told, oracle, Random, Tally};
+use crate::{as_told, oracle, told, wide, Random, Tally};
 
 const EDGES: [i16; 10] = [-32768, -32767, -1025, -1, 0, 1, 2, 1024, 32766, 32767];
 const SIDES: [u32; 8] = [0, 1, 2, 7, 4095, 4096, 4097, u32::MAX];
 
 fn plan(a: u32, b: u32, d: u32) -> Plan {
     Plan { a, b, d }
-}
-
-fn told(number: u64, row: &[u64]) -> Told {
-    Told { number, row: row.to_vec() }
-}
-
-fn wide(v: (i16, i16)) -> (i64, i64) {
-    (v.0.into(), v.1.into())
 }
 
 // Three numbers that are a plan, of any bank count up to 1024.

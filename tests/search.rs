@@ -8,12 +8,12 @@ pub fn plan(a: i64, b: i64, d: i64) -> Plan {
 }
 
 /// "d divides j and a divides i - b × (j/d)"
-fn in_lattice(p: Plan, (i, j): (i64, i64)) -> bool {
+pub fn in_lattice(p: Plan, (i, j): (i64, i64)) -> bool {
     let (a, b, d) = (i64::from(p.a), i64::from(p.b), i64::from(p.d));
     j % d == 0 && (i - b * (j / d)) % a == 0
 }
 
-fn minus(v: (i64, i64), w: (i64, i64)) -> (i64, i64) {
+pub fn minus(v: (i64, i64), w: (i64, i64)) -> (i64, i64) {
     (v.0 - w.0, v.1 - w.1)
 }
 
@@ -22,14 +22,16 @@ pub fn suits(p: Plan, t: &Pattern) -> bool {
     t.iter().all(|&v| t.iter().all(|&w| v == w || !in_lattice(p, minus(v, w))))
 }
 
+/// "r × a + ((i - b × q) mod a)"
+pub fn bank_of(p: Plan, (i, j): (i64, i64)) -> i64 {
+    let (a, b, d) = (i64::from(p.a), i64::from(p.b), i64::from(p.d));
+    j.rem_euclid(d) * a + (i - b * j.div_euclid(d)).rem_euclid(a)
+}
+
 /// The pixels of a pattern have different banks: they are counted bank by bank.
 pub fn one_to_a_bank(p: Plan, t: &Pattern) -> bool {
-    let (a, b, d) = (i64::from(p.a), i64::from(p.b), i64::from(p.d));
     let mut taken = [false; 1024];
-    t.iter().all(|&(i, j)| {
-        let bank = j.rem_euclid(d) * a + (i - b * j.div_euclid(d)).rem_euclid(a);
-        !std::mem::replace(&mut taken[bank as usize], true)
-    })
+    t.iter().all(|&v| !std::mem::replace(&mut taken[bank_of(p, v) as usize], true))
 }
 
 // Every plan with at most `limit` banks, by N, then d, then b.

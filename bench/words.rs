@@ -1,0 +1,128 @@
+//! The calls on a picture in Rust as one would write them without proofs: the same checks, the same memory.
+
+use crate::library::{Plan, Record};
+use crate::unverified::{clash_of, test_record};
+
+/// Words in a bank, and words from one strip of rows to the next.
+struct Layout {
+    depth: usize,
+    across: usize,
+}
+
+/// 11, 12, 13.
+fn layout(p: &Plan, w: u32, h: u32, words: usize) -> Result<Layout, u64> {
+    if p.d == 0 || p.b >= p.a || u64::from(p.a) * u64::from(p.d) > 1024 {
+        return Err(11);
+    }
+    if !(1..=4096).contains(&w) || !(1..=4096).contains(&h) {
+        return Err(12);
+    }
+    let across = w.div_ceil(p.a);
+    let depth = across * h.div_ceil(p.d);
+    if words < (p.a * p.d * depth) as usize {
+        return Err(13);
+    }
+    Ok(Layout { depth: depth as usize, across: across as usize })
+}
+
+fn inside(w: u32, h: u32, i: i32, j: i32) -> bool {
+    (0..w as i32).contains(&i) && (0..h as i32).contains(&j)
+}
+
+/// The place of the word of a pixel that is inside.
+fn place(p: &Plan, l: &Layout, i: i32, j: i32) -> usize {
+    let (q, r) = (j as u32 / p.d, j as u32 % p.d);
+    let bank = r * p.a + (i - (p.b * q) as i32).rem_euclid(p.a as i32) as u32;
+    bank as usize * l.depth + q as usize * l.across + (i as u32 / p.a) as usize
+}
+
+#[inline(never)]
+pub fn store(p: &Plan, w: u32, h: u32, mem: &mut [u16], (i, j): (i16, i16), x: u16) -> Result<(), u64> {
+    let l = layout(p, w, h, mem.len())?;
+    if !inside(w, h, i.into(), j.into()) {
+        return Err(14);
+    }
+    mem[place(p, &l, i.into(), j.into())] = x;
+    Ok(())
+}
+
+#[inline(never)]
+pub fn load(p: &Plan, w: u32, h: u32, mem: &[u16], (i, j): (i16, i16)) -> Result<u16, u64> {
+    let l = layout(p, w, h, mem.len())?;
+    if !inside(w, h, i.into(), j.into()) {
+        return Err(14);
+    }
+    Ok(mem[place(p, &l, i.into(), j.into())])
+}
+
+#[inline(never)]
+pub fn clear(p: &Plan, w: u32, h: u32, mem: &mut [u16], k: u64) -> Result<(), u64> {
+    let l = layout(p, w, h, mem.len())?;
+    if k >= u64::from(p.a * p.d) {
+        return Err(15);
+    }
+    mem[k as usize * l.depth..][..l.depth].fill(0);
+    Ok(())
+}
+
+#[inline(never)]
+pub fn sum(p: &Plan, w: u32, h: u32, mem: &[u16], k: u64) -> Result<u64, u64> {
+    let l = layout(p, w, h, mem.len())?;
+    if k >= u64::from(p.a * p.d) {
+        return Err(15);
+    }
+    Ok(mem[k as usize * l.depth..][..l.depth].iter().map(|x| u64::from(*x)).sum())
+}
+
+/// 2, 3, 4, 11, 12, 13, 17, 10.
+fn start(r: &Record, p: &Plan, w: u32, h: u32, words: usize, n: usize) -> Result<Layout, u64> {
+    match test_record(r) {
+        0 => {}
+        number => return Err(number),
+    }
+    let l = layout(p, w, h, words)?;
+    if n >= r.count {
+        return Err(17);
+    }
+    match clash_of(r, p, n) {
+        None => Ok(l),
+        Some(_) => Err(10),
+    }
+}
+
+/// The pixels of pattern n, moved.
+fn moved(r: &Record, n: usize, (i, j): (i16, i16)) -> impl Iterator<Item = (i32, i32)> + '_ {
+    let (first, end) = (64 * n, 64 * n + r.used[n]);
+    let pixels = r.columns[first..end].iter().zip(&r.rows[first..end]);
+    pixels.map(move |(x, y)| (i32::from(i) + i32::from(*x), i32::from(j) + i32::from(*y)))
+}
+
+#[inline(never)]
+pub fn fetch(r: &Record, p: &Plan, w: u32, h: u32, mem: &[u16], n: usize, o: (i16, i16), out: &mut [u16]) -> Result<usize, u64> {
+    let l = start(r, p, w, h, mem.len(), n)?;
+    if !moved(r, n, o).all(|(i, j)| inside(w, h, i, j)) {
+        return Err(14);
+    }
+    if out.len() < r.used[n] {
+        return Err(16);
+    }
+    for (x, (i, j)) in out.iter_mut().zip(moved(r, n, o)) {
+        *x = mem[place(p, &l, i, j)];
+    }
+    Ok(r.used[n])
+}
+
+#[inline(never)]
+pub fn ring_fetch(r: &Record, p: &Plan, w: u32, h: u32, mem: &[u16], n: usize, o: (i16, i16), out: &mut [u16]) -> Result<usize, u64> {
+    let l = start(r, p, w, h, mem.len(), n)?;
+    if w % (p.a * p.d) != 0 || h % (p.a * p.d) != 0 {
+        return Err(18);
+    }
+    if out.len() < r.used[n] {
+        return Err(16);
+    }
+    for (x, (i, j)) in out.iter_mut().zip(moved(r, n, o)) {
+        *x = mem[place(p, &l, i.rem_euclid(w as i32), j.rem_euclid(h as i32))];
+    }
+    Ok(r.used[n])
+}

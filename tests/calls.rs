@@ -1,0 +1,163 @@
+//! A call on a picture, asked of the library and of the map of what was stored; the memory and the output lent to it are looked
+//! at word by word.
+
+use crate::library::{self, Plan, Record, Told};
+use crate::memory::{Lent, Stored};
+use crate::{oracle, Tally};
+
+#[derive(Clone, Copy, Debug, PartialEq)]
+pub enum Kind {
+    Store,
+    Load,
+    Clear,
+    Sum,
+    Fetch,
+    Ring,
+}
+
+pub const KINDS: [Kind; 6] = [Kind::Store, Kind::Load, Kind::Clear, Kind::Sum, Kind::Fetch, Kind::Ring];
+
+impl Kind {
+    /// The numbers that can refuse the call, in the order of its checks.
+    pub fn refusals(self) -> &'static [u64] {
+        match self {
+            Kind::Store | Kind::Load => &[11, 12, 13, 14],
+            Kind::Clear | Kind::Sum => &[11, 12, 13, 15],
+            Kind::Fetch => &[2, 3, 4, 11, 12, 13, 17, 10, 14, 16],
+            Kind::Ring => &[2, 3, 4, 11, 12, 13, 17, 10, 18, 16],
+        }
+    }
+
+    pub fn fetches(self) -> bool {
+        matches!(self, Kind::Fetch | Kind::Ring)
+    }
+}
+
+/// A call with what it is given, a fetch's book record apart: v is a pixel or a fetch's position, x a store's word, k a bank, n a
+/// pattern's number, room the words of an output.
+#[derive(Clone, Copy, Debug)]
+pub struct Call {
+    pub kind: Kind,
+    pub lent: Lent,
+    pub v: (i16, i16),
+    pub x: u16,
+    pub k: u64,
+    pub n: usize,
+    pub room: usize,
+}
+
+impl Call {
+    /// A call at pixel (0, 0), of bank 0 or pattern 0, with an output of 64 words.
+    pub fn new(kind: Kind, lent: Lent) -> Call {
+        Call { kind, lent, v: (0, 0), x: 1, k: 0, n: 0, room: if kind.fetches() { 64 } else { 0 } }
+    }
+}
+
+// What stands behind the banks of a memory and in an output before a call; no two neighbours are the same.
+fn guard(n: usize) -> Vec<u16> {
+    (0..n).map(|k| 0xc90f ^ (k as u16).wrapping_mul(0x1235)).collect()
+}
+
+/// Words behind the banks of each picture's memory; the last 8 of them are lent to no call.
+pub const GUARD: usize = 24;
+
+/// The first word that is not as it should be: its place, what it is, what it should be.
+pub fn first_difference(got: &[u16], wanted: &[u16]) -> Option<(usize, u16, u16)> {
+    if got == wanted {
+        return None;
+    }
+    (0..wanted.len()).find(|&k| got[k] != wanted[k]).map(|k| (k, got[k], wanted[k]))
+}
+
+// A record as its patterns, or whole where it is no book.
+fn shown(r: &Record) -> String {
+    oracle::patterns_of(r).map_or_else(|_| format!("{r:?}"), |book| format!("{book:?}"))
+}
+
+/// A picture: its memory, 0 at the start with a guard behind it, and the map of what was stored.
+pub struct Picture {
+    /// The plan and the sides, and as many words as the banks have.
+    pub lent: Lent,
+    pub memory: Vec<u16>,
+    start: Vec<u16>,
+    stored: Stored,
+    /// The number of its random list, from 1, or 0; and the calls up to now.
+    pub list: usize,
+    calls: usize,
+    /// How many loads and fetches were not refused, and how many of them met a word other than 0.
+    pub reads: u64,
+    pub met: u64,
+}
+
+impl Picture {
+    pub fn new(plan: Plan, w: u32, h: u32) -> Picture {
+        let mut lent = Lent { plan, w, h, words: 0 };
+        lent.words = lent.size();
+        let start = [vec![0; lent.words], guard(GUARD)].concat();
+        Picture { lent, memory: start.clone(), start, stored: Stored::new(lent), list: 0, calls: 0, reads: 0, met: 0 }
+    }
+
+    /// Asks the library and the map, and compares the answers, the output, and the memory, a long one only now and then. The
+    /// number is given back.
+    pub fn ask(&mut self, t: &mut Tally, book: &Record, c: &Call) -> u64 {
+        self.calls += 1;
+        let (list, calls) = (self.list, self.calls);
+        let what = || format!("list {list}, call {calls}: {c:?}, book {}", shown(book));
+        let mut out = guard(c.room + 8);
+        let mut wanted_out = out.clone();
+        let told = self.told(book, c, &mut out[..c.room]);
+        let number = told.number;
+        let wanted = match self.wanted(book, c, &mut wanted_out) {
+            Ok(row) => Told { number: 0, row },
+            Err(refused) => refused,
+        };
+        t.same(what, told, wanted);
+        if c.kind.fetches() {
+            t.same(what, first_difference(&out, &wanted_out), None);
+        }
+        // a long memory is looked at now and then
+        if self.calls % (1 + self.memory.len() / 10_000) == 0 {
+            t.same(what, self.wrong_word(), None);
+        }
+        number
+    }
+
+    fn told(&mut self, book: &Record, c: &Call, out: &mut [u16]) -> Told {
+        let Lent { plan: p, w, h, words } = c.lent;
+        let mem = &mut self.memory[..words];
+        match c.kind {
+            Kind::Store => library::store(p, w, h, mem, c.v, c.x),
+            Kind::Load => library::load(p, w, h, mem, c.v),
+            Kind::Clear => library::clear(p, w, h, mem, c.k),
+            Kind::Sum => library::sum(p, w, h, mem, c.k),
+            Kind::Fetch => library::fetch(book, p, w, h, mem, c.n, c.v, out),
+            Kind::Ring => library::ring_fetch(book, p, w, h, mem, c.n, c.v, out),
+        }
+    }
+
+    // The values that the call must tell; a fetch's words are put at the start of the output.
+    fn wanted(&mut self, book: &Record, c: &Call, out: &mut [u16]) -> Result<Vec<u64>, Told> {
+        let s = &mut self.stored;
+        let words = match c.kind {
+            Kind::Store => return s.store(&c.lent, c.v, c.x).map(|()| vec![]),
+            Kind::Clear => return s.clear(&c.lent, c.k).map(|()| vec![]),
+            Kind::Sum => return s.sum(&c.lent, c.k).map(|sum| vec![sum]),
+            Kind::Load => vec![s.load(&c.lent, c.v)?],
+            Kind::Fetch | Kind::Ring => s.fetch(book, &c.lent, c.n, c.v, c.room, c.kind == Kind::Ring)?,
+        };
+        self.reads += 1;
+        self.met += u64::from(words.iter().any(|&x| x != 0));
+        if c.kind == Kind::Load {
+            return Ok(vec![words[0].into()]);
+        }
+        out[..words.len()].copy_from_slice(&words);
+        Ok(vec![words.len() as u64])
+    }
+
+    /// The memory's first word that is not as the map has it.
+    pub fn wrong_word(&self) -> Option<(usize, u16, u16)> {
+        let mut image = self.start.clone();
+        self.stored.put_into(&mut image);
+        first_difference(&self.memory, &image)
+    }
+}
