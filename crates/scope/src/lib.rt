@@ -28,7 +28,8 @@ pub struct Clash {
     pub later: usize,
 }
 
-// A row of a record list. A call fills in the bank and the address.
+// A row of a record list, laid out as C does. A call fills in the bank and the address.
+#[repr(C)]
 pub struct PixelRecord {
     pub column: i16,
     pub row: i16,

@@ -1,0 +1,38 @@
+-- `records::is_placeable` meets its contract: a record is placeable where its pixel has an address.
+-- Assumes nothing.
+use mathlib.Core.Path.{_≡_, sym, _∙_, ap}
+use borrow.Author.Needs.{needs}
+use Rattle.scope.specs.Calls.{address, recordPixel}
+use Rattle.records.proofs.Placing.{record-pixel-handed, no-address, has-address}
+use Rattle.records.proofs.is_placeable.Statement.{statement}
+use Rattle.records.proofs.is_placeable.Tie as tie
+
+address-requires : tie.Need-address-requires
+address-requires c κs = search needs
+
+enum-told : tie.Need-enum-told
+enum-told c = search needs
+
+enum-told-2 : tie.Need-enum-told-2
+enum-told-2 c = search needs
+
+module _ (c : tie.After-address) where
+  abbrev start : tie.Start
+  start = c .before .before .before
+
+  address-given :
+      c .address .result ≡ address (start .args .p) (start .args .w) (start .args .h) (recordPixel (start .args .r))
+  address-given =
+      c .address .ensures
+      ∙ ap (address _ _ _)
+      (record-pixel-handed (start .args .r) (record { sfits = c .before .before .struct-told .given .0 .1 })
+      (record { sfits = c .before .before .struct-told .given .1 .0 .1 }))
+
+returns : tie.Need-returns
+returns c = sym (has-address _ _ _ _ (address-given (c .before .before)) (c .enum-told .given .1))
+
+returns-2 : tie.Need-returns-2
+returns-2 c = sym (no-address _ _ _ _ (address-given (c .before .before)) (c .enum-told2 .given .1))
+
+pub is-placeable-spec : {M : Type 1} → statement M
+is-placeable-spec = tie.close (tie.spec address-requires enum-told enum-told-2 returns returns-2)

@@ -1,0 +1,104 @@
+-- `records::placed` meets its contract: the bank and the address are those of the plan's methods.
+-- Assumes nothing.
+use Prim.Native.Nat.{ℕ}
+use mathlib.Core.Path.{_≡_, _∙_, ap}
+use borrow.Author.Needs.{needs}
+use mir.Syntax.{w16}
+use mir.Val.{SFits}
+use mir.Facts.{toZ-ofZ}
+use Rattle.scope.specs.Calls.{bank, address, recordPixel}
+use Rattle.scope.specs.declared.Counted.{Counted}
+use Rattle.records.proofs.Placing.{record-pixel-handed, kept, address-small, no-bank, bank-small, is-placed}
+use Rattle.records.proofs.placed.Statement.{statement}
+use Rattle.records.proofs.placed.Tie as tie
+
+address-requires : tie.Need-address-requires
+address-requires c κs = search needs
+
+enum-known-address : tie.Need-enum-known-address
+enum-known-address c = search needs
+
+enum-told : tie.Need-enum-told
+enum-told c = search needs
+
+bank-requires : tie.Need-bank-requires
+bank-requires c κs = search needs
+
+enum-known-bank : tie.Need-enum-known-bank
+enum-known-bank c = search needs
+
+enum-told-2 : tie.Need-enum-told-2
+enum-told-2 c = search needs
+
+-- the pixel's address was asked for
+module _ (c : tie.After-address) where
+  abbrev start : tie.Start
+  start = c .before .before .before
+
+  column-fits : SFits w16 (start .args .r .column)
+  column-fits = record { sfits = c .before .before .struct-told .given .0 .1 }
+
+  row-fits : SFits w16 (start .args .r .row)
+  row-fits = record { sfits = c .before .before .struct-told .given .1 .0 .1 }
+
+  address-given :
+      c .address .result ≡ address (start .args .p) (start .args .w) (start .args .h) (recordPixel (start .args .r))
+  address-given = c .address .ensures ∙ ap (address _ _ _) (record-pixel-handed (start .args .r) column-fits row-fits)
+
+-- it is u, and the bank was asked for
+module _ (c : tie.After-bank) where
+  abbrev addressed : tie.After-address
+  addressed = c .before .before .before .before
+
+  abbrev u : ℕ
+  u = c .before .before .address2 .given .0 .0
+
+  u-given : addressed .address .result ≡ Counted.Number u
+  u-given = c .before .before .address2 .given .1
+
+  bank-given : c .bank .result ≡ bank (start addressed .args .p) (recordPixel (start addressed .args .r))
+  bank-given =
+      c .bank .ensures
+      ∙ ap (bank _) (record-pixel-handed (start addressed .args .r) (column-fits addressed) (row-fits addressed))
+
+returns : tie.Need-returns
+returns c = kept _ _ _ _ (address-given (c .before .before)) (c .enum-told .given .1)
+
+returns-2 : tie.Need-returns-2
+returns-2 c =
+    let b = c .before .before in
+    absurd (no-bank _ _ _ _ (address-given (addressed b)) (u-given b) (bank-given b) (c .enum-told2 .given .1))
+
+cast-t11 : tie.Need-cast-t11
+cast-t11 c =
+    let b = c .before .before .before in
+    record {
+      fits = bank-small _ _ _ _ (address-given (addressed b)) (u-given b) (bank-given b) (c .before .bank2 .given .1);
+    }
+
+cast-t12 : tie.Need-cast-t12
+cast-t12 c =
+    let b = c .before .before .before in
+    record { fits = address-small _ _ _ _ (address-given (addressed b)) (u-given b) }
+
+returns-3 : tie.Need-returns-3
+returns-3 c =
+    let b = c .before .before .before in
+    rw (toZ-ofZ (column-fits (addressed b)), toZ-ofZ (row-fits (addressed b)))
+    (is-placed _ _ _ _ (address-given (addressed b)) (u-given b) (bank-given b) (c .before .bank2 .given .1))
+
+pub placed-spec : {M : Type 1} → statement M
+placed-spec =
+    tie.close
+    (tie.spec
+    address-requires
+    enum-known-address
+    enum-told
+    returns
+    bank-requires
+    enum-known-bank
+    enum-told-2
+    returns-2
+    cast-t11
+    cast-t12
+    returns-3)
