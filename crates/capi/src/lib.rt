@@ -1,6 +1,7 @@
 // The library for C and Rust: the calls on numbers, slices and arrays. Each answers a number, 0 where it was not refused, and
 // puts what it has to tell at the start of `answer`, the rest unchanged: its values, or the refusal's place and, of 10, the
 // clash's pattern and its earlier and later position.
+mod list;
 mod memory;
 
 use book::write_book;
