@@ -4,14 +4,15 @@
 use std::hint::black_box;
 use std::time::Instant;
 
-#[path = "../tests/library.rs"]
+#[path = "../bindings/bankplan.rs"]
 #[allow(dead_code)]
-mod library;
+mod bankplan;
 mod pictures;
 mod unverified;
 mod words;
 
-use library::{bankplan_check, bankplan_find, Plan, Record};
+use bankplan::raw::{bankplan_check, bankplan_find};
+use bankplan::{Book as Record, Plan};
 
 // A call's number and the numbers it told; those that it did not set are 0.
 type Told = (u64, [u64; 4]);

@@ -3,8 +3,8 @@
 use std::cell::RefCell;
 use std::hint::black_box;
 
-use crate::library::{bankplan_clear, bankplan_fetch, bankplan_load, bankplan_ring_fetch, bankplan_store, bankplan_sum};
-use crate::library::{Plan, Record};
+use crate::bankplan::raw::{bankplan_clear, bankplan_fetch, bankplan_load, bankplan_ring_fetch, bankplan_store, bankplan_sum};
+use crate::bankplan::{Book as Record, Plan};
 use crate::{seconds, time, words};
 
 /// A picture under a plan, with its memory.

@@ -1,6 +1,6 @@
 //! The same work in Rust as one would write it without proofs: the same checks, the same table, the same order of search.
 
-use crate::library::{Plan, Record};
+use crate::bankplan::{Book as Record, Plan};
 
 fn small(z: i8) -> bool {
     (-16..=15).contains(&z)

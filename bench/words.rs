@@ -1,6 +1,6 @@
 //! The calls on a picture in Rust as one would write them without proofs: the same checks, the same memory.
 
-use crate::library::{Plan, Record};
+use crate::bankplan::{Book as Record, Plan};
 use crate::unverified::{clash_of, test_record};
 
 /// Words in a bank, and words from one strip of rows to the next.

@@ -4,7 +4,7 @@ use crate::library::{self, Record, Told};
 use crate::{as_told, oracle, Random, Tally};
 
 // Counts near the edges, and far from them.
-const COUNTS: [usize; 8] = [0, 1, 2, 16, 17, 64, 65, usize::MAX];
+pub const COUNTS: [usize; 8] = [0, 1, 2, 16, 17, 64, 65, usize::MAX];
 
 // What stands in a record before a call; a legal book has none of it.
 fn untouched() -> Record {
@@ -12,7 +12,7 @@ fn untouched() -> Record {
 }
 
 // A random legal book, small or large.
-fn legal_book(random: &mut Random) -> Vec<oracle::Pattern> {
+pub fn legal_book(random: &mut Random) -> Vec<oracle::Pattern> {
     let (patterns, pixels) = random.one_of(&[(1, 3), (3, 5), (16, 64), (2, 64), (16, 1)]);
     let reach = random.one_of(&[2, 5, 16]);
     (0..random.from_to(1, patterns))

@@ -53,6 +53,22 @@ impl Call {
     }
 }
 
+/// How a call is made, on a record, a memory and an output.
+pub type Way = fn(&Record, &Call, &mut [u16], &mut [u16]) -> Told;
+
+/// By the library's own function.
+pub fn by_library(book: &Record, c: &Call, mem: &mut [u16], out: &mut [u16]) -> Told {
+    let Lent { plan: p, w, h, .. } = c.lent;
+    match c.kind {
+        Kind::Store => library::store(p, w, h, mem, c.v, c.x),
+        Kind::Load => library::load(p, w, h, mem, c.v),
+        Kind::Clear => library::clear(p, w, h, mem, c.k),
+        Kind::Sum => library::sum(p, w, h, mem, c.k),
+        Kind::Fetch => library::fetch(book, p, w, h, mem, c.n, c.v, out),
+        Kind::Ring => library::ring_fetch(book, p, w, h, mem, c.n, c.v, out),
+    }
+}
+
 // What stands behind the banks of a memory and in an output before a call; no two neighbours are the same.
 fn guard(n: usize) -> Vec<u16> {
     (0..n).map(|k| 0xc90f ^ (k as u16).wrapping_mul(0x1235)).collect()
@@ -84,6 +100,8 @@ pub struct Picture {
     /// The number of its random list, from 1, or 0; and the calls up to now.
     pub list: usize,
     calls: usize,
+    /// How its calls are made.
+    pub way: Way,
     /// How many loads and fetches were not refused, and how many of them met a word other than 0.
     pub reads: u64,
     pub met: u64,
@@ -94,7 +112,8 @@ impl Picture {
         let mut lent = Lent { plan, w, h, words: 0 };
         lent.words = lent.size();
         let start = [vec![0; lent.words], guard(GUARD)].concat();
-        Picture { lent, memory: start.clone(), start, stored: Stored::new(lent), list: 0, calls: 0, reads: 0, met: 0 }
+        let (memory, stored) = (start.clone(), Stored::new(lent));
+        Picture { lent, memory, start, stored, list: 0, calls: 0, way: by_library, reads: 0, met: 0 }
     }
 
     /// Asks the library and the map, and compares the answers, the output, and the memory, a long one only now and then. The
@@ -105,7 +124,7 @@ impl Picture {
         let what = || format!("list {list}, call {calls}: {c:?}, book {}", shown(book));
         let mut out = guard(c.room + 8);
         let mut wanted_out = out.clone();
-        let told = self.told(book, c, &mut out[..c.room]);
+        let told = (self.way)(book, c, &mut self.memory[..c.lent.words], &mut out[..c.room]);
         let number = told.number;
         let wanted = match self.wanted(book, c, &mut wanted_out) {
             Ok(row) => Told { number: 0, row },
@@ -120,19 +139,6 @@ impl Picture {
             t.same(what, self.wrong_word(), None);
         }
         number
-    }
-
-    fn told(&mut self, book: &Record, c: &Call, out: &mut [u16]) -> Told {
-        let Lent { plan: p, w, h, words } = c.lent;
-        let mem = &mut self.memory[..words];
-        match c.kind {
-            Kind::Store => library::store(p, w, h, mem, c.v, c.x),
-            Kind::Load => library::load(p, w, h, mem, c.v),
-            Kind::Clear => library::clear(p, w, h, mem, c.k),
-            Kind::Sum => library::sum(p, w, h, mem, c.k),
-            Kind::Fetch => library::fetch(book, p, w, h, mem, c.n, c.v, out),
-            Kind::Ring => library::ring_fetch(book, p, w, h, mem, c.n, c.v, out),
-        }
     }
 
     // The values that the call must tell; a fetch's words are put at the start of the output.

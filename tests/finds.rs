@@ -10,11 +10,11 @@ fn refused(number: u64) -> Told {
     Told { number, row: vec![0] }
 }
 
-fn planned(p: Option<Plan>) -> Told {
+pub fn planned(p: Option<Plan>) -> Told {
     p.map_or(refused(7), |p| Told { number: 0, row: vec![p.a.into(), p.b.into(), p.d.into()] })
 }
 
-fn judged(v: Result<Verdict, oracle::Refused>) -> Told {
+pub fn judged(v: Result<Verdict, oracle::Refused>) -> Told {
     match v {
         Ok(Verdict::Suits(p, s)) => Told { number: 0, row: vec![p.a.into(), p.b.into(), p.d.into(), s as u64] },
         Ok(Verdict::Clash(n, e, l)) => Told { number: 10, row: vec![0, n as u64, e as u64, l as u64] },
@@ -22,7 +22,7 @@ fn judged(v: Result<Verdict, oracle::Refused>) -> Told {
     }
 }
 
-fn banks(p: Plan) -> i64 {
+pub fn banks(p: Plan) -> i64 {
     i64::from(p.a * p.d)
 }
 
@@ -115,7 +115,7 @@ pub fn random_book(random: &mut Random, patterns: i64, pixels: i64, width: i64, 
 }
 
 // Two vectors as a supplier might send them: any small ones, or those of a plan, each with multiples of the other added.
-fn vectors(random: &mut Random, least: Plan) -> ((i16, i16), (i16, i16)) {
+pub fn vectors(random: &mut Random, least: Plan) -> ((i16, i16), (i16, i16)) {
     let (mut x, mut y) = match random.from_to(0, 3) {
         0 => {
             let mut c = || random.from_to(-9, 9);

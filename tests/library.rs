@@ -1,146 +1,17 @@
-//! The static library's functions, each behind a safe function that lends it slices and arrays. The benchmark uses the
-//! declarations too.
+//! The static library's functions, each behind a safe function that lends it slices and arrays and gives back what it told, as
+//! it stands in the answer. They are declared in bindings/bankplan.rs, whose own safe functions are tested in wrapper.rs.
 
-// A slice passes as a pointer and then a length, an array as a pointer.
-extern "C" {
-    pub fn bankplan_normal_form(x1: i16, x2: i16, y1: i16, y2: i16, answer: &mut [u64; 4]) -> u64;
-    pub fn bankplan_bank(a: u32, b: u32, d: u32, i: i16, j: i16, answer: &mut [u64; 4]) -> u64;
-    pub fn bankplan_depth(a: u32, b: u32, d: u32, w: u32, h: u32, answer: &mut [u64; 4]) -> u64;
-    pub fn bankplan_address(a: u32, b: u32, d: u32, w: u32, h: u32, i: i16, j: i16, answer: &mut [u64; 4]) -> u64;
-    pub fn bankplan_locate(a: u32, b: u32, d: u32, w: u32, h: u32, k: u64, i: u64, answer: &mut [u64; 4]) -> u64;
-    pub fn bankplan_read_book(
-        book: *const u8,
-        book_len: usize,
-        columns: &mut [i8; 1024],
-        rows: &mut [i8; 1024],
-        used: &mut [usize; 16],
-        answer: &mut [u64; 4],
-    ) -> u64;
-    pub fn bankplan_pattern_part(book: *const u8, book_len: usize, n: usize, answer: &mut [u64; 4]) -> u64;
-    pub fn bankplan_write_book(
-        columns: &[i8; 1024],
-        rows: &[i8; 1024],
-        used: &[usize; 16],
-        count: usize,
-        out: *mut u8,
-        out_len: usize,
-        answer: &mut [u64; 4],
-    ) -> u64;
-    pub fn bankplan_test_record(
-        columns: &[i8; 1024],
-        rows: &[i8; 1024],
-        used: &[usize; 16],
-        count: usize,
-        answer: &mut [u64; 4],
-    ) -> u64;
-    pub fn bankplan_find(
-        columns: &[i8; 1024],
-        rows: &[i8; 1024],
-        used: &[usize; 16],
-        count: usize,
-        limit: u32,
-        answer: &mut [u64; 4],
-    ) -> u64;
-    pub fn bankplan_check(
-        columns: &[i8; 1024],
-        rows: &[i8; 1024],
-        used: &[usize; 16],
-        count: usize,
-        x1: i16,
-        x2: i16,
-        y1: i16,
-        y2: i16,
-        answer: &mut [u64; 4],
-    ) -> u64;
-    pub fn bankplan_store(
-        a: u32,
-        b: u32,
-        d: u32,
-        w: u32,
-        h: u32,
-        mem: *mut u16,
-        words: usize,
-        i: i16,
-        j: i16,
-        x: u16,
-        answer: &mut [u64; 4],
-    ) -> u64;
-    pub fn bankplan_load(
-        a: u32,
-        b: u32,
-        d: u32,
-        w: u32,
-        h: u32,
-        mem: *const u16,
-        words: usize,
-        i: i16,
-        j: i16,
-        answer: &mut [u64; 4],
-    ) -> u64;
-    pub fn bankplan_clear(a: u32, b: u32, d: u32, w: u32, h: u32, mem: *mut u16, words: usize, k: u64, answer: &mut [u64; 4]) -> u64;
-    pub fn bankplan_sum(a: u32, b: u32, d: u32, w: u32, h: u32, mem: *const u16, words: usize, k: u64, answer: &mut [u64; 4]) -> u64;
-    pub fn bankplan_fetch(
-        columns: &[i8; 1024],
-        rows: &[i8; 1024],
-        used: &[usize; 16],
-        count: usize,
-        a: u32,
-        b: u32,
-        d: u32,
-        w: u32,
-        h: u32,
-        mem: *const u16,
-        words: usize,
-        n: usize,
-        i: i16,
-        j: i16,
-        out: *mut u16,
-        room: usize,
-        answer: &mut [u64; 4],
-    ) -> u64;
-    pub fn bankplan_ring_fetch(
-        columns: &[i8; 1024],
-        rows: &[i8; 1024],
-        used: &[usize; 16],
-        count: usize,
-        a: u32,
-        b: u32,
-        d: u32,
-        w: u32,
-        h: u32,
-        mem: *const u16,
-        words: usize,
-        n: usize,
-        i: i16,
-        j: i16,
-        out: *mut u16,
-        room: usize,
-        answer: &mut [u64; 4],
-    ) -> u64;
-}
+#[path = "../bindings/bankplan.rs"]
+pub mod bankplan;
 
-/// A plan's three numbers, legal or not.
-#[derive(Clone, Copy, Debug, PartialEq)]
-pub struct Plan {
-    pub a: u32,
-    pub b: u32,
-    pub d: u32,
-}
+use bankplan::raw::*;
+pub use bankplan::{Book as Record, Plan};
 
 /// What a call said: the number, 0 where it was not refused, and the row of numbers that it put.
 #[derive(Clone, Debug, PartialEq)]
 pub struct Told {
     pub number: u64,
     pub row: Vec<u64>,
-}
-
-/// A book record: 16 patterns of 64 columns and rows, their used counts, and the pattern count.
-#[derive(Clone, Debug, PartialEq)]
-pub struct Record {
-    pub columns: [i8; 1024],
-    pub rows: [i8; 1024],
-    pub used: [usize; 16],
-    pub count: usize,
 }
 
 // What stands in the answer before a call; no call gives it.

@@ -1,7 +1,7 @@
 //! Random lists of calls on one picture, legal and refused ones mixed, against the map of what was stored.
 
 use crate::books::{damage_record, fill_unused};
-use crate::calls::{Call, Kind, Picture, GUARD, KINDS};
+use crate::calls::{Call, Kind, Picture, Way, GUARD, KINDS};
 use crate::fetches::{found, inside};
 use crate::finds::random_book;
 use crate::library::{Plan, Record};
@@ -10,7 +10,6 @@ use crate::oracle::{self, Pattern};
 use crate::search::{bank_of, plan, suits};
 use crate::{wide, Random, Tally};
 
-const LISTS: usize = 10_000;
 const CALLS: usize = 200;
 
 fn any_book(random: &mut Random) -> Vec<Pattern> {
@@ -244,32 +243,34 @@ impl List {
 }
 
 // Each number that a call can give was given by it, and about a third of the calls were refused.
-fn reached(t: &mut Tally, numbers: &[[u64; 19]; 6]) {
+fn reached(t: &mut Tally, numbers: &[[u64; 19]; 6], lists: usize) {
     for kind in KINDS {
         for &number in [0].iter().chain(kind.refusals()) {
             t.same(|| format!("{kind:?} never gave {number}"), numbers[kind as usize][number as usize] > 0, true);
         }
     }
     let refused: u64 = numbers.iter().map(|of| of[1..].iter().sum::<u64>()).sum();
-    let share = refused * 100 / (LISTS * CALLS) as u64;
+    let share = refused * 100 / (lists * CALLS) as u64;
     t.same(|| format!("{share} of 100 calls were refused"), (25..=42).contains(&share), true);
 }
 
 // The finder's plans, suppliers' that suit, suppliers' that suit some patterns only, and odd sides: each in many lists.
-fn drawn(t: &mut Tally, counts: [usize; 4]) {
-    let least = [LISTS / 2, LISTS / 5, LISTS / 20, LISTS / 4];
+fn drawn(t: &mut Tally, counts: [usize; 4], lists: usize) {
+    let least = [2, 5, 20, 4].map(|part| lists / part);
     t.same(|| format!("plans and sides drawn: {counts:?}"), counts.iter().zip(least).all(|(n, m)| *n >= m), true);
 }
 
-pub fn lists() -> Tally {
-    let mut t = Tally::new("10,000 random lists of 200 calls on a picture");
-    let mut random = Random::new(13);
+/// So many lists of 200 calls, made in this way.
+pub fn lists(subject: &'static str, seed: u64, lists: usize, way: Way) -> Tally {
+    let mut t = Tally::new(subject);
+    let mut random = Random::new(seed);
     let mut numbers = [[0; 19]; 6];
     let (mut reads, mut met) = (0, 0);
     let mut counts = [0; 4];
-    for number in 1..=LISTS {
+    for number in 1..=lists {
         let mut list = new_list(&mut t, &mut random);
         list.picture.list = number;
+        list.picture.way = way;
         for step in 0..CALLS {
             let kind = list.kind(step, &mut random);
             let mut c = list.legal(kind, &mut random);
@@ -289,8 +290,8 @@ pub fn lists() -> Tally {
         reads += list.picture.reads;
         met += list.picture.met;
     }
-    reached(&mut t, &numbers);
-    drawn(&mut t, counts);
+    reached(&mut t, &numbers, lists);
+    drawn(&mut t, counts, lists);
     t.same(|| format!("{met} of {reads} loads and fetches met a word other than 0"), met * 2 > reads, true);
     t
 }

@@ -13,6 +13,7 @@ mod pictures;
 mod plans;
 mod program;
 mod search;
+mod wrapper;
 
 /// Cases of one subject, and the first few mismatches.
 pub struct Tally {
@@ -89,6 +90,7 @@ fn main() {
     tallies.extend(books::run());
     tallies.extend(finds::run());
     tallies.extend(pictures::run());
+    tallies.extend(wrapper::run());
     tallies.extend(program::run_all());
     let (mut cases, mut wrong) = (0, 0);
     for t in tallies {

@@ -2,7 +2,7 @@
 //! fetches.rs, the random lists are in lists.rs.
 
 use crate::books::fill_unused;
-use crate::calls::{Call, Kind, Picture, KINDS};
+use crate::calls::{by_library, Call, Kind, Picture, KINDS};
 use crate::library::{self, Plan, Record};
 use crate::memory::Lent;
 use crate::oracle::{self, Pattern};
@@ -218,6 +218,6 @@ fn longest() -> Tally {
 pub fn run() -> Vec<Tally> {
     let mut tallies = vec![figures(), order(), edges(), longest()];
     tallies.extend(fetches::run());
-    tallies.push(lists::lists());
+    tallies.push(lists::lists("10,000 random lists of 200 calls on a picture", 13, 10_000, by_library));
     tallies
 }

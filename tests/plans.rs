@@ -4,14 +4,14 @@ use crate::library::{self, Plan, Told};
 use crate::{as_told, oracle, told, wide, Random, Tally};
 
 const EDGES: [i16; 10] = [-32768, -32767, -1025, -1, 0, 1, 2, 1024, 32766, 32767];
-const SIDES: [u32; 8] = [0, 1, 2, 7, 4095, 4096, 4097, u32::MAX];
+pub const SIDES: [u32; 8] = [0, 1, 2, 7, 4095, 4096, 4097, u32::MAX];
 
 fn plan(a: u32, b: u32, d: u32) -> Plan {
     Plan { a, b, d }
 }
 
 // Three numbers that are a plan, of any bank count up to 1024.
-fn legal_plan(random: &mut Random) -> Plan {
+pub fn legal_plan(random: &mut Random) -> Plan {
     let most = random.one_of(&[1, 2, 5, 12, 32, 100, 1024]);
     let a = random.from_to(1, most);
     let d = random.from_to(1, 1024 / a);
@@ -19,12 +19,12 @@ fn legal_plan(random: &mut Random) -> Plan {
 }
 
 // Three numbers near the edges of what is a plan, and far from them.
-fn any_plan(random: &mut Random) -> Plan {
+pub fn any_plan(random: &mut Random) -> Plan {
     let numbers = [0, 1, 2, 3, 31, 32, 33, 1023, 1024, 1025, 65536, 1 << 31, u32::MAX];
     plan(random.one_of(&numbers), random.one_of(&numbers), random.one_of(&numbers))
 }
 
-fn any_coordinate(random: &mut Random) -> i16 {
+pub fn any_coordinate(random: &mut Random) -> i16 {
     match random.from_to(0, 2) {
         0 => random.one_of(&EDGES),
         1 => random.from_to(-40, 40) as i16,

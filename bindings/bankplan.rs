@@ -1,0 +1,328 @@
+//! Bank plans for image buffers: safe functions over the static library `capi`. Its functions themselves are declared in `raw`;
+//! `include/bankplan.h` says what each is given and tells, and by which numbers it refuses, and in which order.
+//!
+//! Any numbers, bytes and records can be handed in: each call tests them itself, answers by `Refused` where document 01 turns it
+//! down, and then leaves what it was lent as it was. No function here panics.
+
+use std::fmt;
+
+// A count, a place or a length passes as 64 bits.
+const _: () = assert!(usize::BITS == 64);
+
+/// The library's functions. A slice passes as a pointer and then its length, an array as a pointer.
+#[rustfmt::skip]
+pub mod raw {
+    unsafe extern "C" {
+        pub fn bankplan_normal_form(x1: i16, x2: i16, y1: i16, y2: i16, answer: &mut [u64; 4]) -> u64;
+        pub fn bankplan_bank(a: u32, b: u32, d: u32, i: i16, j: i16, answer: &mut [u64; 4]) -> u64;
+        pub fn bankplan_depth(a: u32, b: u32, d: u32, w: u32, h: u32, answer: &mut [u64; 4]) -> u64;
+        pub fn bankplan_address(a: u32, b: u32, d: u32, w: u32, h: u32, i: i16, j: i16, answer: &mut [u64; 4]) -> u64;
+        pub fn bankplan_locate(a: u32, b: u32, d: u32, w: u32, h: u32, k: u64, i: u64, answer: &mut [u64; 4]) -> u64;
+        pub fn bankplan_read_book(
+            s: *const u8, s_length: usize,
+            columns: &mut [i8; 1024], rows: &mut [i8; 1024], used: &mut [usize; 16], answer: &mut [u64; 4],
+        ) -> u64;
+        pub fn bankplan_pattern_part(s: *const u8, s_length: usize, n: usize, answer: &mut [u64; 4]) -> u64;
+        pub fn bankplan_write_book(
+            columns: &[i8; 1024], rows: &[i8; 1024], used: &[usize; 16], count: usize,
+            out: *mut u8, out_length: usize, answer: &mut [u64; 4],
+        ) -> u64;
+        pub fn bankplan_test_record(
+            columns: &[i8; 1024], rows: &[i8; 1024], used: &[usize; 16], count: usize, answer: &mut [u64; 4],
+        ) -> u64;
+        pub fn bankplan_find(
+            columns: &[i8; 1024], rows: &[i8; 1024], used: &[usize; 16], count: usize, limit: u32, answer: &mut [u64; 4],
+        ) -> u64;
+        pub fn bankplan_check(
+            columns: &[i8; 1024], rows: &[i8; 1024], used: &[usize; 16], count: usize,
+            x1: i16, x2: i16, y1: i16, y2: i16, answer: &mut [u64; 4],
+        ) -> u64;
+        pub fn bankplan_store(
+            a: u32, b: u32, d: u32, w: u32, h: u32, mem: *mut u16, mem_length: usize,
+            i: i16, j: i16, x: u16, answer: &mut [u64; 4],
+        ) -> u64;
+        pub fn bankplan_load(
+            a: u32, b: u32, d: u32, w: u32, h: u32, mem: *const u16, mem_length: usize,
+            i: i16, j: i16, answer: &mut [u64; 4],
+        ) -> u64;
+        pub fn bankplan_clear(
+            a: u32, b: u32, d: u32, w: u32, h: u32, mem: *mut u16, mem_length: usize, k: u64, answer: &mut [u64; 4],
+        ) -> u64;
+        pub fn bankplan_sum(
+            a: u32, b: u32, d: u32, w: u32, h: u32, mem: *const u16, mem_length: usize, k: u64, answer: &mut [u64; 4],
+        ) -> u64;
+        pub fn bankplan_fetch(
+            columns: &[i8; 1024], rows: &[i8; 1024], used: &[usize; 16], count: usize,
+            a: u32, b: u32, d: u32, w: u32, h: u32, mem: *const u16, mem_length: usize,
+            n: usize, i: i16, j: i16, out: *mut u16, out_length: usize, answer: &mut [u64; 4],
+        ) -> u64;
+        pub fn bankplan_ring_fetch(
+            columns: &[i8; 1024], rows: &[i8; 1024], used: &[usize; 16], count: usize,
+            a: u32, b: u32, d: u32, w: u32, h: u32, mem: *const u16, mem_length: usize,
+            n: usize, i: i16, j: i16, out: *mut u16, out_length: usize, answer: &mut [u64; 4],
+        ) -> u64;
+    }
+}
+
+/// A plan. Any three numbers can stand here; a call refuses by 11 those that are no plan.
+#[derive(Clone, Copy, Debug, PartialEq, Eq)]
+pub struct Plan {
+    pub a: u32,
+    pub b: u32,
+    pub d: u32,
+}
+
+/// A plan and how many banks it has above the least count.
+#[derive(Clone, Copy, Debug, PartialEq, Eq)]
+pub struct Checked {
+    pub plan: Plan,
+    pub surplus: u32,
+}
+
+/// Two pixels of one pattern in one bank: the pattern's number and the positions of both, counted from 0.
+#[derive(Clone, Copy, Debug, PartialEq, Eq)]
+pub struct Clash {
+    pub pattern: usize,
+    pub earlier: usize,
+    pub later: usize,
+}
+
+/// A book record. Pattern n has the entries 64 × n to 64 × n + 63 of columns and rows, of which the first used[n] count; of the
+/// patterns the first `count` count. Any numbers can stand here; a call refuses by 2, 3, 4 those that are no book.
+#[derive(Clone, Debug, PartialEq, Eq)]
+pub struct Book {
+    pub columns: [i8; 1024],
+    pub rows: [i8; 1024],
+    pub used: [usize; 16],
+    pub count: usize,
+}
+
+/// A picture's plan and sides; its memory is lent to each call. Sides that are not 1 to 4096 are refused by 12.
+#[derive(Clone, Copy, Debug, PartialEq, Eq)]
+pub struct Picture {
+    pub plan: Plan,
+    pub width: u32,
+    pub height: u32,
+}
+
+/// A call turned down: document 01's number, 1 to 18; the place, a byte offset for 1 to 5 where the call was given bytes, else
+/// 0; and the clash of 10.
+#[derive(Clone, Copy, Debug, PartialEq, Eq)]
+pub struct Refused {
+    pub number: u64,
+    pub place: usize,
+    pub clash: Option<Clash>,
+}
+
+/// Document 01's conditions, from 1 to 18.
+pub const CONDITIONS: [&str; 18] = [
+    "book ends early",
+    "pattern count not 1-16 or pixel count not 1-64",
+    "coordinate not -16..15",
+    "pixel already in this pattern",
+    "bytes after the last pattern",
+    "limit not 1-1024",
+    "no suiting plan within limit",
+    "determinant 0",
+    "determinant's size above 1024",
+    "plan doesn't suit",
+    "not a plan as defined",
+    "W or H not 1-4096",
+    "memory shorter than N × depth",
+    "pixel outside the picture",
+    "bank ≥ N, address ≥ depth, or their pixel outside",
+    "output too short",
+    "pattern number not in the book",
+    "ring sides not multiples of N",
+];
+
+impl Refused {
+    /// The condition that turned the call down.
+    pub fn condition(&self) -> &'static str {
+        let known = (self.number as usize).checked_sub(1).and_then(|k| CONDITIONS.get(k));
+        known.copied().unwrap_or("no number of document 01")
+    }
+}
+
+impl fmt::Display for Refused {
+    fn fmt(&self, f: &mut fmt::Formatter) -> fmt::Result {
+        write!(f, "refused {}: {}", self.number, self.condition())?;
+        match self.clash {
+            Some(c) => write!(f, ", pattern {}, positions {} and {}", c.pattern, c.earlier, c.later),
+            None if self.number <= 5 => write!(f, ", place {}", self.place),
+            None => Ok(()),
+        }
+    }
+}
+
+impl std::error::Error for Refused {}
+
+// Why each call below is sound: the function takes every value. References and slices are not null, aligned, and as long as
+// they say, and what is lent for writing overlaps nothing else that is lent.
+
+// Calls, and gives the values told or the refusal.
+fn told(call: impl FnOnce(&mut [u64; 4]) -> u64) -> Result<[u64; 4], Refused> {
+    let mut answer = [0; 4];
+    let number = call(&mut answer);
+    let [place, pattern, earlier, later] = answer.map(|x| x as usize);
+    match number {
+        0 => Ok(answer),
+        10 => Err(Refused { number, place, clash: Some(Clash { pattern, earlier, later }) }),
+        _ => Err(Refused { number, place, clash: None }),
+    }
+}
+
+fn plan_of(answer: [u64; 4]) -> Plan {
+    let [a, b, d, _] = answer.map(|x| x as u32);
+    Plan { a, b, d }
+}
+
+/// The book of these bytes; unused entries are 0. Refused by 1 to 5.
+pub fn read_book(bytes: &[u8]) -> Result<Book, Refused> {
+    let mut book = Book { columns: [0; 1024], rows: [0; 1024], used: [0; 16], count: 0 };
+    let Book { columns, rows, used, .. } = &mut book;
+    let answer = told(|t| unsafe { raw::bankplan_read_book(bytes.as_ptr(), bytes.len(), columns, rows, used, t) })?;
+    book.count = answer[0] as usize;
+    Ok(book)
+}
+
+/// The pixel bytes of pattern n, where they stand in the bytes of a book. Refused by 1 to 5 and 17.
+pub fn pattern_part(bytes: &[u8], n: usize) -> Result<&[u8], Refused> {
+    let [place, length, ..] = told(|t| unsafe { raw::bankplan_pattern_part(bytes.as_ptr(), bytes.len(), n, t) })?;
+    let part = bytes.get(place as usize..).and_then(|rest| rest.get(..length as usize));
+    Ok(part.unwrap_or_default())
+}
+
+/// The plan of the lattice of two vectors. Refused by 8 and 9.
+pub fn normal_form(x: (i16, i16), y: (i16, i16)) -> Result<Plan, Refused> {
+    told(|t| unsafe { raw::bankplan_normal_form(x.0, x.1, y.0, y.1, t) }).map(plan_of)
+}
+
+impl Plan {
+    /// The bank count N = a × d.
+    pub fn banks(self) -> u64 {
+        u64::from(self.a) * u64::from(self.d)
+    }
+
+    /// The bank of a pixel, inside a picture or not. Refused by 11.
+    pub fn bank(self, (i, j): (i16, i16)) -> Result<u64, Refused> {
+        told(|t| unsafe { raw::bankplan_bank(self.a, self.b, self.d, i, j, t) }).map(|r| r[0])
+    }
+}
+
+impl Book {
+    /// The book of patterns given by their pixels, column and row. Refused by 2, 3, 4.
+    pub fn new<P: AsRef<[(i8, i8)]>>(patterns: &[P]) -> Result<Book, Refused> {
+        let mut book = Book { columns: [0; 1024], rows: [0; 1024], used: [0; 16], count: patterns.len() };
+        for (n, pattern) in patterns.iter().take(16).enumerate() {
+            let pixels = pattern.as_ref();
+            book.used[n] = pixels.len();
+            for (e, &(column, row)) in pixels.iter().take(64).enumerate() {
+                book.columns[64 * n + e] = column;
+                book.rows[64 * n + e] = row;
+            }
+        }
+        // what does not fit is refused by its count
+        book.test().map(|()| book)
+    }
+
+    /// The pixels of pattern n. None where n is not below the pattern count and 16, or its count is above 64.
+    pub fn pattern(&self, n: usize) -> Option<impl Iterator<Item = (i8, i8)> + '_> {
+        let used = self.used.get(n).copied().filter(|&used| n < self.count && used <= 64)?;
+        let entries = 64 * n..64 * n + used;
+        Some(entries.map(|e| (self.columns[e], self.rows[e])))
+    }
+
+    /// Whether the record is a book. Refused by 2, 3, 4.
+    pub fn test(&self) -> Result<(), Refused> {
+        told(|t| unsafe { raw::bankplan_test_record(&self.columns, &self.rows, &self.used, self.count, t) }).map(|_| ())
+    }
+
+    /// Puts the book's bytes at the start of the output, and gives their count. Refused by 2, 3, 4, 16.
+    pub fn write(&self, out: &mut [u8]) -> Result<usize, Refused> {
+        let Book { columns, rows, used, count } = self;
+        let (out, length) = (out.as_mut_ptr(), out.len());
+        told(|t| unsafe { raw::bankplan_write_book(columns, rows, used, *count, out, length, t) }).map(|r| r[0] as usize)
+    }
+
+    /// The plan with the fewest banks within the limit. Refused by 2, 3, 4, 6, 7.
+    pub fn find(&self, limit: u32) -> Result<Plan, Refused> {
+        told(|t| unsafe { raw::bankplan_find(&self.columns, &self.rows, &self.used, self.count, limit, t) }).map(plan_of)
+    }
+
+    /// The verdict on a supplier's two vectors: their plan and its surplus. Refused by 2, 3, 4, 8, 9, and by 10 with a clash.
+    pub fn check(&self, x: (i16, i16), y: (i16, i16)) -> Result<Checked, Refused> {
+        let Book { columns, rows, used, count } = self;
+        let answer = told(|t| unsafe { raw::bankplan_check(columns, rows, used, *count, x.0, x.1, y.0, y.1, t) })?;
+        Ok(Checked { plan: plan_of(answer), surplus: answer[3] as u32 })
+    }
+}
+
+impl Picture {
+    /// The words of one bank; the memory needs N × depth. Refused by 11, 12.
+    pub fn depth(self) -> Result<u64, Refused> {
+        let Picture { plan: p, width: w, height: h } = self;
+        told(|t| unsafe { raw::bankplan_depth(p.a, p.b, p.d, w, h, t) }).map(|r| r[0])
+    }
+
+    /// The address of a pixel in its bank. Refused by 11, 12, 14.
+    pub fn address(self, (i, j): (i16, i16)) -> Result<u64, Refused> {
+        let Picture { plan: p, width: w, height: h } = self;
+        told(|t| unsafe { raw::bankplan_address(p.a, p.b, p.d, w, h, i, j, t) }).map(|r| r[0])
+    }
+
+    /// The pixel of a bank and an address. Refused by 11, 12, 15.
+    pub fn locate(self, bank: u64, address: u64) -> Result<(i16, i16), Refused> {
+        let Picture { plan: p, width: w, height: h } = self;
+        told(|t| unsafe { raw::bankplan_locate(p.a, p.b, p.d, w, h, bank, address, t) }).map(|r| (r[0] as i16, r[1] as i16))
+    }
+
+    /// Stores a word at a pixel. Refused by 11, 12, 13, 14.
+    pub fn store(self, mem: &mut [u16], (i, j): (i16, i16), word: u16) -> Result<(), Refused> {
+        let Picture { plan: p, width: w, height: h } = self;
+        let (mem, length) = (mem.as_mut_ptr(), mem.len());
+        told(|t| unsafe { raw::bankplan_store(p.a, p.b, p.d, w, h, mem, length, i, j, word, t) }).map(|_| ())
+    }
+
+    /// The word at a pixel. Refused by 11, 12, 13, 14.
+    pub fn load(self, mem: &[u16], (i, j): (i16, i16)) -> Result<u16, Refused> {
+        let Picture { plan: p, width: w, height: h } = self;
+        told(|t| unsafe { raw::bankplan_load(p.a, p.b, p.d, w, h, mem.as_ptr(), mem.len(), i, j, t) }).map(|r| r[0] as u16)
+    }
+
+    /// Puts 0 in every word of a bank. Refused by 11, 12, 13, 15.
+    pub fn clear(self, mem: &mut [u16], bank: u64) -> Result<(), Refused> {
+        let Picture { plan: p, width: w, height: h } = self;
+        let (mem, length) = (mem.as_mut_ptr(), mem.len());
+        told(|t| unsafe { raw::bankplan_clear(p.a, p.b, p.d, w, h, mem, length, bank, t) }).map(|_| ())
+    }
+
+    /// The sum of a bank's words. Refused by 11, 12, 13, 15.
+    pub fn sum(self, mem: &[u16], bank: u64) -> Result<u64, Refused> {
+        let Picture { plan: p, width: w, height: h } = self;
+        told(|t| unsafe { raw::bankplan_sum(p.a, p.b, p.d, w, h, mem.as_ptr(), mem.len(), bank, t) }).map(|r| r[0])
+    }
+
+    /// Puts the words of pattern n, moved to (i, j), at the start of the output in the book's pixel order, and gives their
+    /// count. Refused by 2, 3, 4, 11, 12, 13, 17, 10, 14, 16.
+    pub fn fetch(self, book: &Book, mem: &[u16], n: usize, (i, j): (i16, i16), out: &mut [u16]) -> Result<usize, Refused> {
+        let Picture { plan: Plan { a, b, d }, width: w, height: h } = self;
+        let Book { columns, rows, used, count } = book;
+        let (words, mem, room, out) = (mem.len(), mem.as_ptr(), out.len(), out.as_mut_ptr());
+        let call = |t: &mut _| unsafe {
+            raw::bankplan_fetch(columns, rows, used, *count, a, b, d, w, h, mem, words, n, i, j, out, room, t)
+        };
+        told(call).map(|r| r[0] as usize)
+    }
+
+    /// The same with columns modulo the width and rows modulo the height. Refused by 2, 3, 4, 11, 12, 13, 17, 10, 18, 16.
+    pub fn ring_fetch(self, book: &Book, mem: &[u16], n: usize, (i, j): (i16, i16), out: &mut [u16]) -> Result<usize, Refused> {
+        let Picture { plan: Plan { a, b, d }, width: w, height: h } = self;
+        let Book { columns, rows, used, count } = book;
+        let (words, mem, room, out) = (mem.len(), mem.as_ptr(), out.len(), out.as_mut_ptr());
+        let call = |t: &mut _| unsafe {
+            raw::bankplan_ring_fetch(columns, rows, used, *count, a, b, d, w, h, mem, words, n, i, j, out, room, t)
+        };
+        told(call).map(|r| r[0] as usize)
+    }
+}

@@ -1,0 +1,258 @@
+//! The safe functions of bindings/bankplan.rs against the brute force, on legal inputs and refused ones. What a function gives is
+//! put as number and row, as the library tells it. The calls on a memory go through lists.rs.
+
+use crate::books::{bytes_of, damage, damaged_record, legal_book, legal_record};
+use crate::calls::{Call, Kind};
+use crate::finds::{banks, judged, planned, random_book, vectors};
+use crate::library::bankplan::{self, Book, Clash, Picture, Plan, Refused};
+use crate::library::Told;
+use crate::oracle::{self, Pattern};
+use crate::plans::{any_coordinate, any_plan, legal_plan, SIDES};
+use crate::search::{self, first_plan, suits};
+use crate::{as_told, lists, wide, Random, Tally};
+use std::collections::HashMap;
+
+// Each function, and the numbers that can refuse it.
+const FUNCTIONS: [(&str, &[u64]); 12] = [
+    ("read_book", &[1, 2, 3, 4, 5]),
+    ("pattern_part", &[1, 2, 3, 4, 5, 17]),
+    ("Book::new", &[2, 3, 4]),
+    ("Book::test", &[2, 3, 4]),
+    ("Book::write", &[2, 3, 4, 16]),
+    ("Book::find", &[2, 3, 4, 6, 7]),
+    ("Book::check", &[2, 3, 4, 8, 9, 10]),
+    ("normal_form", &[8, 9]),
+    ("Plan::bank", &[11]),
+    ("Picture::depth", &[11, 12]),
+    ("Picture::address", &[11, 12, 14]),
+    ("Picture::locate", &[11, 12, 15]),
+];
+
+/// What a safe function gave, as the library tells it.
+pub fn told<T>(answer: Result<T, Refused>, row: impl FnOnce(T) -> Vec<u64>) -> Told {
+    match answer {
+        Ok(x) => Told { number: 0, row: row(x) },
+        Err(Refused { number, place, clash }) => {
+            let clash = clash.map_or(vec![], |c: Clash| vec![c.pattern as u64, c.earlier as u64, c.later as u64]);
+            Told { number, row: [vec![place as u64], clash].concat() }
+        }
+    }
+}
+
+fn plan_row(p: Plan) -> Vec<u64> {
+    vec![p.a.into(), p.b.into(), p.d.into()]
+}
+
+// The cases, and how often each function gave each number.
+struct Asked {
+    tally: Tally,
+    gave: HashMap<&'static str, [u64; 19]>,
+}
+
+impl Asked {
+    fn same(&mut self, function: &'static str, what: impl Fn() -> String, got: Told, wanted: Told) {
+        self.gave.entry(function).or_insert([0; 19])[got.number.min(18) as usize] += 1;
+        self.tally.same(|| format!("{function}, {}", what()), got, wanted);
+    }
+
+    // Every function gave a value, and each number that can refuse it.
+    fn reached(&mut self) {
+        for (function, refusals) in FUNCTIONS {
+            let gave = self.gave.get(function).copied().unwrap_or([0; 19]);
+            let numbers: Vec<u64> = (0..19).filter(|&n| gave[n as usize] > 0).collect();
+            let wanted: Vec<u64> = [&[0], refusals].concat();
+            self.tally.same(|| format!("the numbers that {function} gave"), numbers, wanted);
+        }
+    }
+}
+
+// ---- bytes and records
+
+fn ask_bytes(a: &mut Asked, bytes: &[u8]) {
+    let what = || format!("{bytes:02x?}");
+    let answer = oracle::read(bytes);
+    let got = bankplan::read_book(bytes);
+    if let (Ok(book), Ok(patterns)) = (&got, &answer) {
+        a.tally.same(what, book, &oracle::record_of(patterns));
+    }
+    a.same("read_book", what, told(got, |book| vec![book.count as u64]), as_told(answer.clone(), |book| vec![book.len() as u64]));
+    let count = answer.map_or(1, |book| book.len());
+    for n in [0, count - 1, count, usize::MAX] {
+        // a part of these bytes, where it stands
+        let place = |part: &[u8]| vec![(part.as_ptr() as usize - bytes.as_ptr() as usize) as u64, part.len() as u64];
+        let wanted = as_told(oracle::part(bytes, n), |(place, length)| vec![place as u64, length as u64]);
+        a.same("pattern_part", what, told(bankplan::pattern_part(bytes, n), place), wanted);
+    }
+}
+
+fn ask_record(a: &mut Asked, r: &Book) {
+    let what = || format!("{r:?}");
+    a.same("Book::test", what, told(r.test(), |()| vec![]), as_told(oracle::patterns_of(r), |_| vec![]));
+    let size = oracle::write(r, usize::MAX).map_or(9, |bytes| bytes.len());
+    for room in [size + 3, size, size - 1, 0] {
+        let (mut out, mut wanted) = (vec![0xc9; room], vec![0xc9; room]);
+        let answer = oracle::write(r, room);
+        if let Ok(bytes) = &answer {
+            wanted[..bytes.len()].copy_from_slice(bytes);
+        }
+        let got = told(r.write(&mut out), |n| vec![n as u64]);
+        a.same("Book::write", what, got, as_told(answer, |bytes| vec![bytes.len() as u64]));
+        a.tally.same(what, out, wanted);
+    }
+    // the pixels of each pattern; none past the count, and none of a count above 64
+    for n in [0, 1, 2, 7, 15, 16, usize::MAX] {
+        let has = n < 16 && n < r.count && r.used[n] <= 64;
+        let wanted = has.then(|| (0..r.used[n]).map(|e| (r.columns[64 * n + e], r.rows[64 * n + e])).collect::<Vec<_>>());
+        a.tally.same(|| format!("pattern {n} of {r:?}"), r.pattern(n).map(Iterator::collect), wanted);
+    }
+}
+
+// Patterns that may be too many or too long for a record, and pixels that may be wrong; their bytes tell what is.
+fn ask_new(a: &mut Asked, random: &mut Random) {
+    let mut patterns: Vec<Pattern> = legal_book(random);
+    let n = random.from_to(0, patterns.len() as i64 - 1) as usize;
+    match random.from_to(0, 7) {
+        0 => patterns.clear(),
+        1 => patterns.resize(random.one_of(&[16, 17, 200]), vec![(0, 0)]),
+        2 => patterns[n].clear(),
+        3 => patterns[n] = (0..random.one_of(&[64, 65, 255])).map(|k| (k % 16, k / 16)).collect(),
+        4 => patterns[n].push((random.from_to(-17, 16), random.one_of(&[-128, -17, -16, 15, 16, 127]))),
+        5 => patterns[n].push(random.one_of(&[(-17, 0), (16, 0), (0, -17), (0, 16)])),
+        6 => {
+            let first = patterns[n][0];
+            patterns[n].push(first);
+        }
+        _ => {}
+    }
+    let mut bytes = vec![patterns.len() as u8];
+    for t in &patterns {
+        bytes.push(t.len() as u8);
+        bytes.extend(t.iter().flat_map(|v| [v.0 as u8, v.1 as u8]));
+    }
+    let small: Vec<Vec<(i8, i8)>> = patterns.iter().map(|t| t.iter().map(|v| (v.0 as i8, v.1 as i8)).collect()).collect();
+    let (got, wanted) = (Book::new(&small), oracle::read(&bytes).map_err(|(number, _)| (number, 0)));
+    let what = || format!("{patterns:?}");
+    if let Ok(book) = &got {
+        a.tally.same(what, book, &oracle::record_of(&patterns));
+    }
+    a.same("Book::new", what, told(got, |book| vec![book.count as u64]), as_told(wanted, |book| vec![book.len() as u64]));
+}
+
+fn books(a: &mut Asked) {
+    let mut random = Random::new(21);
+    ask_bytes(a, &[]);
+    for _ in 0..500 {
+        let mut bytes = bytes_of(&legal_book(&mut random));
+        ask_bytes(a, &bytes);
+        damage(&mut bytes, &mut random);
+        ask_bytes(a, &bytes);
+        ask_record(a, &legal_record(&mut random));
+        ask_record(a, &damaged_record(&mut random));
+        ask_new(a, &mut random);
+    }
+}
+
+// ---- finder, check, plans
+
+fn finds(a: &mut Asked) {
+    let mut random = Random::new(22);
+    for round in 0..500 {
+        let book = random_book(&mut random, 4, 7, 5, 4);
+        let least = first_plan(&book, 1024, suits).expect("limit 1024 is always enough");
+        let mut r = oracle::record_of(&book);
+        let what = || format!("{book:?}");
+        for limit in [1024, banks(least), banks(least) - 1, 1025] {
+            let found = planned(Some(least).filter(|p| banks(*p) <= limit));
+            let wanted = if (1..=1024).contains(&limit) { found } else { Told { number: 6, row: vec![0] } };
+            a.same("Book::find", what, told(r.find(limit as u32), plan_row), wanted);
+        }
+        let checked = |c: bankplan::Checked| [plan_row(c.plan), vec![c.surplus.into()]].concat();
+        for _ in 0..4 {
+            let (x, y) = vectors(&mut random, least);
+            let wanted = judged(search::check(&book, banks(least), wide(x), wide(y)));
+            a.same("Book::check", || format!("{book:?} {x:?} {y:?}"), told(r.check(x, y), checked), wanted);
+            let wanted = as_told(oracle::normal_form(wide(x), wide(y)), plan_row);
+            a.same("normal_form", || format!("{x:?} {y:?}"), told(bankplan::normal_form(x, y), plan_row), wanted);
+        }
+        let (x, y) = random.one_of(&[((2, 1), (4, 2)), ((32, 0), (0, 33)), ((-5, 0), (3, -1))]);
+        let wanted = as_told(oracle::normal_form(wide(x), wide(y)), plan_row);
+        a.same("normal_form", || format!("{x:?} {y:?}"), told(bankplan::normal_form(x, y), plan_row), wanted);
+        // a record that is no book
+        match round % 3 {
+            0 => r.used[0] = random.one_of(&[0, 65]),
+            1 => r.rows[0] = random.one_of(&[-17, 16]),
+            _ => (r.used[0], r.columns[1], r.rows[1]) = (2, r.columns[0], r.rows[0]),
+        }
+        let wanted = as_told(oracle::patterns_of(&r), |_| vec![]);
+        a.same("Book::find", what, told(r.find(1024), plan_row), wanted.clone());
+        a.same("Book::check", what, told(r.check((1, 0), (0, 1)), checked), wanted);
+    }
+}
+
+fn plans(a: &mut Asked) {
+    let mut random = Random::new(23);
+    for round in 0..1_500 {
+        let plan = if round % 5 == 0 { any_plan(&mut random) } else { legal_plan(&mut random) };
+        let mut side = || if random.from_to(0, 7) == 0 { random.one_of(&SIDES) } else { random.from_to(1, 40) as u32 };
+        let p = Picture { plan, width: side(), height: side() };
+        let mut along = || if random.from_to(0, 3) == 0 { any_coordinate(&mut random) } else { random.from_to(-2, 41) as i16 };
+        let v = (along(), along());
+        let what = || format!("{p:?} {v:?}");
+        let number = |n: i64| vec![n as u64];
+        a.tally.same(what, plan.banks(), u64::from(plan.a) * u64::from(plan.d));
+        a.same("Plan::bank", what, told(plan.bank(v), |n| vec![n]), as_told(oracle::bank(plan, wide(v)), number));
+        a.same("Picture::depth", what, told(p.depth(), |n| vec![n]), as_told(oracle::depth(plan, p.width, p.height), number));
+        let wanted = oracle::address(plan, p.width, p.height, wide(v));
+        a.same("Picture::address", what, told(p.address(v), |n| vec![n]), as_told(wanted, number));
+        if p.width > 100 || p.height > 100 {
+            continue;
+        }
+        // a pixel's own bank and address, and any
+        let own = (oracle::bank(plan, wide(v)).unwrap_or(0) as u64, wanted.unwrap_or(0) as u64);
+        for (k, i) in [own, (own.1, own.0), (random.one_of(&[0, 1, plan.banks()]), random.one_of(&[0, 1, 1 << 32]))] {
+            let wanted = as_told(oracle::locate(plan, p.width, p.height, k, i), |v| vec![v.0 as u64, v.1 as u64]);
+            let got = told(p.locate(k, i), |v| vec![v.0 as u64, v.1 as u64]);
+            a.same("Picture::locate", || format!("{p:?}, bank {k}, address {i}"), got, wanted);
+        }
+    }
+}
+
+// ---- the calls on a memory, and the text of a refusal
+
+fn by_wrapper(book: &Book, c: &Call, mem: &mut [u16], out: &mut [u16]) -> Told {
+    let p = Picture { plan: c.lent.plan, width: c.lent.w, height: c.lent.h };
+    match c.kind {
+        Kind::Store => told(p.store(mem, c.v, c.x), |()| vec![]),
+        Kind::Load => told(p.load(mem, c.v), |word| vec![word.into()]),
+        Kind::Clear => told(p.clear(mem, c.k), |()| vec![]),
+        Kind::Sum => told(p.sum(mem, c.k), |sum| vec![sum]),
+        Kind::Fetch => told(p.fetch(book, mem, c.n, c.v, out), |words| vec![words as u64]),
+        Kind::Ring => told(p.ring_fetch(book, mem, c.n, c.v, out), |words| vec![words as u64]),
+    }
+}
+
+fn texts(t: &mut Tally) {
+    let mut says = |answer: Result<(), Refused>, wanted: &str| {
+        t.same(|| wanted.into(), answer.map_or_else(|r| r.to_string(), |()| String::new()), wanted.into());
+    };
+    let pair = Book::new(&[[(0, 0), (1, 0)]]).unwrap();
+    let picture = Picture { plan: pair.find(1024).unwrap(), width: 7, height: 4 };
+    says(bankplan::read_book(&[1, 1, 16, 0]).map(|_| ()), "refused 3: coordinate not -16..15, place 2");
+    says(pair.find(1).map(|_| ()), "refused 7: no suiting plan within limit");
+    says(pair.check((1, 0), (0, 1)).map(|_| ()), "refused 10: plan doesn't suit, pattern 0, positions 0 and 1");
+    says(picture.store(&mut [], (0, 0), 1), "refused 13: memory shorter than N × depth");
+    says(picture.fetch(&pair, &[0; 32], 0, (0, 0), &mut []).map(|_| ()), "refused 16: output too short");
+    for number in [0, 19, u64::MAX] {
+        t.same(|| number.to_string(), Refused { number, place: 0, clash: None }.condition(), "no number of document 01");
+    }
+}
+
+pub fn run() -> Vec<Tally> {
+    let mut a = Asked { tally: Tally::new("the wrapper: books, finder, check, plans"), gave: HashMap::new() };
+    books(&mut a);
+    finds(&mut a);
+    plans(&mut a);
+    a.reached();
+    texts(&mut a.tally);
+    vec![a.tally, lists::lists("the wrapper: 300 random lists of 200 calls on a picture", 24, 300, by_wrapper)]
+}
