@@ -1,0 +1,88 @@
+/*
+ * A camera's buffer, from C: a filter of five pixels in a cross, the plan with the fewest banks for it, a picture of 7 by 4 under
+ * that plan, and what suppliers and wrong positions get. camera.rs does the same in Rust.
+ *
+ *   cc -std=c11 -o camera examples/camera.c target/staticlib/libcapi.a
+ */
+#include <stdio.h>
+#include <stdlib.h>
+
+#include "../include/bankplan.h"
+
+enum { WIDTH = 7, HEIGHT = 4 };
+
+/* Says what turned a call down; the number is handed on. */
+static uint64_t said(const char *call, uint64_t number, const uint64_t answer[4]) {
+    if (number == BANKPLAN_UNSUITED)
+        printf("%s: refused %d, pixels %d and %d of pattern %d share a bank\n", call, (int)number, (int)answer[2],
+               (int)answer[3], (int)answer[1]);
+    else if (number != 0)
+        printf("%s: refused %d\n", call, (int)number);
+    return number;
+}
+
+int main(void) {
+    /* one pattern of five pixels, column then row: (0,0), (-1,0), (1,0), (0,-1), (0,1) */
+    static const uint8_t bytes[] = {1, 5, 0, 0, 0xff, 0, 1, 0, 0, 0xff, 0, 1};
+    static int8_t columns[1024], rows[1024];
+    static size_t used[16];
+    uint16_t words[64];
+    uint64_t answer[4];
+
+    /* the book, as a record */
+    if (said("read", bankplan_read_book(bytes, sizeof bytes, columns, rows, used, answer), answer) != 0)
+        return 1;
+    size_t count = (size_t)answer[0];
+    printf("book: %d pattern, %d pixels\n", (int)count, (int)used[0]);
+
+    /* the plan with the fewest banks */
+    if (said("find", bankplan_find(columns, rows, used, count, 1024, answer), answer) != 0)
+        return 1;
+    uint32_t a = (uint32_t)answer[0], b = (uint32_t)answer[1], d = (uint32_t)answer[2];
+    printf("plan: %d %d %d, %d banks\n", (int)a, (int)b, (int)d, (int)(a * d));
+
+    /* what two suppliers send: twice as many banks as needed, and too few */
+    if (said("check", bankplan_check(columns, rows, used, count, 10, 0, 2, 1, answer), answer) == 0)
+        printf("check: %d %d %d, surplus %d\n", (int)answer[0], (int)answer[1], (int)answer[2], (int)answer[3]);
+    said("check", bankplan_check(columns, rows, used, count, 2, 0, 0, 1, answer), answer);
+
+    /* the memory that the picture needs: N * depth words */
+    if (said("depth", bankplan_depth(a, b, d, WIDTH, HEIGHT, answer), answer) != 0)
+        return 1;
+    size_t length = (size_t)(a * d * answer[0]);
+    printf("memory: %d words, %d to a bank\n", (int)length, (int)answer[0]);
+    uint16_t *mem = calloc(length, sizeof *mem);
+    if (mem == NULL)
+        return 1;
+
+    /* each pixel gets a word of its own: its row, then its column */
+    for (int16_t j = 0; j < HEIGHT; j++)
+        for (int16_t i = 0; i < WIDTH; i++)
+            if (said("store", bankplan_store(a, b, d, WIDTH, HEIGHT, mem, length, i, j, (uint16_t)(10 * j + i), answer), answer))
+                return 1;
+
+    /* the cross at (3, 2): five words from five banks */
+    if (said("fetch",
+             bankplan_fetch(columns, rows, used, count, a, b, d, WIDTH, HEIGHT, mem, length, 0, 3, 2, words, 64, answer),
+             answer) != 0)
+        return 1;
+    size_t fetched = (size_t)answer[0];
+    for (size_t e = 0; e < fetched; e++) {
+        int16_t i = (int16_t)(3 + columns[e]), j = (int16_t)(2 + rows[e]);
+        if (said("bank", bankplan_bank(a, b, d, i, j, answer), answer) == 0)
+            printf("fetch: word %02d at (%d, %d) from bank %d\n", words[e], i, j, (int)answer[0]);
+    }
+
+    /* at the corner the cross leaves the picture */
+    said("fetch at the corner",
+         bankplan_fetch(columns, rows, used, count, a, b, d, WIDTH, HEIGHT, mem, length, 0, 0, 0, words, 64, answer), answer);
+
+    /* the sum of bank 0, before and after it is cleared */
+    for (int round = 0; round < 2; round++) {
+        if (said("sum", bankplan_sum(a, b, d, WIDTH, HEIGHT, mem, length, 0, answer), answer) == 0)
+            printf("bank 0: sum %d\n", (int)answer[0]);
+        said("clear", bankplan_clear(a, b, d, WIDTH, HEIGHT, mem, length, 0, answer), answer);
+    }
+    free(mem);
+    return 0;
+}

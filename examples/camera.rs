@@ -1,0 +1,73 @@
+//! A camera's buffer, from Rust: a filter of five pixels in a cross, the plan with the fewest banks for it, a picture of 7 by 4
+//! under that plan, and what suppliers and wrong positions get. camera.c does the same in C.
+//!
+//!     rustc --edition 2021 -O --crate-type rlib -L native=target/staticlib -l static=capi bindings/bankplan.rs
+//!     rustc --edition 2021 -O --extern bankplan=libbankplan.rlib examples/camera.rs
+
+use bankplan::{read_book, Picture, Refused};
+
+// One pattern of five pixels, column then row: (0,0), (-1,0), (1,0), (0,-1), (0,1).
+const BYTES: [u8; 12] = [1, 5, 0, 0, 0xff, 0, 1, 0, 0, 0xff, 0, 1];
+
+// Says what turned a call down.
+fn say(call: &str, refused: Refused) {
+    let number = refused.number;
+    match refused.clash {
+        Some(c) => {
+            println!("{call}: refused {number}, pixels {} and {} of pattern {} share a bank", c.earlier, c.later, c.pattern)
+        }
+        None => println!("{call}: refused {number}"),
+    }
+}
+
+fn main() -> Result<(), Refused> {
+    // the book, as a record
+    let book = read_book(&BYTES)?;
+    let cross: Vec<(i8, i8)> = book.pattern(0).into_iter().flatten().collect();
+    println!("book: {} pattern, {} pixels", book.count, cross.len());
+
+    // the plan with the fewest banks
+    let plan = book.find(1024)?;
+    println!("plan: {} {} {}, {} banks", plan.a, plan.b, plan.d, plan.banks());
+
+    // what two suppliers send: twice as many banks as needed, and too few
+    for (x, y) in [((10, 0), (2, 1)), ((2, 0), (0, 1))] {
+        match book.check(x, y) {
+            Ok(c) => println!("check: {} {} {}, surplus {}", c.plan.a, c.plan.b, c.plan.d, c.surplus),
+            Err(refused) => say("check", refused),
+        }
+    }
+
+    // the memory that the picture needs: N × depth words
+    let picture = Picture { plan, width: 7, height: 4 };
+    let depth = picture.depth()?;
+    let mut mem = vec![0; (plan.banks() * depth) as usize];
+    println!("memory: {} words, {depth} to a bank", mem.len());
+
+    // each pixel gets a word of its own: its row, then its column
+    for j in 0..4 {
+        for i in 0..7 {
+            picture.store(&mut mem, (i, j), (10 * j + i) as u16)?;
+        }
+    }
+
+    // the cross at (3, 2): five words from five banks
+    let mut words = [0; 64];
+    let fetched = picture.fetch(&book, &mem, 0, (3, 2), &mut words)?;
+    for ((column, row), word) in cross.iter().zip(&words[..fetched]) {
+        let (i, j) = (3 + i16::from(*column), 2 + i16::from(*row));
+        println!("fetch: word {word:02} at ({i}, {j}) from bank {}", plan.bank((i, j))?);
+    }
+
+    // at the corner the cross leaves the picture
+    if let Err(refused) = picture.fetch(&book, &mem, 0, (0, 0), &mut words) {
+        say("fetch at the corner", refused);
+    }
+
+    // the sum of bank 0, before and after it is cleared
+    for _ in 0..2 {
+        println!("bank 0: sum {}", picture.sum(&mem, 0)?);
+        picture.clear(&mut mem, 0)?;
+    }
+    Ok(())
+}
