@@ -2,7 +2,7 @@
  * A camera's buffer, from C: a filter of five pixels in a cross, the plan with the fewest banks for it, a picture of 7 by 4 under
  * that plan, and what suppliers and wrong positions get. camera.rs does the same in Rust.
  *
- *   cc -std=c11 -o camera examples/camera.c target/staticlib/libcapi.a
+ *   cc -std=c11 -o target/camera-c examples/camera.c target/staticlib/libcapi.a
  */
 #include <stdio.h>
 #include <stdlib.h>

@@ -1,8 +1,8 @@
 //! A camera's buffer, from Rust: a filter of five pixels in a cross, the plan with the fewest banks for it, a picture of 7 by 4
 //! under that plan, and what suppliers and wrong positions get. camera.c does the same in C.
 //!
-//!     rustc --edition 2021 -O --crate-type rlib -L native=target/staticlib -l static=capi bindings/bankplan.rs
-//!     rustc --edition 2021 -O --extern bankplan=libbankplan.rlib examples/camera.rs
+//!     rustc --edition 2021 -O --crate-type rlib --out-dir target -L native=target/staticlib -l static=capi bindings/bankplan.rs
+//!     rustc --edition 2021 -O --out-dir target --extern bankplan=target/libbankplan.rlib examples/camera.rs
 
 use bankplan::{read_book, Picture, Refused};
 
