@@ -5,13 +5,18 @@
 //! down, and then leaves what it was lent as it was. No function here panics.
 
 use std::fmt;
+use std::mem::{offset_of, size_of};
 
-// A count, a place or a length passes as 64 bits.
-const _: () = assert!(usize::BITS == 64);
+// A count, a place or a length passes as 64 bits, a pixel record as 12 bytes.
+const _: () = assert!(usize::BITS == 64 && size_of::<PixelRecord>() == 12);
+const _: () = assert!(offset_of!(PixelRecord, column) == 0 && offset_of!(PixelRecord, row) == 2);
+const _: () = assert!(offset_of!(PixelRecord, bank) == 4 && offset_of!(PixelRecord, address) == 8);
 
 /// The library's functions. A slice passes as a pointer and then its length, an array as a pointer.
 #[rustfmt::skip]
 pub mod raw {
+    use super::PixelRecord;
+
     unsafe extern "C" {
         pub fn bankplan_normal_form(x1: i16, x2: i16, y1: i16, y2: i16, answer: &mut [u64; 4]) -> u64;
         pub fn bankplan_bank(a: u32, b: u32, d: u32, i: i16, j: i16, answer: &mut [u64; 4]) -> u64;
@@ -61,6 +66,9 @@ pub mod raw {
             a: u32, b: u32, d: u32, w: u32, h: u32, mem: *const u16, mem_length: usize,
             n: usize, i: i16, j: i16, out: *mut u16, out_length: usize, answer: &mut [u64; 4],
         ) -> u64;
+        pub fn bankplan_fill_records(
+            a: u32, b: u32, d: u32, w: u32, h: u32, list: *mut PixelRecord, list_length: usize, answer: &mut [u64; 4],
+        ) -> u64;
     }
 }
 
@@ -103,6 +111,16 @@ pub struct Picture {
     pub plan: Plan,
     pub width: u32,
     pub height: u32,
+}
+
+/// A row of a record list: a pixel, and the bank and address that a call fills in.
+#[repr(C)]
+#[derive(Clone, Copy, Debug, PartialEq, Eq)]
+pub struct PixelRecord {
+    pub column: i16,
+    pub row: i16,
+    pub bank: u32,
+    pub address: u32,
 }
 
 /// A call turned down: document 01's number, 1 to 18; the place, a byte offset for 1 to 5 where the call was given bytes, else
@@ -324,5 +342,12 @@ impl Picture {
             raw::bankplan_ring_fetch(columns, rows, used, *count, a, b, d, w, h, mem, words, n, i, j, out, room, t)
         };
         told(call).map(|r| r[0] as usize)
+    }
+
+    /// Fills in every record's bank and address. Refused by 11, 12, and by 14 where any pixel is outside.
+    pub fn fill_records(self, list: &mut [PixelRecord]) -> Result<(), Refused> {
+        let Picture { plan: p, width: w, height: h } = self;
+        let (list, length) = (list.as_mut_ptr(), list.len());
+        told(|t| unsafe { raw::bankplan_fill_records(p.a, p.b, p.d, w, h, list, length, t) }).map(|_| ())
     }
 }

@@ -20,6 +20,8 @@
  * A picture's memory is mem_length 16-bit words, and the output of a fetch is such words too. With N = a * d, bank k has the
  * words k * depth to (k + 1) * depth - 1; the words from N * depth on are never touched.
  *
+ * A record list is list_length records of 12 bytes: column, row, bank and address at the offsets 0, 2, 4 and 8.
+ *
  * What is lent. A pointer with a length is that many elements, an array parameter as many as stand in its brackets. No pointer
  * may be null and each must be aligned for its type, also where the length is 0: an empty stretch still needs such a pointer,
  * which is not followed. What a call writes, the answer too, must not overlap anything else that is lent to it. A pointer to
@@ -34,13 +36,6 @@
 
 #ifdef __cplusplus
 extern "C" {
-#endif
-
-/* Counts, places and lengths have 64 bits. */
-#if defined(__cplusplus) && __cplusplus >= 201103L
-static_assert(sizeof(size_t) == 8, "size_t has 8 bytes");
-#elif defined(__STDC_VERSION__) && __STDC_VERSION__ >= 201112L
-_Static_assert(sizeof(size_t) == 8, "size_t has 8 bytes");
 #endif
 
 /* Why a call was turned down. */
@@ -148,6 +143,37 @@ uint64_t bankplan_ring_fetch(const int8_t columns[1024], const int8_t rows[1024]
                              uint32_t a, uint32_t b, uint32_t d, uint32_t w, uint32_t h, const uint16_t *mem,
                              size_t mem_length, size_t n, int16_t i, int16_t j, uint16_t *out, size_t out_length,
                              uint64_t answer[4]);
+
+/* ---- record lists */
+
+/* A pixel of a picture, and where its word stands. */
+typedef struct bankplan_pixel_record {
+    int16_t column;
+    int16_t row;
+    uint32_t bank;
+    uint32_t address;
+} bankplan_pixel_record;
+
+/* Fills in the bank and the address of every record of a list. Refused by 11, 12, 14 where any pixel is outside. Tells nothing.
+   Lent: every record's bank and address are filled in, its column and row stay; on a refusal the whole list does. */
+uint64_t bankplan_fill_records(uint32_t a, uint32_t b, uint32_t d, uint32_t w, uint32_t h, bankplan_pixel_record *list,
+                               size_t list_length, uint64_t answer[4]);
+
+/* The sizes that the library counts on, tested from C11 and C++11 on. */
+#if defined(__cplusplus) && __cplusplus >= 201103L
+#define BANKPLAN_ASSERT static_assert
+#elif defined(__STDC_VERSION__) && __STDC_VERSION__ >= 201112L
+#define BANKPLAN_ASSERT _Static_assert
+#endif
+#ifdef BANKPLAN_ASSERT
+BANKPLAN_ASSERT(sizeof(size_t) == 8, "size_t has 8 bytes");
+BANKPLAN_ASSERT(sizeof(bankplan_pixel_record) == 12, "a pixel record has 12 bytes");
+BANKPLAN_ASSERT(offsetof(bankplan_pixel_record, column) == 0, "the column is at 0");
+BANKPLAN_ASSERT(offsetof(bankplan_pixel_record, row) == 2, "the row is at 2");
+BANKPLAN_ASSERT(offsetof(bankplan_pixel_record, bank) == 4, "the bank is at 4");
+BANKPLAN_ASSERT(offsetof(bankplan_pixel_record, address) == 8, "the address is at 8");
+#undef BANKPLAN_ASSERT
+#endif
 
 #ifdef __cplusplus
 }

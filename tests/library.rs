@@ -5,7 +5,7 @@
 pub mod bankplan;
 
 use bankplan::raw::*;
-pub use bankplan::{Book as Record, Plan};
+pub use bankplan::{Book as Record, PixelRecord, Plan};
 
 /// What a call said: the number, 0 where it was not refused, and the row of numbers that it put.
 #[derive(Clone, Debug, PartialEq)]
@@ -107,4 +107,9 @@ pub fn ring_fetch(r: &Record, p: Plan, w: u32, h: u32, mem: &[u16], n: usize, o:
     told(|t| unsafe {
         bankplan_ring_fetch(columns, rows, used, *count, p.a, p.b, p.d, w, h, mem, words, n, o.0, o.1, out, room, t)
     })
+}
+
+/// Fills in a record list.
+pub fn fill_records(p: Plan, w: u32, h: u32, list: &mut [PixelRecord]) -> Told {
+    told(|t| unsafe { bankplan_fill_records(p.a, p.b, p.d, w, h, list.as_mut_ptr(), list.len(), t) })
 }

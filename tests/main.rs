@@ -12,6 +12,7 @@ mod oracle;
 mod pictures;
 mod plans;
 mod program;
+mod records;
 mod search;
 mod wrapper;
 
@@ -90,6 +91,7 @@ fn main() {
     tallies.extend(books::run());
     tallies.extend(finds::run());
     tallies.extend(pictures::run());
+    tallies.push(records::run());
     tallies.extend(wrapper::run());
     tallies.extend(program::run_all());
     let (mut cases, mut wrong) = (0, 0);
