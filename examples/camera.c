@@ -73,6 +73,13 @@ int main(void) {
             printf("fetch: word %02d at (%d, %d) from bank %d\n", words[e], i, j, (int)answer[0]);
     }
 
+    /* where the words of three pixels stand */
+    bankplan_pixel_record list[3] = {{0, 0, 0, 0}, {3, 2, 0, 0}, {6, 3, 0, 0}};
+    if (said("records", bankplan_fill_records(a, b, d, WIDTH, HEIGHT, list, 3, answer), answer) == 0)
+        for (int k = 0; k < 3; k++)
+            printf("record: (%d, %d) in bank %d, address %d\n", list[k].column, list[k].row, (int)list[k].bank,
+                   (int)list[k].address);
+
     /* at the corner the cross leaves the picture */
     said("fetch at the corner",
          bankplan_fetch(columns, rows, used, count, a, b, d, WIDTH, HEIGHT, mem, length, 0, 0, 0, words, 64, answer), answer);

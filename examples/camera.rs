@@ -4,7 +4,7 @@
 //!     rustc --edition 2021 -O --crate-type rlib --out-dir target -L native=target/staticlib -l static=capi bindings/bankplan.rs
 //!     rustc --edition 2021 -O --out-dir target --extern bankplan=target/libbankplan.rlib examples/camera.rs
 
-use bankplan::{read_book, Picture, Refused};
+use bankplan::{read_book, Picture, PixelRecord, Refused};
 
 // One pattern of five pixels, column then row: (0,0), (-1,0), (1,0), (0,-1), (0,1).
 const BYTES: [u8; 12] = [1, 5, 0, 0, 0xff, 0, 1, 0, 0, 0xff, 0, 1];
@@ -57,6 +57,13 @@ fn main() -> Result<(), Refused> {
     for ((column, row), word) in cross.iter().zip(&words[..fetched]) {
         let (i, j) = (3 + i16::from(*column), 2 + i16::from(*row));
         println!("fetch: word {word:02} at ({i}, {j}) from bank {}", plan.bank((i, j))?);
+    }
+
+    // where the words of three pixels stand
+    let mut list = [(0, 0), (3, 2), (6, 3)].map(|(column, row)| PixelRecord { column, row, bank: 0, address: 0 });
+    picture.fill_records(&mut list)?;
+    for PixelRecord { column, row, bank, address } in list {
+        println!("record: ({column}, {row}) in bank {bank}, address {address}");
     }
 
     // at the corner the cross leaves the picture
