@@ -8,6 +8,7 @@ use std::time::Instant;
 #[allow(dead_code)]
 mod bankplan;
 mod pictures;
+mod records;
 mod unverified;
 mod words;
 
@@ -175,8 +176,10 @@ fn main() {
     }));
     // a supplier's plan of several rows
     fetched.push(("3 by 3 block, plan 6, 4, 5", &books[2].1, Plan { a: 6, b: 4, d: 5 }));
+    let listed = [fetched[0].2, fetched[4].2];
     if std::env::args().nth(1).as_deref() == Some("answers") {
         pictures::pictures(&fetched, false);
+        records::lists(&listed, false);
         println!("the unverified versions give the same answers");
         return;
     }
@@ -212,4 +215,5 @@ fn main() {
         }
     }
     pictures::pictures(&fetched, true);
+    records::lists(&listed, true);
 }

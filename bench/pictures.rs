@@ -88,13 +88,13 @@ impl Picture {
     }
 }
 
-// Positions all over the picture, so that no call repeats the one before, and every pattern moved there is inside.
-fn positions(w: u32, h: u32) -> Vec<(i16, i16)> {
+/// Positions all over the picture, so that no call repeats the one before, and every pattern moved there is inside.
+pub fn positions(w: u32, h: u32) -> Vec<(i16, i16)> {
     (0..1000u32).map(|k| ((16 + k * 7919 % (w - 32)) as i16, (16 + k * 104_729 % (h - 32)) as i16)).collect()
 }
 
-// One row: what is done so many times, and the time of one.
-fn row(name: &str, times: usize, proved: &dyn Fn() -> u64, unverified: &dyn Fn() -> u64) {
+/// One row: what is done so many times, and the time of one.
+pub fn row(name: &str, times: usize, proved: &dyn Fn() -> u64, unverified: &dyn Fn() -> u64) {
     let [x, y] = seconds([proved, unverified]).map(|s| s / times as f64);
     println!("| {name} | {} | {} | {:.2} |", time(x), time(y), x / y);
 }
