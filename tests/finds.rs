@@ -4,14 +4,18 @@ use crate::books::{damaged_record, fill_unused, legal_record};
 use crate::library::{self, Plan, Record, Told};
 use crate::oracle::{self, Pattern};
 use crate::search::{self, first_plan, one_to_a_bank, suits, Verdict};
-use crate::{wide, Random, Tally};
+use crate::{as_told, wide, Random, Tally};
 
 fn refused(number: u64) -> Told {
     Told { number, row: vec![0] }
 }
 
 pub fn planned(p: Option<Plan>) -> Told {
-    p.map_or(refused(7), |p| Told { number: 0, row: vec![p.a.into(), p.b.into(), p.d.into()] })
+    p.map_or(refused(7), |p| Told { number: 0, row: plan_row(p) })
+}
+
+fn plan_row(p: Plan) -> Vec<u64> {
+    vec![p.a.into(), p.b.into(), p.d.into()]
 }
 
 pub fn judged(v: Result<Verdict, oracle::Refused>) -> Told {
@@ -29,6 +33,8 @@ pub fn banks(p: Plan) -> i64 {
 fn figures() -> Tally {
     let mut t = Tally::new("finder's figures");
     let mut figure = |book: &[Pattern], limit: u32, wanted: Told| {
+        let searched = as_told(search::find(book, limit.into()), plan_row);
+        t.same(|| format!("brute force, {book:?} {limit}"), searched, wanted.clone());
         t.same(|| format!("{book:?} {limit}"), library::find(&oracle::record_of(book), limit), wanted);
     };
     let plan = |a, b, d| planned(Some(search::plan(a, b, d)));

@@ -1,4 +1,5 @@
-//! Document 01's calls on a picture again, on a plain map from pixel to word. It shares nothing with the library.
+//! Document 01's calls on a picture again, on a plain map from pixel to word. It shares no code with
+//! the library, only the types that the answers are compared in.
 
 use crate::library::{Plan, Record, Told};
 use crate::oracle::{is_plan, patterns_of, Pattern};

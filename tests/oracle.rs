@@ -1,4 +1,5 @@
-//! Document 01 again, by counting and searching. It shares nothing with the library.
+//! Document 01 again, by counting and searching. It shares no code with the library, only the types that the
+//! answers are compared in.
 
 use crate::library::{Plan, Record};
 use std::collections::HashSet;

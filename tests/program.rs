@@ -42,7 +42,9 @@ fn run(pieces: impl IntoIterator<Item = Vec<u8>>) -> (String, bool) {
     (written, child.wait().unwrap().code() == Some(0))
 }
 
+// What the program writes, and what the brute force has it write.
 fn case(t: &mut Tally, name: &str, bytes: &[u8], wanted: String) {
+    t.same(|| format!("brute force, {name}: {bytes:02x?}"), text(bytes), wanted.clone());
     t.same(|| format!("{name}: {bytes:02x?}"), run([bytes.to_vec()]), (wanted, true));
 }
 

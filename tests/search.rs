@@ -1,4 +1,5 @@
-//! Document 01's finder and check again, by trying every plan. It shares nothing with the library.
+//! Document 01's finder and check again, by trying every plan. It shares no code with the library, only the types that the
+//! answers are compared in.
 
 use crate::library::Plan;
 use crate::oracle::{is_combination, normal_form, Pattern, Refused};
@@ -44,6 +45,14 @@ fn plans(limit: i64) -> impl Iterator<Item = Plan> {
 /// The first plan within the limit that passes the test for each pattern.
 pub fn first_plan(book: &[Pattern], limit: i64, test: impl Fn(Plan, &Pattern) -> bool) -> Option<Plan> {
     plans(limit).find(|&p| book.iter().all(|t| test(p, t)))
+}
+
+/// The finder: 6, then the first plan by N, d and b, then 7.
+pub fn find(book: &[Pattern], limit: i64) -> Result<Plan, Refused> {
+    if !(1..=1024).contains(&limit) {
+        return Err((6, 0));
+    }
+    first_plan(book, limit, one_to_a_bank).ok_or((7, 0))
 }
 
 /// A book of 16 patterns of 64 pixels whose differences fill the window, so that it needs all 1,024 banks. The columns of a

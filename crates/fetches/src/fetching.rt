@@ -1,5 +1,6 @@
-// The two calls: the tests that both begin with, the one that each has for itself, then 16 and the words. They take a book as
-// what its tests found, its count and the record of the pattern, so that a caller need not have the whole book as a value.
+// Fetch and ring fetch of one pattern: the tests that both begin with, the one that each has for itself, then 16 and the
+// words. They take a book as what its tests found, its count and the record of the pattern, so that a caller need not have the
+// whole book as a value.
 use crate::moving::all_inside;
 use crate::moving::put_words;
 use clashes::Met;

@@ -1,5 +1,5 @@
--- Rows beyond document 01's figures for books, plans and the program, worked out by hand from its sentences: both edges of
--- each range, and what is written. The must-fail edits lean on them. A list to a subject, so that a refusal names the value.
+-- Rows beyond document 01's figures for books, plans and the program, worked out from its sentences: both edges of
+-- each range, and what is written. They refuse must-fail edits. A list to a subject, so that a refusal names the value.
 -- Assumes nothing.
 use Prim.Native.Nat.{ℕ, _/_, _%_}
 use mathlib.Core.Path.{refl}

@@ -1,5 +1,5 @@
--- Rows beyond document 01's figures for the calls on a picture, worked out by hand from its sentences: what is lent, and
--- inputs that break two conditions, so that the order of the checks tells. The must-fail edits lean on them.
+-- Rows beyond document 01's figures for the calls on a picture, worked out from its sentences: what is lent, and
+-- inputs that break two conditions, so that the order of the checks tells. They refuse must-fail edits.
 -- Assumes nothing.
 use Prim.Native.Nat.{ℕ}
 use mathlib.Core.Path.{refl}

@@ -58,7 +58,7 @@ pub record BankIsClass (p : Plan) : Type 0 where
 abbrev pub BanksAreClasses : Type 0
 BanksAreClasses = (p : Plan) → IsPlan p → BankIsClass p
 
--- Each pixel of a picture of any size has a word of its own, in its bank's stretch and below N × depth.
+-- Each pixel of a picture of any size has a word of its own, among its bank's words and below N × depth.
 pub record WordsOf (p : Plan) (W H : ℕ) : Type 0 where
   pub address-below : (v : Pixel) → Inside W H v → addressOf p W H v < depthOf p W H
   pub word-below : (v : Pixel) → Inside W H v → wordOf p W H v < banks p * depthOf p W H

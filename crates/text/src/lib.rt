@@ -3,6 +3,7 @@ mod lines;
 mod program;
 
 pub use lines::planned_text;
+pub use lines::refused_text;
 pub use program::program_text;
 
 // A text of at most 80 bytes, of which the first `length` count; the others are 0.
