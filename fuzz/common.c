@@ -1,0 +1,167 @@
+// See common.h.
+#include "common.h"
+
+static const uint64_t UNTOUCHED = 0xabad1deaabad1dea;
+
+_Noreturn void wrong(const char *what, const char *file, int line) {
+    fprintf(stderr, "%s:%d: wrong: %s\n", file, line, what);
+    abort();
+}
+
+// The end of a block: nothing there may be read or written.
+static char *nowhere(void) {
+    static char *block;
+    if (!block) block = malloc(16);
+    return block + 16;
+}
+
+void *lent(size_t bytes) {
+    if (bytes == 0) return nowhere();
+    void *buffer = malloc(bytes);
+    if (!buffer) wrong("no memory", __FILE__, __LINE__);
+    return buffer;
+}
+
+void *lent_copy(const void *from, size_t bytes) {
+    void *buffer = lent(bytes);
+    if (bytes) memcpy(buffer, from, bytes);
+    return buffer;
+}
+
+void give_back(void *buffer, size_t bytes) {
+    if (bytes) free(buffer);
+}
+
+uint64_t *fresh_answer(void) {
+    uint64_t *answer = lent(4 * sizeof *answer);
+    for (int k = 0; k < 4; k++) answer[k] = UNTOUCHED;
+    return answer;
+}
+
+struct told take_answer(uint64_t number, uint64_t *answer) {
+    struct told t = {.number = number, .values = 4};
+    memcpy(t.row, answer, sizeof t.row);
+    free(answer);
+    while (t.values > 0 && t.row[t.values - 1] == UNTOUCHED) t.values--;
+    return t;
+}
+
+void must_refuse(struct told t, uint64_t number) {
+    MUST(t.number == number);
+    MUST(t.values == (number == 10 ? 4 : 1));
+    MUST(t.row[0] == 0);
+}
+
+unsigned byte(struct feed *f) {
+    if (f->left == 0) return 0;
+    f->left--;
+    return *f->next++;
+}
+
+unsigned two(struct feed *f) {
+    unsigned low = byte(f);
+    return low | byte(f) << 8;
+}
+
+uint64_t eight(struct feed *f) {
+    uint64_t x = 0;
+    for (int k = 0; k < 8; k++) x |= (uint64_t)byte(f) << (8 * k);
+    return x;
+}
+
+// Up to 64 different pixels of the window; at least one.
+static size_t legal_pattern(struct feed *f, int8_t *columns, int8_t *rows) {
+    size_t wanted = 1 + byte(f) % 64, used = 0;
+    for (size_t m = 0; m < wanted && (used == 0 || f->left > 0); m++) {
+        unsigned x = two(f);
+        int8_t column = (int)(x & 31) - 16, row = (int)(x >> 8 & 31) - 16;
+        size_t same = 0;
+        while (same < used && (columns[same] != column || rows[same] != row)) same++;
+        columns[same] = column;
+        rows[same] = row;
+        if (same == used) used++;
+    }
+    return used;
+}
+
+static size_t any_count(struct feed *f) {
+    unsigned x = byte(f);
+    return x == 255 ? (size_t)eight(f) : x;
+}
+
+struct record record_of(struct feed *f, bool legal) {
+    struct record r = {lent(1024), lent(1024), lent(16 * sizeof(size_t)), 0};
+    for (int k = 0; k < 1024; k++) {
+        r.columns[k] = k * 7 % 256 - 128;
+        r.rows[k] = k * 11 % 256 - 128;
+    }
+    for (int n = 0; n < 16; n++) r.used[n] = n % 2 ? SIZE_MAX - n : 65 + n;
+    r.count = legal ? 1 + byte(f) % 16 : any_count(f);
+    size_t patterns = 0;
+    for (size_t n = 0; n < r.count && n < 16 && (n == 0 || f->left > 0); n++) {
+        int8_t *columns = r.columns + 64 * n, *rows = r.rows + 64 * n;
+        if (legal) {
+            r.used[n] = legal_pattern(f, columns, rows);
+        } else {
+            r.used[n] = any_count(f);
+            for (size_t m = 0; m < r.used[n] && m < 64; m++) {
+                columns[m] = byte(f);
+                rows[m] = byte(f);
+            }
+        }
+        patterns++;
+    }
+    if (legal) r.count = patterns;
+    return r;
+}
+
+void drop_record(struct record *r) {
+    free(r->columns);
+    free(r->rows);
+    free(r->used);
+}
+
+bool is_plan(struct plan p) { return p.a >= 1 && p.d >= 1 && p.b < p.a && (uint64_t)p.a * p.d <= 1024; }
+
+int64_t floor_mod(int64_t x, int64_t m) {
+    int64_t rest = x % m;
+    return rest < 0 ? rest + m : rest;
+}
+
+bool in_lattice(struct plan p, int i, int j) {
+    int64_t a = p.a, b = p.b, d = p.d;
+    return j % d == 0 && (i - b * (j / d)) % a == 0;
+}
+
+uint32_t plain_bank(struct plan p, int i, int j) {
+    int64_t r = floor_mod(j, p.d), q = (j - r) / (int64_t)p.d;
+    return (uint32_t)(r * p.a + floor_mod(i - (int64_t)p.b * q, p.a));
+}
+
+static bool in_window(int z) { return z >= -16 && z <= 15; }
+
+unsigned plain_test(const struct record *r) {
+    if (r->count < 1 || r->count > 16) return 2;
+    for (size_t n = 0; n < r->count; n++) {
+        const int8_t *columns = r->columns + 64 * n, *rows = r->rows + 64 * n;
+        if (r->used[n] < 1 || r->used[n] > 64) return 2;
+        for (size_t m = 0; m < r->used[n]; m++) {
+            if (!in_window(columns[m]) || !in_window(rows[m])) return 3;
+            for (size_t k = 0; k < m; k++)
+                if (columns[k] == columns[m] && rows[k] == rows[m]) return 4;
+        }
+    }
+    return 0;
+}
+
+bool plain_clash(const struct record *r, size_t n, struct plan p, size_t *earlier, size_t *later) {
+    const int8_t *columns = r->columns + 64 * n, *rows = r->rows + 64 * n;
+    for (size_t m = 0; m < r->used[n]; m++)
+        for (size_t k = m + 1; k < r->used[n]; k++)
+            if (in_lattice(p, columns[k] - columns[m], rows[k] - rows[m])) {
+                *earlier = m;
+                *later = k;
+                return true;
+            }
+    return false;
+}

@@ -1,0 +1,76 @@
+// What the three targets share: exactly sized buffers, answers, the bytes of an input taken one by one, and document 01's
+// conditions written out plainly.
+#ifndef COMMON_H
+#define COMMON_H
+#include <stdbool.h>
+#include <stddef.h>
+#include <stdint.h>
+#include <stdio.h>
+#include <stdlib.h>
+#include <string.h>
+
+#include "../include/bankplan.h"
+
+// A wrong answer ends the run; the fuzzer keeps the input.
+#define MUST(condition) ((condition) ? (void)0 : wrong(#condition, __FILE__, __LINE__))
+_Noreturn void wrong(const char *what, const char *file, int line);
+
+// A buffer of exactly so many bytes; one of none begins where nothing may be touched.
+void *lent(size_t bytes);
+void *lent_copy(const void *from, size_t bytes);
+void give_back(void *buffer, size_t bytes);
+
+// What a call said: its number, the four numbers of the answer, and how many of them it put there.
+struct told {
+    uint64_t number;
+    uint64_t row[4];
+    int values;
+};
+uint64_t *fresh_answer(void);
+struct told take_answer(uint64_t number, uint64_t *answer);
+
+// The call must be written with `answer` as its last argument.
+#define TOLD(name, ...)                                 \
+    struct told name;                                   \
+    do {                                                \
+        uint64_t *answer = fresh_answer();              \
+        uint64_t number_ = __VA_ARGS__;                 \
+        name = take_answer(number_, answer);            \
+    } while (0)
+
+// A refusal tells its place alone; here that is 0.
+void must_refuse(struct told t, uint64_t number);
+
+// An input's bytes, 0 once they are used up.
+struct feed {
+    const uint8_t *next;
+    size_t left;
+};
+unsigned byte(struct feed *f);
+unsigned two(struct feed *f);
+uint64_t eight(struct feed *f);
+
+// A record in exactly sized arrays.
+struct record {
+    int8_t *columns, *rows;
+    size_t *used;
+    size_t count;
+};
+// From the input: legal patterns, or any bytes at all. What a record does not use is filled with other bytes.
+struct record record_of(struct feed *f, bool legal);
+void drop_record(struct record *r);
+
+struct plan {
+    uint32_t a, b, d;
+};
+bool is_plan(struct plan p);
+// p, q are pixels whose difference is (i, j); a plan suits if none is in its lattice
+bool in_lattice(struct plan p, int i, int j);
+int64_t floor_mod(int64_t x, int64_t m);
+uint32_t plain_bank(struct plan p, int i, int j);
+
+// 0, or the number that a record is refused by.
+unsigned plain_test(const struct record *r);
+// The least pair of positions of pattern n with a difference in the lattice.
+bool plain_clash(const struct record *r, size_t n, struct plan p, size_t *earlier, size_t *later);
+#endif

@@ -1,0 +1,256 @@
+// Target 3: lists of calls on a picture, against a plain array from pixel to word.
+#include "common.h"
+
+#define RECORD(r) (r)->columns, (r)->rows, (r)->used, (r)->count
+#define PLAN(g) (g)->p.a, (g)->p.b, (g)->p.d
+#define PICTURE(g) PLAN(g), (g)->w, (g)->h, (g)->memory, (g)->words
+enum { MOST = 1 << 16 }; // words of a memory, at most
+static const uint16_t PAST = 0xbeef; // what stands in the words past the picture's
+
+struct game {
+    struct record r;
+    unsigned record_refused; // the number that the record is refused by, or 0
+    struct plan p;
+    uint32_t w, h;
+    uint64_t banks, depth; // 0 where there are none
+    unsigned refused;      // 11, 12, 13 or 0
+    uint16_t *memory;
+    size_t words;
+    uint16_t *shadow; // the word last stored at each pixel
+};
+
+static uint64_t up(uint64_t n, uint64_t m) { return (n + m - 1) / m; }
+
+static bool inside(const struct game *g, int i, int j) {
+    return i >= 0 && j >= 0 && (uint32_t)i < g->w && (uint32_t)j < g->h;
+}
+
+static uint16_t *pixel(const struct game *g, int i, int j) { return g->shadow + (size_t)j * g->w + i; }
+
+static uint64_t plain_address(const struct game *g, int i, int j) {
+    return (uint64_t)j / g->p.d * up(g->w, g->p.a) + (uint64_t)i / g->p.a;
+}
+
+// A number of 16 bits: small, one at an edge, or any.
+static int16_t coordinate(struct feed *f) {
+    static const int16_t edges[8] = {-32768, -1, 1023, 1024, 4095, 4096, 32752, 32767};
+    unsigned x = byte(f);
+    return x < 200 ? (int)x - 20 : x < 208 ? edges[x - 200] : (int16_t)two(f);
+}
+
+// The same without a sign, up to 64 bits.
+static uint64_t number(struct feed *f) {
+    static const uint64_t edges[12] = {1023, 1024, 1025, 4095, 4096, 4097, 65535, 65536, UINT32_MAX, 1ull << 32, 1ull << 63, UINT64_MAX};
+    unsigned x = byte(f);
+    return x < 240 ? x : x < 252 ? edges[x - 240] : x < 254 ? two(f) : eight(f);
+}
+
+static void choose_plan(struct game *g, struct feed *f, unsigned how) {
+    if (how & 1) {
+        g->p.a = 1 + byte(f) % 40;
+        g->p.d = 1 + byte(f) % 25;
+        g->p.b = byte(f) % g->p.a;
+    } else if (how & 2) {
+        g->p.a = (uint32_t)number(f);
+        g->p.b = (uint32_t)number(f);
+        g->p.d = (uint32_t)number(f);
+    } else {
+        TOLD(t, bankplan_find(RECORD(&g->r), 1024, answer));
+        MUST(t.number == g->record_refused);
+        if (t.number == 0) g->p = (struct plan){(uint32_t)t.row[0], (uint32_t)t.row[1], (uint32_t)t.row[2]};
+    }
+}
+
+static void choose_sides(struct game *g, struct feed *f, unsigned how) {
+    g->w = 1 + byte(f) % 80;
+    g->h = 1 + byte(f) % 80;
+    if (how & 4 && is_plan(g->p)) { // sides of a ring
+        g->w = g->p.a * g->p.d * (1 + g->w % 2);
+        g->h = g->p.a * g->p.d * (1 + g->h % 2);
+    }
+    if (how & 8) g->w = (uint32_t)number(f);
+    if (how & 16) g->h = (uint32_t)number(f);
+}
+
+// The memory: as many words as the picture needs, and some more or one less.
+static void choose_memory(struct game *g, struct feed *f) {
+    unsigned more = byte(f);
+    bool sides = g->w >= 1 && g->w <= 4096 && g->h >= 1 && g->h <= 4096;
+    g->refused = !is_plan(g->p) ? 11 : !sides ? 12 : 0;
+    if (!g->refused) {
+        g->banks = g->p.a * g->p.d;
+        g->depth = up(g->w, g->p.a) * up(g->h, g->p.d);
+    }
+    uint64_t needed = g->banks * g->depth;
+    g->words = needed > MOST ? MOST : more == 255 && needed ? needed - 1 : needed + more % 4;
+    if (!g->refused && g->words < needed) g->refused = 13;
+    g->memory = lent(g->words * sizeof *g->memory);
+    for (size_t k = 0; k < g->words; k++) g->memory[k] = k < needed ? 0 : PAST;
+    g->shadow = g->refused ? NULL : calloc((size_t)g->w * g->h, sizeof *g->shadow);
+}
+
+static unsigned outcome(const struct game *g, unsigned condition, bool holds) {
+    return g->refused ? g->refused : holds ? condition : 0;
+}
+
+static void store(struct game *g, struct feed *f) {
+    int16_t i = coordinate(f), j = coordinate(f);
+    uint16_t word = two(f);
+    unsigned no = outcome(g, 14, !inside(g, i, j));
+    TOLD(t, bankplan_store(PICTURE(g), i, j, word, answer));
+    if (no) {
+        must_refuse(t, no);
+        return;
+    }
+    MUST(t.number == 0 && t.values == 0);
+    *pixel(g, i, j) = word;
+}
+
+static void load(const struct game *g, struct feed *f) {
+    int16_t i = coordinate(f), j = coordinate(f);
+    unsigned no = outcome(g, 14, !inside(g, i, j));
+    TOLD(t, bankplan_load(PICTURE(g), i, j, answer));
+    if (no) must_refuse(t, no);
+    else MUST(t.number == 0 && t.values == 1 && t.row[0] == *pixel(g, i, j));
+}
+
+// The sum of a bank's words; then clears it if so asked.
+static void bank(struct game *g, struct feed *f) {
+    uint64_t k = number(f);
+    bool clear = byte(f) % 2;
+    unsigned no = outcome(g, 15, k >= g->banks);
+    uint64_t sum = 0;
+    for (uint32_t j = 0; !no && j < g->h; j++)
+        for (uint32_t i = 0; i < g->w; i++)
+            if (plain_bank(g->p, i, j) == k) {
+                sum += *pixel(g, i, j);
+                if (clear) *pixel(g, i, j) = 0;
+            }
+    TOLD(s, bankplan_sum(PICTURE(g), k, answer));
+    if (no) must_refuse(s, no);
+    else MUST(s.number == 0 && s.values == 1 && s.row[0] == sum);
+    if (!clear) return;
+    TOLD(c, bankplan_clear(PICTURE(g), k, answer));
+    if (no) must_refuse(c, no);
+    else MUST(c.number == 0 && c.values == 0);
+}
+
+// Bank, depth and address of a pixel, and the pixel of that bank and address.
+static void numbers(const struct game *g, struct feed *f) {
+    int16_t i = coordinate(f), j = coordinate(f);
+    unsigned no = g->refused == 13 ? 0 : g->refused;
+    TOLD(b, bankplan_bank(PLAN(g), i, j, answer));
+    if (no == 11) must_refuse(b, 11);
+    else MUST(b.number == 0 && b.values == 1 && b.row[0] == plain_bank(g->p, i, j));
+    TOLD(d, bankplan_depth(PLAN(g), g->w, g->h, answer));
+    if (no) must_refuse(d, no);
+    else MUST(d.number == 0 && d.values == 1 && d.row[0] == g->depth);
+    TOLD(t, bankplan_address(PLAN(g), g->w, g->h, i, j, answer));
+    if (no || !inside(g, i, j)) {
+        must_refuse(t, no ? no : 14);
+        return;
+    }
+    MUST(t.number == 0 && t.values == 1 && t.row[0] == plain_address(g, i, j));
+    TOLD(l, bankplan_locate(PLAN(g), g->w, g->h, b.row[0], t.row[0], answer));
+    MUST(l.number == 0 && l.values == 2 && l.row[0] == (uint64_t)i && l.row[1] == (uint64_t)j);
+}
+
+// Any bank and address: 15, or a pixel inside that has them.
+static void locate(const struct game *g, struct feed *f) {
+    uint64_t k = number(f), i = number(f);
+    unsigned no = g->refused == 13 ? 0 : g->refused;
+    TOLD(t, bankplan_locate(PLAN(g), g->w, g->h, k, i, answer));
+    if (no) {
+        must_refuse(t, no);
+        return;
+    }
+    if (t.number == 0) {
+        MUST(t.values == 2 && t.row[0] < g->w && t.row[1] < g->h);
+        MUST(plain_bank(g->p, t.row[0], t.row[1]) == k && plain_address(g, t.row[0], t.row[1]) == i);
+        return;
+    }
+    must_refuse(t, 15);
+    if (k >= g->banks || i >= g->depth || (uint64_t)g->w * g->h > 4096) return;
+    for (uint32_t y = 0; y < g->h; y++)
+        for (uint32_t x = 0; x < g->w; x++) MUST(plain_bank(g->p, x, y) != k || plain_address(g, x, y) != i);
+}
+
+// The number that a fetch is refused by, in document 01's order; of a clash, where.
+static unsigned fetch_number(const struct game *g, size_t n, int i, int j, size_t room, bool ring, size_t clash[2]) {
+    if (g->record_refused) return g->record_refused;
+    if (g->refused) return g->refused;
+    if (n >= g->r.count) return 17;
+    if (plain_clash(&g->r, n, g->p, clash, clash + 1)) return 10;
+    if (ring && (g->w % g->banks || g->h % g->banks)) return 18;
+    for (size_t m = 0; !ring && m < g->r.used[n]; m++)
+        if (!inside(g, i + g->r.columns[64 * n + m], j + g->r.rows[64 * n + m])) return 14;
+    return room < g->r.used[n] ? 16 : 0;
+}
+
+static void fetch(const struct game *g, struct feed *f, bool ring) {
+    size_t n = number(f), room = byte(f) % 67, clash[2] = {0, 0}, used = 0;
+    int16_t i = coordinate(f), j = coordinate(f);
+    unsigned no = fetch_number(g, n, i, j, room, ring, clash);
+    uint16_t *out = lent(room * sizeof *out);
+    for (size_t m = 0; m < room; m++) out[m] = PAST;
+    TOLD(t, (ring ? bankplan_ring_fetch : bankplan_fetch)(RECORD(&g->r), PICTURE(g), n, i, j, out, room, answer));
+    if (no) {
+        must_refuse(t, no);
+        MUST(no != 10 || (t.row[1] == n && t.row[2] == clash[0] && t.row[3] == clash[1]));
+    } else {
+        used = g->r.used[n];
+        MUST(t.number == 0 && t.values == 1 && t.row[0] == used);
+    }
+    for (size_t m = 0; m < used; m++) {
+        int x = i + g->r.columns[64 * n + m], y = j + g->r.rows[64 * n + m];
+        if (ring) x = (int)floor_mod(x, g->w), y = (int)floor_mod(y, g->h);
+        MUST(out[m] == *pixel(g, x, y));
+    }
+    for (size_t m = used; m < room; m++) MUST(out[m] == PAST);
+    give_back(out, room * sizeof *out);
+}
+
+static void step(struct game *g, struct feed *f) {
+    switch (byte(f) % 8) {
+    case 0:
+    case 1: store(g, f); break;
+    case 2: load(g, f); break;
+    case 3: bank(g, f); break;
+    case 4: numbers(g, f); break;
+    case 5: locate(g, f); break;
+    case 6: fetch(g, f, false); break;
+    default: fetch(g, f, true);
+    }
+}
+
+// After the list: every word last stored in its place, the other words of the picture 0, the rest as at the start.
+static void after(const struct game *g) {
+    uint64_t sum = 0, stored = 0;
+    uint64_t picture = g->refused ? 0 : g->banks * g->depth;
+    for (uint32_t j = 0; picture && j < g->h; j++)
+        for (uint32_t i = 0; i < g->w; i++) {
+            stored += *pixel(g, i, j);
+            MUST(g->memory[plain_bank(g->p, i, j) * g->depth + plain_address(g, i, j)] == *pixel(g, i, j));
+        }
+    for (size_t k = 0; k < picture; k++) sum += g->memory[k];
+    MUST(sum == stored);
+    for (size_t k = g->banks * g->depth; k < g->words; k++) MUST(g->memory[k] == PAST);
+    for (size_t k = 0; g->refused == 13 && k < g->words; k++) MUST(g->memory[k] == 0);
+}
+
+int LLVMFuzzerTestOneInput(const uint8_t *data, size_t size) {
+    struct feed f = {data, size};
+    struct game g = {0};
+    unsigned how = byte(&f);
+    g.r = record_of(&f, !(how & 32));
+    g.record_refused = plain_test(&g.r);
+    choose_plan(&g, &f, how);
+    choose_sides(&g, &f, how);
+    choose_memory(&g, &f);
+    for (int steps = 0; f.left > 0 && steps < 200; steps++) step(&g, &f);
+    after(&g);
+    give_back(g.memory, g.words * sizeof *g.memory);
+    free(g.shadow);
+    drop_record(&g.r);
+    return 0;
+}
