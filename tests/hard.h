@@ -1,0 +1,89 @@
+// What the parts of the hard use test share: what is lent to a call, and what a call is given.
+#ifndef HARD_H
+#define HARD_H
+#include <stdbool.h>
+#include <stddef.h>
+#include <stdint.h>
+
+#include "../include/bankplan.h"
+
+// Everything that a call can be lent.
+enum slot { BOOK, COLUMNS, ROWS, USED, MEMORY, OUTPUT, ANSWER, SLOTS };
+
+// Where a lent buffer stands: up to a page that nobody may touch, from such a page on, or in a heap block of its size.
+enum way { END, BEGIN, HEAP };
+
+enum { SMALL = 8192, MOST_WORDS = 22 << 20 }; // bytes of a small slot; words of the largest picture's memory, and some
+
+// hard_lend.c
+void lend_by(enum way way);
+void lend(enum slot s, const void *content, size_t size, bool writable);
+void *lent(enum slot s);
+// Only valgrind sees these: bytes that the call must not go by, and whether bytes are made of such.
+void lent_unknown(enum slot s, size_t from, size_t to);
+bool lent_known(enum slot s, size_t from, size_t to);
+void lent_known_again(enum slot s);
+// Whether all but the bytes from `from` to `to` is as it was lent, and what stands around it too.
+bool lent_same(enum slot s, size_t from, size_t to);
+uint64_t lent_digest(enum slot s, uint64_t digest);
+void lend_end(enum slot s);
+
+// What a call is given. `room` is in elements, bytes for the writer and words for a fetch.
+struct input {
+    uint32_t a, b, d, w, h, limit;
+    uint64_t bank, address;
+    int16_t i, j, v[4];
+    uint16_t word;
+    size_t n, count;
+    uint8_t book[SMALL];
+    size_t book_length;
+    int8_t columns[1024], rows[1024];
+    size_t used[16];
+    size_t words, write_room, fetch_room;
+};
+
+struct range {
+    size_t from, to;
+};
+
+// One exported function: the numbers that it can give, how many values it tells, what it is lent, and which bytes of what it
+// is lent for writing may change where it was not refused.
+struct call {
+    const char *name;
+    unsigned numbers;
+    int values;
+    unsigned reads, writes;
+    uint64_t (*make)(const struct input *x);
+    struct range (*may_change)(enum slot s, const struct input *x, const uint64_t *answer);
+};
+
+// hard_calls.c
+#define BIT(n) (1u << (n))
+enum which {
+    NORMAL_FORM, BANK, DEPTH, ADDRESS, LOCATE, READ_BOOK, PATTERN_PART, WRITE_BOOK, TEST_RECORD,
+    FIND, CHECK, STORE, LOAD, CLEAR, SUM, FETCH, RING_FETCH, CALLS
+};
+enum { RECORD = BIT(COLUMNS) | BIT(ROWS) | BIT(USED) };
+extern const struct call calls[CALLS];
+size_t output_size(enum which c, const struct input *x);
+
+// hard.c
+void try_call(enum which c, const struct input *x);
+void try_all(const struct input *x);
+
+// hard_cases.c
+void all_cases(uint64_t how_many, bool large);
+
+// hard_input.c
+extern uint16_t *memory_words; // what stands in every memory that is lent
+void inputs_begin(uint64_t seed);
+uint64_t any_number(void); // edges, small ones, and any
+uint64_t below(uint64_t bound);
+void any_input(struct input *x);
+void hardest_record(struct input *x);
+void plain_book(struct input *x); // the record's bytes, where it is legal
+void damaged_book(struct input *x);
+bool is_picture(const struct input *x); // whether plan and sides are legal
+uint64_t depth_of(const struct input *x);
+uint64_t words_needed(const struct input *x);
+#endif

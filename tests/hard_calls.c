@@ -1,0 +1,106 @@
+// The exported functions: how each is called, and what it may say and change.
+#include "hard.h"
+
+#define RECORD_ARGUMENTS lent(COLUMNS), lent(ROWS), lent(USED), x->count
+#define PLAN_ARGUMENTS x->a, x->b, x->d
+#define SIDES x->w, x->h
+#define MEMORY_ARGUMENTS lent(MEMORY), x->words
+
+static uint64_t normal_form(const struct input *x) {
+    return bankplan_normal_form(x->v[0], x->v[1], x->v[2], x->v[3], lent(ANSWER));
+}
+static uint64_t bank(const struct input *x) { return bankplan_bank(PLAN_ARGUMENTS, x->i, x->j, lent(ANSWER)); }
+static uint64_t depth(const struct input *x) { return bankplan_depth(PLAN_ARGUMENTS, SIDES, lent(ANSWER)); }
+static uint64_t address(const struct input *x) {
+    return bankplan_address(PLAN_ARGUMENTS, SIDES, x->i, x->j, lent(ANSWER));
+}
+static uint64_t locate(const struct input *x) {
+    return bankplan_locate(PLAN_ARGUMENTS, SIDES, x->bank, x->address, lent(ANSWER));
+}
+static uint64_t read_book(const struct input *x) {
+    return bankplan_read_book(lent(BOOK), x->book_length, lent(COLUMNS), lent(ROWS), lent(USED), lent(ANSWER));
+}
+static uint64_t pattern_part(const struct input *x) {
+    return bankplan_pattern_part(lent(BOOK), x->book_length, x->n, lent(ANSWER));
+}
+static uint64_t write_book(const struct input *x) {
+    return bankplan_write_book(RECORD_ARGUMENTS, lent(OUTPUT), x->write_room, lent(ANSWER));
+}
+static uint64_t test_record(const struct input *x) { return bankplan_test_record(RECORD_ARGUMENTS, lent(ANSWER)); }
+static uint64_t find(const struct input *x) { return bankplan_find(RECORD_ARGUMENTS, x->limit, lent(ANSWER)); }
+static uint64_t check(const struct input *x) {
+    return bankplan_check(RECORD_ARGUMENTS, x->v[0], x->v[1], x->v[2], x->v[3], lent(ANSWER));
+}
+static uint64_t store(const struct input *x) {
+    return bankplan_store(PLAN_ARGUMENTS, SIDES, MEMORY_ARGUMENTS, x->i, x->j, x->word, lent(ANSWER));
+}
+static uint64_t load(const struct input *x) {
+    return bankplan_load(PLAN_ARGUMENTS, SIDES, MEMORY_ARGUMENTS, x->i, x->j, lent(ANSWER));
+}
+static uint64_t clear(const struct input *x) {
+    return bankplan_clear(PLAN_ARGUMENTS, SIDES, MEMORY_ARGUMENTS, x->bank, lent(ANSWER));
+}
+static uint64_t sum(const struct input *x) {
+    return bankplan_sum(PLAN_ARGUMENTS, SIDES, MEMORY_ARGUMENTS, x->bank, lent(ANSWER));
+}
+static uint64_t fetch(const struct input *x) {
+    return bankplan_fetch(RECORD_ARGUMENTS, PLAN_ARGUMENTS, SIDES, MEMORY_ARGUMENTS, x->n, x->i, x->j, lent(OUTPUT),
+                          x->fetch_room, lent(ANSWER));
+}
+static uint64_t ring_fetch(const struct input *x) {
+    return bankplan_ring_fetch(RECORD_ARGUMENTS, PLAN_ARGUMENTS, SIDES, MEMORY_ARGUMENTS, x->n, x->i, x->j, lent(OUTPUT),
+                               x->fetch_room, lent(ANSWER));
+}
+
+static struct range arrays(enum slot s, const struct input *x, const uint64_t *answer) {
+    (void)answer;
+    return (struct range){0, s == USED ? sizeof x->used : 1024};
+}
+static struct range written(enum slot s, const struct input *x, const uint64_t *answer) {
+    (void)s, (void)x;
+    return (struct range){0, answer[0]};
+}
+static struct range fetched(enum slot s, const struct input *x, const uint64_t *answer) {
+    (void)s, (void)x;
+    return (struct range){0, 2 * answer[0]};
+}
+static struct range one_word(enum slot s, const struct input *x, const uint64_t *answer) {
+    (void)s, (void)answer;
+    int64_t q = x->j / x->d, column = (x->i - x->b * q) % x->a;
+    uint64_t k = x->j % x->d * x->a + (column < 0 ? column + x->a : column);
+    uint64_t at = k * depth_of(x) + q * ((x->w + x->a - 1) / x->a) + x->i / x->a;
+    return (struct range){2 * at, 2 * at + 2};
+}
+static struct range one_bank(enum slot s, const struct input *x, const uint64_t *answer) {
+    (void)s, (void)answer;
+    return (struct range){2 * x->bank * depth_of(x), 2 * (x->bank + 1) * depth_of(x)};
+}
+
+enum {
+    IN_BOOK = BIT(1) | BIT(2) | BIT(3) | BIT(4) | BIT(5),
+    IN_RECORD = BIT(2) | BIT(3) | BIT(4),
+    IN_PICTURE = BIT(11) | BIT(12) | BIT(13),
+    IN_FETCH = IN_RECORD | IN_PICTURE | BIT(17) | BIT(10) | BIT(16),
+};
+
+const struct call calls[CALLS] = {
+    [NORMAL_FORM] = {"normal_form", BIT(0) | BIT(8) | BIT(9), 3, 0, 0, normal_form, NULL},
+    [BANK] = {"bank", BIT(0) | BIT(11), 1, 0, 0, bank, NULL},
+    [DEPTH] = {"depth", BIT(0) | BIT(11) | BIT(12), 1, 0, 0, depth, NULL},
+    [ADDRESS] = {"address", BIT(0) | BIT(11) | BIT(12) | BIT(14), 1, 0, 0, address, NULL},
+    [LOCATE] = {"locate", BIT(0) | BIT(11) | BIT(12) | BIT(15), 2, 0, 0, locate, NULL},
+    [READ_BOOK] = {"read_book", BIT(0) | IN_BOOK, 1, BIT(BOOK), RECORD, read_book, arrays},
+    [PATTERN_PART] = {"pattern_part", BIT(0) | IN_BOOK | BIT(17), 2, BIT(BOOK), 0, pattern_part, NULL},
+    [WRITE_BOOK] = {"write_book", BIT(0) | IN_RECORD | BIT(16), 1, RECORD, BIT(OUTPUT), write_book, written},
+    [TEST_RECORD] = {"test_record", BIT(0) | IN_RECORD, 0, RECORD, 0, test_record, NULL},
+    [FIND] = {"find", BIT(0) | IN_RECORD | BIT(6) | BIT(7), 3, RECORD, 0, find, NULL},
+    [CHECK] = {"check", BIT(0) | IN_RECORD | BIT(8) | BIT(9) | BIT(10), 4, RECORD, 0, check, NULL},
+    [STORE] = {"store", BIT(0) | IN_PICTURE | BIT(14), 0, 0, BIT(MEMORY), store, one_word},
+    [LOAD] = {"load", BIT(0) | IN_PICTURE | BIT(14), 1, BIT(MEMORY), 0, load, NULL},
+    [CLEAR] = {"clear", BIT(0) | IN_PICTURE | BIT(15), 0, 0, BIT(MEMORY), clear, one_bank},
+    [SUM] = {"sum", BIT(0) | IN_PICTURE | BIT(15), 1, BIT(MEMORY), 0, sum, NULL},
+    [FETCH] = {"fetch", BIT(0) | IN_FETCH | BIT(14), 1, RECORD | BIT(MEMORY), BIT(OUTPUT), fetch, fetched},
+    [RING_FETCH] = {"ring_fetch", BIT(0) | IN_FETCH | BIT(18), 1, RECORD | BIT(MEMORY), BIT(OUTPUT), ring_fetch, fetched},
+};
+
+size_t output_size(enum which c, const struct input *x) { return c == WRITE_BOOK ? x->write_room : 2 * x->fetch_room; }

@@ -1,0 +1,165 @@
+// The cases: edges one by one, then any inputs.
+#include <string.h>
+
+#include "hard.h"
+
+// The cross of five pixels.
+static void cross(struct input *x) {
+    static const int8_t columns[5] = {0, -1, 1, 0, 0}, rows[5] = {0, 0, 0, -1, 1};
+    memset(x, 0, sizeof *x);
+    memcpy(x->columns, columns, 5);
+    memcpy(x->rows, rows, 5);
+    x->used[0] = 5;
+    x->count = 1;
+}
+
+static void read_and_part(struct input *x) {
+    const size_t numbers[] = {0, x->count - 1, x->count, SIZE_MAX};
+    try_call(READ_BOOK, x);
+    for (int k = 0; k < 4; k++) {
+        x->n = numbers[k];
+        try_call(PATTERN_PART, x);
+    }
+}
+
+// A book cut at every length, and longer by one and two bytes.
+static void every_length(struct input *x, size_t step) {
+    plain_book(x);
+    size_t length = x->book_length;
+    for (x->book_length = 0; x->book_length <= length + 2; x->book_length += step) read_and_part(x);
+    for (x->book_length = length - 3; x->book_length <= length + 2; x->book_length++) read_and_part(x);
+    x->book_length = SMALL;
+    read_and_part(x);
+}
+
+// Every byte of a small book takes every value.
+static void every_byte(struct input *x) {
+    plain_book(x);
+    for (size_t at = 0; at < x->book_length; at++)
+        for (int value = 0; value < 256; value++) {
+            uint8_t kept = x->book[at];
+            x->book[at] = (uint8_t)value;
+            read_and_part(x);
+            x->book[at] = kept;
+        }
+}
+
+static void every_room(struct input *x, size_t most) {
+    for (x->write_room = 0; x->write_room <= most; x->write_room++) try_call(WRITE_BOOK, x);
+}
+
+static void limits_and_vectors(struct input *x) {
+    const uint32_t limits[] = {0, 1, 2, 4, 5, 6, 1023, 1024, 1025, 65536, UINT32_MAX};
+    const int16_t ends[] = {-32768, -32, -1, 0, 1, 31, 32, 1024, 1025, 32767};
+    for (int k = 0; k < 11; k++) {
+        x->limit = limits[k];
+        try_call(FIND, x);
+    }
+    for (int k = 0; k < 10000; k += 7) {
+        for (int m = 0, rest = k; m < 4; m++, rest /= 10) x->v[m] = ends[rest % 10];
+        try_call(NORMAL_FORM, x);
+        if (x->used[0] < 64 || k % 5 == 0) try_call(CHECK, x);
+    }
+}
+
+// Pixels, banks and addresses at their edges, under the plan and sides given.
+static void every_number(struct input *x) {
+    const int16_t ends[] = {-32768, -1, 0, 1, 4095, 4096, 32767};
+    const uint64_t places[] = {0, 1, 1023, 1024, 4095, (1u << 24) - 1, 1u << 24, 1ull << 32, UINT64_MAX};
+    for (int k = 0; k < 49; k++) {
+        x->i = ends[k % 7];
+        x->j = ends[k / 7];
+        try_call(BANK, x);
+        try_call(ADDRESS, x);
+    }
+    for (int k = 0; k < 81; k++) {
+        x->bank = places[k % 9];
+        x->address = places[k / 9];
+        try_call(LOCATE, x);
+    }
+    try_call(DEPTH, x);
+}
+
+// The calls on a picture, at its first and last pixel and bank, with a memory of just its size and one word less.
+static void every_memory_call(struct input *x, bool one_less) {
+    for (int k = 0; k < 4; k++) {
+        uint64_t needed = words_needed(x); // 0 where the plan is none
+        x->words = needed - (k == 3 && one_less && needed);
+        x->i = (int16_t)(k % 2 ? x->w - 1 : 0);
+        x->j = (int16_t)(k % 2 ? x->h - 1 : 0);
+        x->bank = k % 2 ? x->a * x->d - 1 : k == 2 ? x->a * x->d : 0;
+        for (int c = STORE; c <= RING_FETCH; c++) try_call(c, x);
+        if (!one_less && k == 1) return;
+    }
+}
+
+// 1024 banks in every shape, or in three of them; b as it may be, and at last one too large.
+static void every_shape(struct input *x, bool all) {
+    const uint32_t sides[] = {1, 4096, 7, 0, 4097};
+    cross(x);
+    x->fetch_room = 5;
+    for (x->d = 1; x->d <= 1024; x->d *= all ? 2 : 32) {
+        x->a = 1024 / x->d;
+        const uint32_t columns[] = {0, 1 % x->a, x->a / 2, x->a - 1, x->a};
+        for (int k = 0; k < 5; k += all ? 1 : 4) {
+            x->b = columns[k];
+            for (int m = 0; m < 25; m += 1 + k) {
+                x->w = sides[m % 5];
+                x->h = sides[m / 5];
+                every_number(x);
+            }
+            x->w = 1 + k, x->h = 5 - k;
+            every_memory_call(x, true);
+        }
+    }
+}
+
+// Fetches of the cross under its plan, of which the sides make a ring, with every room and positions at the ends.
+static void every_fetch(struct input *x) {
+    const int16_t ends[] = {-32768, -1, 0, 1, 9, 10, 4096, 32767};
+    cross(x);
+    x->a = 5, x->b = 2, x->d = 1, x->w = 10, x->h = 15;
+    x->words = words_needed(x);
+    for (int k = 0; k < 64; k++) {
+        x->i = ends[k % 8];
+        x->j = ends[k / 8];
+        for (x->fetch_room = 0; x->fetch_room <= 7; x->fetch_room++) {
+            try_call(FETCH, x);
+            try_call(RING_FETCH, x);
+        }
+    }
+}
+
+// Pictures of 4096 by 4096; the last has the largest memory that there is.
+static void large_pictures(struct input *x) {
+    const uint32_t plans[][3] = {{1, 0, 1}, {1024, 341, 1}, {1, 0, 1024}, {32, 7, 32}, {1023, 5, 1}};
+    cross(x);
+    x->fetch_room = 5;
+    x->w = x->h = 4096;
+    for (int k = 0; k < 5; k++) {
+        x->a = plans[k][0], x->b = plans[k][1], x->d = plans[k][2];
+        every_memory_call(x, false);
+    }
+}
+
+void all_cases(uint64_t how_many, bool large) {
+    static struct input x;
+    cross(&x);
+    every_length(&x, 1);
+    if (large) every_byte(&x);
+    every_room(&x, 20);
+    limits_and_vectors(&x);
+    hardest_record(&x);
+    every_length(&x, large ? 1 : 97);
+    if (large) every_room(&x, 2070);
+    if (large) limits_and_vectors(&x);
+    x.limit = 1024;
+    try_call(FIND, &x);
+    every_shape(&x, large);
+    every_fetch(&x);
+    if (large) large_pictures(&x);
+    for (uint64_t k = 0; k < how_many; k++) {
+        any_input(&x);
+        try_all(&x);
+    }
+}

@@ -1,0 +1,195 @@
+// Makes what the calls are given: legal things, things at the edges, and any numbers at all.
+#include <stdlib.h>
+#include <string.h>
+
+#include "hard.h"
+
+uint16_t *memory_words;
+static uint64_t state;
+
+static uint64_t next(void) {
+    state ^= state >> 12;
+    state ^= state << 25;
+    state ^= state >> 27;
+    return state * 0x2545f4914f6cdd1d;
+}
+
+uint64_t below(uint64_t bound) { return next() % bound; }
+
+void inputs_begin(uint64_t seed) {
+    state = seed;
+    if (memory_words) return;
+    memory_words = malloc(MOST_WORDS * sizeof *memory_words);
+    for (size_t k = 0; k < MOST_WORDS; k++) memory_words[k] = (uint16_t)(k * 40503 >> 3 | 1);
+}
+
+uint64_t any_number(void) {
+    static const uint64_t edges[] = {0, 1, 15, 16, 17, 63, 64, 65, 1023, 1024, 1025, 4095, 4096, 4097, 32767, 32768};
+    switch (below(5)) {
+    case 0: return edges[below(16)];
+    case 1: return below(40);
+    case 2: return (1ull << below(64)) - below(3) + 1;
+    case 3: return UINT64_MAX - below(3);
+    default: return next() >> below(64);
+    }
+}
+
+// A coordinate: near 0, at the ends of 16 bits, or any.
+static int16_t any_coordinate(void) {
+    switch (below(4)) {
+    case 0: return (int16_t)any_number();
+    case 1: return (int16_t)(below(2) ? 32767 - below(18) : below(18) - 32768);
+    default: return (int16_t)((int)below(40) - 4);
+    }
+}
+
+static void any_plan(struct input *x) {
+    if (below(4) == 0) {
+        x->a = (uint32_t)any_number();
+        x->b = (uint32_t)any_number();
+        x->d = (uint32_t)any_number();
+        return;
+    }
+    uint32_t most = below(3) ? 40 : 1024;
+    x->d = 1 + (uint32_t)below(below(2) ? most : 4);
+    x->a = 1 + (uint32_t)below(most / x->d > 0 ? most / x->d : 1);
+    x->b = (uint32_t)below(x->a + (below(8) == 0));
+}
+
+static uint32_t any_side(uint32_t banks) {
+    switch (below(8)) {
+    case 0: return (uint32_t)any_number();
+    case 1: return banks <= 24 ? banks * (1 + (uint32_t)below(2)) : 1;
+    case 2: return 1;
+    default: return 1 + (uint32_t)below(24);
+    }
+}
+
+bool is_picture(const struct input *x) {
+    bool plan = x->a >= 1 && x->d >= 1 && x->b < x->a && (uint64_t)x->a * x->d <= 1024;
+    return plan && x->w >= 1 && x->w <= 4096 && x->h >= 1 && x->h <= 4096;
+}
+
+uint64_t depth_of(const struct input *x) {
+    return (uint64_t)((x->w + x->a - 1) / x->a) * ((x->h + x->d - 1) / x->d);
+}
+
+uint64_t words_needed(const struct input *x) { return is_picture(x) ? x->a * x->d * depth_of(x) : 0; }
+
+// Sides, and a memory of just the size, of one word more or less, or of any small size.
+static void any_picture(struct input *x) {
+    uint32_t banks = x->a * x->d;
+    x->w = any_side(banks);
+    x->h = below(6) ? any_side(banks) : x->w;
+    uint64_t needed = words_needed(x);
+    if (needed > 1 << 15) needed = below(1 << 10); // large ones have cases of their own
+    switch (below(8)) {
+    case 0: x->words = needed ? needed - 1 : 0; break;
+    case 1: x->words = needed + 1 + below(9); break;
+    case 2: x->words = below(3) * below(200); break;
+    default: x->words = needed;
+    }
+    x->bank = below(3) ? below(banks ? banks : 1) : below(2) ? banks : any_number();
+    x->address = below(3) && is_picture(x) ? below(depth_of(x)) : any_number();
+}
+
+// Different pixels; the window's corners come often.
+static void any_pattern(struct input *x, size_t n, size_t used) {
+    int8_t *columns = x->columns + 64 * n, *rows = x->rows + 64 * n;
+    uint64_t side = used > 40 || below(3) == 0 ? 32 : 8;
+    for (size_t m = 0; m < used; m++) {
+        size_t k = 0;
+        columns[m] = (int8_t)(below(9) ? (int)below(side) - (int)side / 2 : below(2) ? 15 : -16);
+        rows[m] = (int8_t)(below(9) ? (int)below(side) - (int)side / 2 : below(2) ? 15 : -16);
+        while (k < m && (columns[k] != columns[m] || rows[k] != rows[m])) k++;
+        if (k < m) m--;
+    }
+    x->used[n] = used;
+}
+
+// Any bytes everywhere; what a legal record does not use stays so.
+static void noise(struct input *x) {
+    for (int k = 0; k < 1024; k++) x->columns[k] = (int8_t)next(), x->rows[k] = (int8_t)next();
+    for (int n = 0; n < 16; n++) x->used[n] = any_number();
+}
+
+static void any_record(struct input *x) {
+    noise(x);
+    if (below(6) == 0) {
+        x->count = any_number();
+        return;
+    }
+    bool large = below(60) == 0;
+    x->count = 1 + below(large ? 16 : 3);
+    for (size_t n = 0; n < x->count; n++) any_pattern(x, n, 1 + below(large ? 64 : 8));
+    size_t n = below(x->count), m = below(x->used[n]);
+    switch (below(12)) { // some damage
+    case 0: x->count = any_number(); break;
+    case 1: x->used[n] = any_number(); break;
+    case 2: x->columns[64 * n + m] = (int8_t)(below(2) ? 16 : -17); break;
+    case 3: x->rows[64 * n + m] = (int8_t)next(); break;
+    case 4: x->columns[64 * n + m] = x->columns[64 * n], x->rows[64 * n + m] = x->rows[64 * n]; break;
+    default: break;
+    }
+}
+
+// The window of 32 by 32 in 16 patterns, so that the finder has most to do.
+void hardest_record(struct input *x) {
+    x->count = 16;
+    for (int n = 0; n < 16; n++) x->used[n] = 64;
+    for (int k = 0; k < 1024; k++) {
+        x->columns[k] = (int8_t)(k % 32 - 16);
+        x->rows[k] = (int8_t)(k / 32 - 16);
+    }
+}
+
+void plain_book(struct input *x) {
+    size_t at = 0;
+    x->book[at++] = (uint8_t)x->count;
+    for (size_t n = 0; n < x->count && n < 16; n++) {
+        x->book[at++] = (uint8_t)x->used[n];
+        for (size_t m = 0; m < x->used[n] && m < 64; m++) {
+            x->book[at++] = (uint8_t)x->columns[64 * n + m];
+            x->book[at++] = (uint8_t)x->rows[64 * n + m];
+        }
+    }
+    x->book_length = at;
+}
+
+void damaged_book(struct input *x) {
+    size_t length = x->book_length;
+    switch (below(6)) {
+    case 0: x->book_length = below(length + 1); break;
+    case 1: x->book[below(length)] = (uint8_t)next(); break;
+    case 2: x->book[below(length)] ^= (uint8_t)(1 << below(8)); break;
+    case 3: x->book_length = length + 1 + below(SMALL - length); break;
+    case 4:
+        x->book_length = below(below(2) ? 40 : SMALL + 1);
+        for (size_t k = 0; k < x->book_length; k++) x->book[k] = (uint8_t)next();
+        break;
+    default: break;
+    }
+}
+
+// About as much room as is needed; less or more too.
+static size_t any_room(size_t needed, size_t most) {
+    size_t room = below(4) == 0 ? below(most) : needed + below(4) - 1;
+    return room > most ? 0 : room;
+}
+
+void any_input(struct input *x) {
+    any_record(x);
+    plain_book(x);
+    x->write_room = any_room(x->book_length, 3000);
+    damaged_book(x);
+    any_plan(x);
+    any_picture(x);
+    x->limit = (uint32_t)(below(2) ? below(40) : any_number());
+    x->i = any_coordinate();
+    x->j = any_coordinate();
+    for (int k = 0; k < 4; k++) x->v[k] = any_coordinate();
+    if (below(4) == 0) x->v[1] = 0;
+    x->word = (uint16_t)next();
+    x->n = below(4) ? below(3) : any_number();
+    x->fetch_room = any_room(x->n < 16 && x->used[x->n] <= 64 ? x->used[x->n] : 0, 100);
+}
