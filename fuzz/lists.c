@@ -40,7 +40,8 @@ static int16_t coordinate(struct feed *f) {
 
 // The same without a sign, up to 64 bits.
 static uint64_t number(struct feed *f) {
-    static const uint64_t edges[12] = {1023, 1024, 1025, 4095, 4096, 4097, 65535, 65536, UINT32_MAX, 1ull << 32, 1ull << 63, UINT64_MAX};
+    static const uint64_t edges[12] = {1023,  1024,  1025,       4095,       4096,       4097,
+                                       65535, 65536, UINT32_MAX, 1ull << 32, 1ull << 63, UINT64_MAX};
     unsigned x = byte(f);
     return x < 240 ? x : x < 252 ? edges[x - 240] : x < 254 ? two(f) : eight(f);
 }

@@ -27,7 +27,8 @@ static void ended(int signal_number) {
 }
 
 static void say_wrong(const char *what, uint64_t number) {
-    if (wrong++ < 20) fprintf(stderr, "hard use: wrong: %s, case %lu, number %lu: %s\n", now, (unsigned long)cases, (unsigned long)number, what);
+    if (wrong++ >= 20) return;
+    fprintf(stderr, "hard use: wrong: %s, case %lu, number %lu: %s\n", now, (unsigned long)cases, (unsigned long)number, what);
 }
 
 static void lend_all(const struct call *c, const struct input *x) {
