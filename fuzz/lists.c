@@ -211,8 +211,32 @@ static void fetch(const struct game *g, struct feed *f, bool ring) {
     give_back(out, room * sizeof *out);
 }
 
+// A list of pixel records: every bank and address filled in, or none changed.
+static void fill(const struct game *g, struct feed *f) {
+    unsigned no = g->refused == 13 ? 0 : g->refused;
+    size_t length = byte(f) % 9;
+    bankplan_pixel_record *list = lent(length * sizeof *list), before[9];
+    for (size_t k = 0; k < length; k++) {
+        before[k].column = coordinate(f);
+        before[k].row = coordinate(f);
+        before[k].bank = before[k].address = PAST;
+        if (!no && !inside(g, before[k].column, before[k].row)) no = 14;
+        list[k] = before[k];
+    }
+    TOLD(t, bankplan_fill_records(PLAN(g), g->w, g->h, list, length, answer));
+    if (no) must_refuse(t, no);
+    else MUST(t.number == 0 && t.values == 0);
+    for (size_t k = 0; k < length; k++) {
+        int i = before[k].column, j = before[k].row;
+        MUST(list[k].column == i && list[k].row == j);
+        MUST(list[k].bank == (no ? PAST : plain_bank(g->p, i, j)));
+        MUST(list[k].address == (no ? PAST : plain_address(g, i, j)));
+    }
+    give_back(list, length * sizeof *list);
+}
+
 static void step(struct game *g, struct feed *f) {
-    switch (byte(f) % 8) {
+    switch (byte(f) % 9) {
     case 0:
     case 1: store(g, f); break;
     case 2: load(g, f); break;
@@ -220,7 +244,8 @@ static void step(struct game *g, struct feed *f) {
     case 4: numbers(g, f); break;
     case 5: locate(g, f); break;
     case 6: fetch(g, f, false); break;
-    default: fetch(g, f, true);
+    case 7: fetch(g, f, true); break;
+    default: fill(g, f);
     }
 }
 

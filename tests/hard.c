@@ -43,6 +43,7 @@ static void lend_all(const struct call *c, const struct input *x) {
         [BOOK] = {x->book, x->book_length},       [COLUMNS] = {x->columns, sizeof x->columns},
         [ROWS] = {x->rows, sizeof x->rows},       [USED] = {x->used, sizeof x->used},
         [MEMORY] = {memory_words, 2 * x->words},  [OUTPUT] = {before, room},
+        [LIST] = {x->list, x->list_length * sizeof *x->list},
         [ANSWER] = {untouched, sizeof untouched},
     };
     for (int s = 0; s < SLOTS; s++)
@@ -61,6 +62,8 @@ static void make_unknown(const struct call *c, const struct input *x) {
         lent_unknown(COLUMNS, 64 * n + used, used < 64 ? 64 * n + 64 : 0);
         lent_unknown(ROWS, 64 * n + used, used < 64 ? 64 * n + 64 : 0);
     }
+    for (size_t k = 0; c->writes & BIT(LIST) && k < x->list_length; k++)
+        lent_unknown(LIST, k * sizeof *x->list + offsetof(bankplan_pixel_record, bank), (k + 1) * sizeof *x->list);
     uint64_t needed = words_needed(x);
     if ((c->reads | c->writes) & BIT(MEMORY) && is_picture(x)) lent_unknown(MEMORY, 2 * needed, 2 * x->words);
 }

@@ -8,7 +8,7 @@
 #include "../include/bankplan.h"
 
 // Everything that a call can be lent.
-enum slot { BOOK, COLUMNS, ROWS, USED, MEMORY, OUTPUT, ANSWER, SLOTS };
+enum slot { BOOK, COLUMNS, ROWS, USED, MEMORY, OUTPUT, LIST, ANSWER, SLOTS };
 
 // Where a lent buffer stands: up to a page that nobody may touch, from such a page on, or in a heap block of its size.
 enum way { END, BEGIN, HEAP };
@@ -40,6 +40,8 @@ struct input {
     int8_t columns[1024], rows[1024];
     size_t used[16];
     size_t words, write_room, fetch_room;
+    bankplan_pixel_record list[100];
+    size_t list_length;
 };
 
 struct range {
@@ -61,7 +63,7 @@ struct call {
 #define BIT(n) (1u << (n))
 enum which {
     NORMAL_FORM, BANK, DEPTH, ADDRESS, LOCATE, READ_BOOK, PATTERN_PART, WRITE_BOOK, TEST_RECORD,
-    FIND, CHECK, STORE, LOAD, CLEAR, SUM, FETCH, RING_FETCH, CALLS
+    FIND, CHECK, STORE, LOAD, CLEAR, SUM, FETCH, RING_FETCH, FILL_RECORDS, CALLS
 };
 enum { RECORD = BIT(COLUMNS) | BIT(ROWS) | BIT(USED) };
 extern const struct call calls[CALLS];

@@ -52,6 +52,23 @@ static uint64_t ring_fetch(const struct input *x) {
                                x->fetch_room, lent(ANSWER));
 }
 
+// Whether a record has the bank and address that the calls for one pixel tell.
+static bool is_filled(const struct input *x, bankplan_pixel_record r) {
+    uint64_t k[4] = {0}, at[4] = {0};
+    return bankplan_bank(PLAN_ARGUMENTS, r.column, r.row, k) == 0 && r.bank == k[0] &&
+           bankplan_address(PLAN_ARGUMENTS, SIDES, r.column, r.row, at) == 0 && r.address == at[0];
+}
+// 99, which no call gives, if a column or a row changed or a record is not filled.
+static uint64_t fill_records(const struct input *x) {
+    const bankplan_pixel_record *list = lent(LIST);
+    uint64_t number = bankplan_fill_records(PLAN_ARGUMENTS, SIDES, lent(LIST), x->list_length, lent(ANSWER));
+    for (size_t k = 0; k < x->list_length; k++) {
+        if (list[k].column != x->list[k].column || list[k].row != x->list[k].row) return 99;
+        if (number == 0 && !is_filled(x, list[k])) return 99;
+    }
+    return number;
+}
+
 static struct range arrays(enum slot s, const struct input *x, const uint64_t *answer) {
     (void)answer;
     return (struct range){0, s == USED ? sizeof x->used : 1024};
@@ -74,6 +91,10 @@ static struct range one_word(enum slot s, const struct input *x, const uint64_t 
 static struct range one_bank(enum slot s, const struct input *x, const uint64_t *answer) {
     (void)s, (void)answer;
     return (struct range){2 * x->bank * depth_of(x), 2 * (x->bank + 1) * depth_of(x)};
+}
+static struct range records(enum slot s, const struct input *x, const uint64_t *answer) {
+    (void)s, (void)answer;
+    return (struct range){0, x->list_length * sizeof *x->list};
 }
 
 enum {
@@ -101,6 +122,7 @@ const struct call calls[CALLS] = {
     [SUM] = {"sum", BIT(0) | IN_PICTURE | BIT(15), 1, BIT(MEMORY), 0, sum, NULL},
     [FETCH] = {"fetch", BIT(0) | IN_FETCH | BIT(14), 1, RECORD | BIT(MEMORY), BIT(OUTPUT), fetch, fetched},
     [RING_FETCH] = {"ring_fetch", BIT(0) | IN_FETCH | BIT(18), 1, RECORD | BIT(MEMORY), BIT(OUTPUT), ring_fetch, fetched},
+    [FILL_RECORDS] = {"fill_records", BIT(0) | BIT(11) | BIT(12) | BIT(14), 0, 0, BIT(LIST), fill_records, records},
 };
 
 size_t output_size(enum which c, const struct input *x) { return c == WRITE_BOOK ? x->write_room : 2 * x->fetch_room; }

@@ -130,6 +130,23 @@ static void every_fetch(struct input *x) {
     }
 }
 
+// Lists of every length, all inside, and with a pixel outside at every place.
+static void every_list(struct input *x) {
+    cross(x);
+    x->a = 6, x->b = 4, x->d = 2, x->w = 100, x->h = 4096;
+    for (x->list_length = 0; x->list_length < 100; x->list_length++) {
+        bankplan_pixel_record *last = &x->list[x->list_length], kept = {(int16_t)x->list_length, 4095, 7, 7};
+        try_call(FILL_RECORDS, x);
+        *last = kept;
+    }
+    for (size_t k = 0; k < x->list_length; k++) {
+        int16_t column = x->list[k].column;
+        x->list[k].column = k % 2 ? -1 : 100;
+        try_call(FILL_RECORDS, x);
+        x->list[k].column = column;
+    }
+}
+
 // Pictures of 4096 by 4096; the last has the largest memory that there is.
 static void large_pictures(struct input *x) {
     const uint32_t plans[][3] = {{1, 0, 1}, {1024, 341, 1}, {1, 0, 1024}, {32, 7, 32}, {1023, 5, 1}};
@@ -157,6 +174,7 @@ void all_cases(uint64_t how_many, bool large) {
     try_call(FIND, &x);
     every_shape(&x, large);
     every_fetch(&x);
+    every_list(&x);
     if (large) large_pictures(&x);
     for (uint64_t k = 0; k < how_many; k++) {
         any_input(&x);

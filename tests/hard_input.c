@@ -171,6 +171,18 @@ void damaged_book(struct input *x) {
     }
 }
 
+// Mostly pixels inside, so that many lists are filled.
+static void any_list(struct input *x) {
+    bool inside = below(3) > 0 && is_picture(x);
+    x->list_length = below(5) ? below(12) : below(101);
+    for (size_t k = 0; k < x->list_length; k++) {
+        x->list[k].column = inside ? (int16_t)below(x->w) : any_coordinate();
+        x->list[k].row = inside ? (int16_t)below(x->h) : any_coordinate();
+        x->list[k].bank = (uint32_t)next();
+        x->list[k].address = (uint32_t)next();
+    }
+}
+
 // About as much room as is needed; less or more too.
 static size_t any_room(size_t needed, size_t most) {
     size_t room = below(4) == 0 ? below(most) : needed + below(4) - 1;
@@ -184,6 +196,7 @@ void any_input(struct input *x) {
     damaged_book(x);
     any_plan(x);
     any_picture(x);
+    any_list(x);
     x->limit = (uint32_t)(below(2) ? below(40) : any_number());
     x->i = any_coordinate();
     x->j = any_coordinate();
