@@ -16,21 +16,17 @@ use Rattle.scope.specs.declared.Refusal.the-variants.{Ends, Count, Coordinate, 
 use Rattle.scope.specs.declared.Refusal.the-variants.{Unsuited, NotPlan, Sides, Memory, Outside, Cell, Output, NoPattern, Ring}
 use Rattle.text.specs.Texts.{textOf}
 use Rattle.text.proofs.Digits.{digits-at-most}
+use Rattle.text.proofs.Puts.{joined}
 
 -- A refusal's line without its end.
 abbrev pub refusedPart : Refusal → List ℕ
 refusedPart r = ascii "refused " ++ decimal (numberOf r)
 
-pub refused-line-is : (r : Refusal) → refusedLine r ≡ refusedPart r ++ (10 ∷ [])
+pub refused-line-is : (r : Refusal) → refusedLine r ≡ joined (refusedPart r ∷ (10 ∷ []) ∷ [])
 unfolding refusedLine
 refused-line-is r = sym (append-assoc (ascii "refused ") (decimal (numberOf r)) (10 ∷ []))
 
-regroup :
-    (a b c d e f g h i : List ℕ)
-    → a ++ b ++ c ++ d ++ e ++ f ++ g ++ h ++ i ≡ ((((a ++ b) ++ (c ++ d)) ++ (e ++ f)) ++ (g ++ h)) ++ i
-regroup a b c d e f g h i = simp append-assoc
-
--- A plan's numbers with the words before them, and its lines up to each of them.
+-- A plan's numbers with the words before them, and the parts of its lines after each of them.
 module _ (p : Plan) where
   abbrev pub banksPart : List ℕ
   banksPart = ascii "banks " ++ decimal (p .a * p .d)
@@ -44,20 +40,21 @@ module _ (p : Plan) where
   abbrev pub dPart : List ℕ
   dPart = ascii " " ++ decimal (p .d)
 
-  abbrev pub upToA : List ℕ
-  upToA = banksPart ++ aPart
+  abbrev pub afterD : List (List ℕ)
+  afterD = (10 ∷ []) ∷ []
 
-  abbrev pub upToB : List ℕ
-  upToB = upToA ++ bPart
+  abbrev pub afterB : List (List ℕ)
+  afterB = dPart ∷ afterD
 
-  abbrev pub upToD : List ℕ
-  upToD = upToB ++ dPart
+  abbrev pub afterA : List (List ℕ)
+  afterA = bPart ∷ afterB
 
-  pub plan-lines-are : planLines p ≡ upToD ++ (10 ∷ [])
+  abbrev pub afterBanks : List (List ℕ)
+  afterBanks = aPart ∷ afterA
+
+  pub plan-lines-are : planLines p ≡ joined (banksPart ∷ afterBanks)
   unfolding planLines
-  plan-lines-are =
-      regroup (ascii "banks ") (decimal (banks p)) (ascii "\nplan ") (decimal (p .a)) (ascii " ") (decimal (p .b)) (ascii " ")
-      (decimal (p .d)) (ascii "\n")
+  plan-lines-are = simp append-assoc
 
 -- The product of two numbers of 32 bits has at most 64.
 pub product-below : (a d : ℕ) → a < 2 ^ 32 → d < 2 ^ 32 → a * d < 2 ^ 64

@@ -4,12 +4,13 @@ use Prim.Native.Nat.{ℕ, _+_, _<_}
 use native.Mathlib.Omega.{arith}
 use mathlib.Core.Path.{_∙_}
 use mathlib.Core.Logic.{⊎-elim}
+use mathlib.Core.List.{[], _∷_}
 use lib.ListN.{set, length-set}
 use borrow.Fn.Kinds.{In}
 use borrow.Fn.PlainCycle.{Measures, is, falls, and}
 use Rattle.scope.specs.Program.{decimal}
 use Rattle.text.proofs.Digits.{lastDigit, length-of-more}
-use Rattle.text.proofs.Puts.{PutTo, ButLastPut, none-put, front-put, room-for-last, last-put}
+use Rattle.text.proofs.Puts.{PutTo, PutBut, none-put, front-put, room-for-last, last-put}
 use Rattle.text.proofs.lines.put_decimal.Reads as reads
 use Rattle.text.proofs.lines.put_decimal.Kinds as kinds
 use Rattle.text.proofs.lines.+put_decimal.Lts-put_decimal as lts
@@ -33,20 +34,22 @@ put-decimal-requires t c κs =
 
 -- after the branch all digits but the last are put, and with the last all are
 module _ (t : ℕ) (c : lts.Joined1 (below t, reads.Post) (at t) reads.Post) where
-  but-last : ButLastPut (c .before .before .args .n) (c .if1 .at) (c .before .before .args .out .now) (c .if1 .out)
+  but-last :
+      let s = c .before .before .args in
+      PutBut (decimal (s .n)) ((lastDigit (s .n) ∷ []) ∷ []) (c .if1 .at) (s .out .now) (c .if1 .out)
   but-last =
       let s = c .before .before in
       let n = s .args .n in
       let before = s .args .out .now in
       ⊎-elim
-      (λ w. rw (w .5, w .6) (front-put n before _ _ (w .0 .taken) (s .pre .1) (w .2 .ensures)))
-      (λ w. rw (w .1, w .2) (none-put n before (w .0 .left)))
+      (λ w. rw (w .5, w .6) (front-put n before (s .pre .1) (w .0 .taken) (w .2 .ensures)))
+      (λ w. rw (w .1, w .2) (none-put n before (s .pre .1) (w .0 .left)))
       (c .if1 .came)
 
   all-digits :
       let s = c .before .before .args in
       PutTo (decimal (s .n)) (c .if1 .at + 1) (s .out .now) (set (c .if1 .out) (c .if1 .at) (lastDigit (s .n)))
-  all-digits = last-put but-last (c .before .before .pre .1)
+  all-digits = last-put but-last
 
 add-out : (t : ℕ) → lts.Need-add-out (below t, reads.Post) (at t) reads.Post
 add-out t c = omega arith
@@ -55,7 +58,7 @@ cast-out : (t : ℕ) → lts.Need-cast-out (below t, reads.Post) (at t) reads.Po
 cast-out t c = omega arith
 
 slice-write-out : (t : ℕ) → lts.Need-slice-write-out (below t, reads.Post) (at t) reads.Post
-slice-write-out t c = room-for-last (but-last t c) (c .before .before .pre .1)
+slice-write-out t c = room-for-last (but-last t c)
 
 add-result : (t : ℕ) → lts.Need-add-result (below t, reads.Post) (at t) reads.Post
 add-result t c = omega (arith, all-digits t (c .before) .place, c .before .before .before .pre .1)

@@ -2,55 +2,51 @@
 -- Assumes nothing.
 use Prim.Native.Nat.{_+_}
 use native.Mathlib.Omega.{arith}
-use mathlib.Core.List.{_++_}
+use mathlib.Core.Path.{sym, ap}
+use mathlib.Core.List.{[], _∷_, _++_, append-nil}
 use borrow.Author.Needs.{needs}
 use Rattle.scope.specs.Program.{decimal}
-use Rattle.text.proofs.Puts.{PutTo, withPart, first-fits, called-put, part-starts, room-in-part, bytes-put}
+use Rattle.text.proofs.Puts.{RoomFor, PutTo, PutBut, withPart, first-part-fits, first-part-put}
+use Rattle.text.proofs.Puts.{part-starts, room-in-part, next-part-put, whole-put}
 use Rattle.text.proofs.lines.put_number.Statement.{statement}
 use Rattle.text.proofs.lines.put_number.Tie as tie
 
-put-bytes-requires : tie.Need-put-bytes-requires
-put-bytes-requires c κs =
-    let u = c .before .before .before in
-    first-fits (u .args .s .now) (decimal (u .args .n)) (u .pre)
+-- there is room for the bytes and the digits
+room-for-both :
+    (u : tie.Start)
+    → RoomFor (u .args .s .now ++ decimal (u .args .n)) (u .args .s .now ∷ decimal (u .args .n) ∷ []) (u .args .out .now)
+room-for-both u = record { is = ap (u .args .s .now ++_) (sym (append-nil (decimal (u .args .n)))); room = u .pre }
 
--- after the first call the bytes are put
+put-bytes-requires : tie.Need-put-bytes-requires
+put-bytes-requires c κs = first-part-fits (room-for-both (c .before .before .before))
+
+-- after the first call the digits are left
 bytes-first :
     (c : tie.After-put-bytes)
-    → PutTo (c .before .before .before .before .args .s .now) (c .put-bytes .result)
-    (c .before .before .before .before .args .out .now) (c .put-bytes .last .1 .0)
-bytes-first c = called-put _ _ _ _ (put-bytes-requires (c .before) (c .put-bytes .lifetimes)) (c .put-bytes .ensures)
+    → let u = c .before .before .before .before .args in
+    PutBut (u .s .now ++ decimal (u .n)) (decimal (u .n) ∷ []) (c .put-bytes .result) (u .out .now) (c .put-bytes .last .1 .0)
+bytes-first c = first-part-put (room-for-both (c .before .before .before .before)) (c .put-bytes .ensures)
 
 sub-put-decimal : tie.Need-sub-put-decimal
-sub-put-decimal c =
-    let b = c .before .before in
-    let u = b .before .before .before .before in
-    part-starts (bytes-first b) (decimal (u .args .n)) (u .pre)
+sub-put-decimal c = part-starts (bytes-first (c .before .before))
 
 part-put-decimal-start : tie.Need-part-put-decimal-start
-part-put-decimal-start c = omega (arith, sub-put-decimal c)
+part-put-decimal-start c = sub-put-decimal c
 
 part-put-decimal-end : tie.Need-part-put-decimal-end
 part-put-decimal-end c = search needs
 
 put-decimal-requires : tie.Need-put-decimal-requires
-put-decimal-requires c κs =
-    let b = c .before .before .before in
-    let u = b .before .before .before .before in
-    room-in-part (bytes-first b) (decimal (u .args .n)) (u .pre)
+put-decimal-requires c κs = room-in-part (bytes-first (c .before .before .before))
 
--- after the second the digits too
+-- after the second nothing
 both-put :
     (c : tie.After-put-decimal)
     → let b = c .before .before .before .before in
     let u = b .before .before .before .before .args in
     PutTo (u .s .now ++ decimal (u .n)) (b .put-bytes .result + c .put-decimal .result) (u .out .now)
     (withPart (b .put-bytes .result) (b .put-bytes .last .1 .0) (c .put-decimal .last .1 .0))
-both-put c =
-    let b = c .before .before .before .before in
-    let u = b .before .before .before .before in
-    bytes-put (bytes-first b) (decimal (u .args .n)) (u .pre) (c .put-decimal .last .1 .0) (c .put-decimal .result)
-    (c .put-decimal .ensures)
+both-put c = whole-put (next-part-put (bytes-first (c .before .before .before .before)) (c .put-decimal .ensures))
 
 add-result : tie.Need-add-result
 add-result c =

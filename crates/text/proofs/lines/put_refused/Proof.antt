@@ -1,12 +1,10 @@
 -- `text::lines::put_refused` meets its contract: the word and the number are put, and then the line's end.
 -- Assumes nothing.
-use Prim.Native.Nat.{_+_, _≤_}
 use native.Mathlib.Omega.{arith}
 use mathlib.Core.List.{[], _∷_, _++_}
-use lib.ListN.{length, set}
 use borrow.Author.Needs.{needs}
 use Rattle.scope.specs.Program.{ascii, refusedLine}
-use Rattle.text.proofs.Puts.{PutTo, first-fits, called-put, room-for-byte, byte-put}
+use Rattle.text.proofs.Puts.{RoomFor, PutBut, first-part-fits, first-part-put, room-for-last, last-put}
 use Rattle.text.proofs.Texts.{refusedPart, refused-line-is}
 use Rattle.text.proofs.lines.put_refused.Statement.{statement}
 use Rattle.text.proofs.lines.put_refused.Tie as tie
@@ -18,48 +16,37 @@ number-of-requires : tie.Need-number-of-requires
 number-of-requires c κs = search needs
 
 -- there is room for the line
-room : (u : tie.Start) → length (refusedPart (u .args .r) ++ (10 ∷ [])) ≤ length (u .args .out .now)
-room u = rw (refused-line-is (u .args .r)) at (u .pre)
+room-for-line :
+    (u : tie.Start)
+    → RoomFor (refusedLine (u .args .r)) (refusedPart (u .args .r) ∷ (10 ∷ []) ∷ []) (u .args .out .now)
+room-for-line u = record { is = refused-line-is (u .args .r); room = u .pre }
 
 put-number-requires : tie.Need-put-number-requires
 unfolding ascii
 put-number-requires c κs =
-    let u = c .before .before .before .before in
-    rw (c .before .number-of .ensures) (first-fits (refusedPart (u .args .r)) (10 ∷ []) (room u))
+    rw (c .before .number-of .ensures) (first-part-fits (room-for-line (c .before .before .before .before)))
 
--- after the call the line without its end is put
+-- after the call the line is put but for its end
 number-put :
     (c : tie.After-put-number)
     → let u = c .before .before .before .before .before .args in
-    PutTo (refusedPart (u .r)) (c .put-number .result) (u .out .now) (c .put-number .last .1 .1 .0)
+    PutBut (refusedLine (u .r)) ((10 ∷ []) ∷ []) (c .put-number .result) (u .out .now) (c .put-number .last .1 .1 .0)
 unfolding ascii
 number-put c =
-    let u = c .before .before .before .before .before in
-    called-put (refusedPart (u .args .r)) _ _ _ (first-fits (refusedPart (u .args .r)) (10 ∷ []) (room u))
+    first-part-put (room-for-line (c .before .before .before .before .before))
     (rw (c .before .before .number-of .ensures) at (c .put-number .ensures))
 
 slice-write-out : tie.Need-slice-write-out
-slice-write-out c =
-    let p = c .before .before in
-    room-for-byte (number-put p) 10 (room (p .before .before .before .before .before))
-
--- and with its end the line
-line-put :
-    (c : tie.After-put-number)
-    → let u = c .before .before .before .before .before .args in
-    PutTo (refusedLine (u .r)) (c .put-number .result + 1) (u .out .now) (set (c .put-number .last .1 .1 .0) (c .put-number .result) 10)
-line-put c =
-    let u = c .before .before .before .before .before in
-    rw (refused-line-is (u .args .r)) (byte-put (number-put c) 10 (room u))
+slice-write-out c = room-for-last (number-put (c .before .before))
 
 add-result : tie.Need-add-result
-add-result c = omega (arith, line-put (c .before .before) .place, c .before .before .before .before .before .before .before .pre)
+add-result c = omega (arith, room-for-last (number-put (c .before .before)))
 
 same-length : tie.Need-same-length
 same-length c = search needs
 
 returns : tie.Need-returns
-returns c = (line-put (c .before .before) .place, line-put (c .before .before) .put .is)
+returns c = let p = last-put (number-put (c .before .before)) in (p .place, p .put .is)
 
 pub put-refused-spec : {M : Type 1} → statement M
 put-refused-spec =
