@@ -6,8 +6,8 @@ use mathlib.Core.Path.{_≡_, refl}
 use native.Mathlib.Omega.{arith}
 use native.Mathlib.Nat.{div-le-self, mul-le-mul}
 use lib.IntN.{ℤ, pos, negsuc, negℤ, natAbs, _+ℤ_, _-ℤ_, _*ℤ_}
-use mir.Syntax.{Width}
-use mir.Val.{SFits, hbits}
+use mir.Syntax.{Width, w64}
+use mir.Val.{Fits, SFits, hbits}
 use Rattle.integers.specs.Division.{floorDiv}
 use Rattle.integers.proofs.Integers.{Difference, above, below, own-parts, same-difference, parts-add, parts-neg, size-of-neg, size-of-product}
 
@@ -38,6 +38,11 @@ size-of-difference x y = omega (arith, size-of-sum x (negℤ y), size-of-neg y)
 
 pub size-of-product-at-most : (m n : ℕ) (x y : ℤ) → natAbs x ≤ m → natAbs y ≤ n → natAbs (x *ℤ y) ≤ m * n
 size-of-product-at-most m n x y h k = omega (arith, size-of-product x y, mul-le-mul {n₂ = m} {m₂ = n} h k)
+
+-- The product of two numbers of 32 bits fits 64.
+pub product-fits-64 : (m n : ℕ) → m < 2 ^ 32 → n < 2 ^ 32 → Fits w64 (m * n)
+product-fits-64 m n h k =
+    record { fits = omega (arith, mul-le-mul {n₁ = m} {m₁ = n} {n₂ = 4294967295} {m₂ = 4294967295} (omega arith) (omega arith)) }
 
 -- rounding down does not raise the size
 pub size-of-quotient : (z : ℤ) (d : ℕ) → natAbs (floorDiv z d) ≤ natAbs z

@@ -2,10 +2,10 @@
 -- Assumes nothing.
 use Prim.Native.Nat.{ℕ, _*_, _^_, _≤_, _<_}
 use native.Mathlib.Omega.{arith}
-use native.Mathlib.Nat.{mul-le-mul}
 use mathlib.Core.Path.{_≡_, sym}
 use mathlib.Core.List.{List, [], _∷_, _++_, append-assoc}
 use lib.ListN.{length, replicate, length-append}
+use Rattle.integers.proofs.Sizes.{product-fits-64}
 use Rattle.scope.specs.Plans.{banks}
 use Rattle.scope.specs.Banks.{overStart}
 use Rattle.scope.specs.Numbers.{numberOf}
@@ -56,12 +56,6 @@ module _ (p : Plan) where
   unfolding planLines
   plan-lines-are = simp append-assoc
 
--- The product of two numbers of 32 bits has at most 64.
-pub product-below : (a d : ℕ) → a < 2 ^ 32 → d < 2 ^ 32 → a * d < 2 ^ 64
-product-below a d h k =
-    let most : a * d ≤ 4294967295 * 4294967295 = mul-le-mul {n₂ = 4294967295} {m₂ = 4294967295} (omega arith) (omega arith) in
-    omega arith
-
 -- A plan's lines have at most 65 bytes.
 pub plan-lines-at-most : (p : Plan) → p .a < 2 ^ 32 → p .b < 2 ^ 32 → p .d < 2 ^ 32 → length (planLines p) ≤ 65
 unfolding ascii
@@ -70,7 +64,7 @@ plan-lines-at-most p ha hb hd =
     (simp length-append
     (omega (
       arith,
-      digits-at-most 19 (p .a * p .d) (omega (arith, product-below (p .a) (p .d) ha hd)),
+      digits-at-most 19 (p .a * p .d) (omega (arith, product-fits-64 (p .a) (p .d) ha hd .fits)),
       digits-at-most 9 (p .a) (omega arith),
       digits-at-most 9 (p .b) (omega arith),
       digits-at-most 9 (p .d) (omega arith),

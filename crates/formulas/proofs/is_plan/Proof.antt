@@ -1,9 +1,9 @@
 -- `formulas::is_plan` meets its contract: each return is where one of the plan's conditions fails; a × d is formed at 64 bits.
 -- Assumes nothing.
-use native.Mathlib.Nat.{mul-le-mul}
 use native.Mathlib.Omega.{arith}
 use mathlib.Core.Bool.{and-false}
 use borrow.Author.Tests.{lt-ltb, le-ltb, lt-leb, le-leb}
+use Rattle.integers.proofs.Sizes.{product-fits-64}
 use Rattle.formulas.proofs.is_plan.Statement.{statement}
 use Rattle.formulas.proofs.is_plan.Tie as tie
 
@@ -16,9 +16,7 @@ returns-2 c =
     simp (le-leb 1 (v .a) (omega arith), lt-leb 1 (v .d) (omega arith))
 
 mul-result : tie.Need-mul-result
-mul-result c =
-    let v = c .before .before .args in
-    record { fits = omega (arith, mul-le-mul {n₁ = v .a} {m₁ = v .d} {n₂ = 4294967295} {m₂ = 4294967295} (omega arith) (omega arith)) }
+mul-result c = product-fits-64 _ _ (omega arith) (omega arith)
 
 returns-3 : tie.Need-returns-3
 returns-3 c =

@@ -5,11 +5,12 @@ use Prim.Native.Nat.{ℕ, _+_}
 use native.Mathlib.Omega.{arith}
 use mathlib.Core.List.{List, _∷_}
 use borrow.Author.Needs.{needs}
+use Rattle.integers.proofs.Sizes.{product-fits-64}
 use Rattle.scope.specs.Program.{ascii, planLines}
 use Rattle.scope.specs.declared.Plan.{Plan}
 use Rattle.text.proofs.Puts.{RoomFor, PutBut, withPart, first-part-fits, first-part-put, ends-inside}
 use Rattle.text.proofs.Puts.{part-starts, room-in-part, next-part-put, room-for-last, last-put}
-use Rattle.text.proofs.Texts.{banksPart, afterBanks, afterA, afterB, afterD, plan-lines-are, product-below}
+use Rattle.text.proofs.Texts.{banksPart, afterBanks, afterA, afterB, afterD, plan-lines-are}
 use Rattle.text.proofs.lines.put_plan.Statement.{statement}
 use Rattle.text.proofs.lines.put_plan.Tie as tie
 
@@ -26,11 +27,19 @@ slice-aggregate-put-number : tie.Need-slice-aggregate-put-number
 slice-aggregate-put-number c = search needs
 
 mul-put-number : tie.Need-mul-put-number
-mul-put-number c = record { fits = product-below _ _ (omega arith) (omega arith) }
+mul-put-number c = product-fits-64 _ _ (omega arith) (omega arith)
+
+-- the call, how many bytes were put, and what the output is then
+abbrev Standing : Type 0
+Standing = tie.Start × ℕ × List ℕ
 
 -- the plan's lines were put but for the parts after one of its numbers
-abbrev Left : tie.Start → (Plan → List (List ℕ)) → ℕ → List ℕ → Type 0
-Left u parts at out = PutBut (planLines (u .args .p)) (parts (u .args .p)) at (u .args .out .now) out
+abbrev Left : (Plan → List (List ℕ)) → Standing → Type 0
+Left parts (u, at, out) = PutBut (planLines (u .args .p)) (parts (u .args .p)) at (u .args .out .now) out
+
+-- and k more to the part after them
+abbrev more : Standing → ℕ → List ℕ → Standing
+more (u, at, out) k part = (u, at + k, withPart at out part)
 
 -- there is room for them
 room-for-lines :
@@ -44,18 +53,12 @@ put-number-requires c κs = first-part-fits (room-for-lines (c .before .before .
 
 -- the first call puts the count of banks
 module _ (c : tie.After-put-number) where
-  abbrev start₁ : tie.Start
-  start₁ = c .before .before .before .before .before .before .before
+  abbrev stands₁ : Standing
+  stands₁ = (c .before .before .before .before .before .before .before, c .put-number .result, c .put-number .last .1 .1 .0)
 
-  abbrev at₁ : ℕ
-  at₁ = c .put-number .result
-
-  abbrev out₁ : List ℕ
-  out₁ = c .put-number .last .1 .1 .0
-
-  put₁ : Left start₁ afterBanks at₁ out₁
+  put₁ : Left afterBanks stands₁
   unfolding ascii
-  put₁ = first-part-put (room-for-lines start₁) (c .put-number .ensures)
+  put₁ = first-part-put (room-for-lines (stands₁ .0)) (c .put-number .ensures)
 
 slice-aggregate-put-number-2 : tie.Need-slice-aggregate-put-number-2
 slice-aggregate-put-number-2 c = search needs
@@ -78,16 +81,10 @@ module _ (c : tie.After-put-number2) where
   abbrev before₂ : tie.After-put-number
   before₂ = c .before .before .before .before .before
 
-  abbrev start₂ : tie.Start
-  start₂ = start₁ before₂
+  abbrev stands₂ : Standing
+  stands₂ = more (stands₁ before₂) (c .put-number2 .result) (c .put-number2 .last .1 .1 .0)
 
-  abbrev at₂ : ℕ
-  at₂ = at₁ before₂ + c .put-number2 .result
-
-  abbrev out₂ : List ℕ
-  out₂ = withPart (at₁ before₂) (out₁ before₂) (c .put-number2 .last .1 .1 .0)
-
-  put₂ : Left start₂ afterA at₂ out₂
+  put₂ : Left afterA stands₂
   unfolding ascii
   put₂ = next-part-put (put₁ before₂) (c .put-number2 .ensures)
 
@@ -115,16 +112,10 @@ module _ (c : tie.After-put-number3) where
   abbrev before₃ : tie.After-put-number2
   before₃ = c .before .before .before .before .before
 
-  abbrev start₃ : tie.Start
-  start₃ = start₂ before₃
+  abbrev stands₃ : Standing
+  stands₃ = more (stands₂ before₃) (c .put-number3 .result) (c .put-number3 .last .1 .1 .0)
 
-  abbrev at₃ : ℕ
-  at₃ = at₂ before₃ + c .put-number3 .result
-
-  abbrev out₃ : List ℕ
-  out₃ = withPart (at₂ before₃) (out₂ before₃) (c .put-number3 .last .1 .1 .0)
-
-  put₃ : Left start₃ afterB at₃ out₃
+  put₃ : Left afterB stands₃
   unfolding ascii
   put₃ = next-part-put (put₂ before₃) (c .put-number3 .ensures)
 
@@ -152,16 +143,10 @@ module _ (c : tie.After-put-number4) where
   abbrev before₄ : tie.After-put-number3
   before₄ = c .before .before .before .before .before
 
-  abbrev start₄ : tie.Start
-  start₄ = start₃ before₄
+  abbrev stands₄ : Standing
+  stands₄ = more (stands₃ before₄) (c .put-number4 .result) (c .put-number4 .last .1 .1 .0)
 
-  abbrev at₄ : ℕ
-  at₄ = at₃ before₄ + c .put-number4 .result
-
-  abbrev out₄ : List ℕ
-  out₄ = withPart (at₃ before₄) (out₃ before₄) (c .put-number4 .last .1 .1 .0)
-
-  put₄ : Left start₄ afterD at₄ out₄
+  put₄ : Left afterD stands₄
   unfolding ascii
   put₄ = next-part-put (put₃ before₄) (c .put-number4 .ensures)
 
