@@ -9,7 +9,7 @@ use mathlib.Core.List.{List, [], _∷_, List·Memᴰ·head}
 use Rattle.integers.specs.Gcd.{Multiple}
 use Rattle.scope.specs.Search.{firstOf}
 use Rattle.scope.specs.Plans.{Pixel, pixels, patternAt, banks, suits}
-use Rattle.scope.specs.Numbers.{recordTest, planTest, sidesTest, memoryTest, numberTest, suitsTest, outsideTest}
+use Rattle.scope.specs.Numbers.{planTest, sidesTest, memoryTest, suitsTest, outsideTest}
 use Rattle.scope.specs.Calls.{wordTest, wholeBankTest, moved, fetchTest, ringFetchTest}
 use Rattle.scope.specs.Meaning.{IsPlan, IsSide, IsBook, IsPicture, Inside, AllInside}
 use Rattle.scope.specs.PicturePromises.{LegalFetch}
@@ -17,6 +17,7 @@ use Rattle.scope.specs.declared.Plan.{Plan}
 use Rattle.scope.specs.declared.Book.{Book}
 use Rattle.scope.specs.declared.Refusal.{Refusal}
 use Rattle.laws.proofs.Booleans.{Clear, last-test, test-before}
+use Rattle.laws.proofs.Chains.{fetchTests}
 use Rattle.laws.proofs.Tests.{plan-legal-iff, sides-legal-iff, memory-enough-iff, all-inside-iff, bank-below-iff}
 use Rattle.laws.proofs.Tests.{output-enough-iff, number-in-book-iff, ring-multiple-iff}
 use Rattle.laws.proofs.BookTests.{book-legal-iff}
@@ -62,15 +63,7 @@ module _ (p : Plan) (W H words : ℕ) where
     -- the tests of a fetch's book, picture and pattern before the rest of a chain
     fetch-before :
         {Q : Type 0} {ts : List (Option Refusal)} → Clear ts Q
-        → Clear
-        (recordTest book
-        ∷ planTest p
-        ∷ sidesTest W H
-        ∷ memoryTest p W H words
-        ∷ numberTest (book .count) n
-        ∷ suitsTest p book n
-        ∷ ts)
-        (LegalFetch book p W H words n × Q)
+        → Clear (fetchTests book p W H words n ts) (LegalFetch book p W H words n × Q)
     fetch-before rest =
         restated
         (test-before (book-legal-iff book)

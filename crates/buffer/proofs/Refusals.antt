@@ -26,7 +26,7 @@ use Rattle.scope.specs.declared.Refusal.the-variants.{NotPlan}
 use Rattle.scope.specs.declared.Counted.{Counted}
 use Rattle.scope.specs.declared.PixelRecord.{PixelRecord}
 use Rattle.laws.proofs.Searches.{true-not-false}
-use Rattle.laws.proofs.Chains.{answered-some}
+use Rattle.laws.proofs.Chains.{answered-some, fetchTests}
 use Rattle.laws.proofs.BookTests.{book-legal-iff}
 use Rattle.laws.proofs.Deciding.{Follows, answered-follows, changed-follows, refused-by-first, after-none, refused-unless, after}
 use Rattle.laws.proofs.Deciding.{limit-decides, independent-decides, size-decides, plan-decides, sides-decide, memory-decides}
@@ -108,16 +108,6 @@ module _ {A : Type 0} {p : Plan} {W H words : ℕ} {r : Answer A} where
       }
 
 -- and of both fetches, with what is tested after 10
-abbrev fetchTests : Book → Plan → ℕ → ℕ → ℕ → ℕ → List (Option Refusal) → List (Option Refusal)
-fetchTests book p W H words n ts =
-    recordTest book
-    ∷ planTest p
-    ∷ sidesTest W H
-    ∷ memoryTest p W H words
-    ∷ numberTest (book .count) n
-    ∷ suitsTest p book n
-    ∷ ts
-
 module _
     (book : Book) (p : Plan) (W H words n : ℕ) {ts : List (Option Refusal)} {r : Answer ℕ}
     (chain : Follows (fetchTests book p W H words n ts) r)

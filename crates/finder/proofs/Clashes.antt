@@ -23,6 +23,7 @@ use Rattle.scope.specs.declared.Counted.{Counted}
 use Rattle.scope.specs.declared.Refusal.{Refusal}
 use Rattle.laws.proofs.Searches.{some-injective}
 use Rattle.laws.proofs.Chains.{value-not-refusal, refusal-clash, RefusedBy, chain-some, answered-none, answered-refusal, changed-refusal}
+use Rattle.laws.proofs.Chains.{fetchTests}
 use Rattle.laws.proofs.Tests.{plan-legal-iff, number-in-book-iff}
 use Rattle.laws.proofs.Deciding.{plan-decides, sides-decide, memory-decides, inside-decides, output-decides, number-decides, ring-decides}
 use Rattle.laws.proofs.RefusalNumbers.{Numbers, ChainNumbers, decided-numbers, numbers-before, last-numbers, record-numbers}
@@ -79,14 +80,7 @@ after-other t ts c h (r, e, ten, at-0, is) = by-test (chain-some t ts r e)
 module _ (book : Book) (p : Plan) (W H words n : ℕ) (c : Clash) where
   clash-of-tests :
       (ts : List (Option Refusal)) → ChainNumbers NotTen ts
-      → RefusedBy
-      (firstOf (recordTest book
-      ∷ planTest p
-      ∷ sidesTest W H
-      ∷ memoryTest p W H words
-      ∷ numberTest (book .count) n
-      ∷ suitsTest p book n
-      ∷ ts)) 10 0 (some c)
+      → RefusedBy (firstOf (fetchTests book p W H words n ts)) 10 0 (some c)
       → FirstClashIn book p c × (c .pattern ≡ n)
   clash-of-tests ts others k =
       let (_, after-book) =

@@ -170,27 +170,22 @@ module _ {marks : List ℕ} {a b d : ℕ} where
       }
 
   -- one row further, where the start stays below a and where it does not
+  next-row :
+      {i from s : ℕ} → RowsPassed marks a b d i from → false ≡ rowMarked marks a i from → s ≡ (from + b) % a
+      → RowsPassed marks a b d (i + d) s
+  next-row p e same =
+      record { d-least = p .d-least; b-below = p .b-below; passed = next-passed p e; start = same ∙ start-follows p }
+
   pub row-passed :
       {i from : ℕ} → RowsPassed marks a b d i from → false ≡ rowMarked marks a i from → from + b < a
       → RowsPassed marks a b d (i + d) (from + b)
-  row-passed {i} p e k =
-      record {
-        d-least = p .d-least;
-        b-below = p .b-below;
-        passed = next-passed p e;
-        start = sym (mod-eq-of-lt k) ∙ start-follows p;
-      }
+  row-passed p e k = next-row p e (sym (mod-eq-of-lt k))
 
   pub row-passed-around :
       {i from : ℕ} → RowsPassed marks a b d i from → false ≡ rowMarked marks a i from → a ≤ from + b
       → RowsPassed marks a b d (i + d) (from + b - a)
-  row-passed-around {i} p e k =
-      record {
-        d-least = p .d-least;
-        b-below = p .b-below;
-        passed = next-passed p e;
-        start = sym (mod-eq-of-lt (omega (arith, start-small p, p .b-below))) ∙ sym (mod-eq-sub-mod k) ∙ start-follows p;
-      }
+  row-passed-around p e k =
+      next-row p e (sym (mod-eq-of-lt (omega (arith, start-small p, p .b-below))) ∙ sym (mod-eq-sub-mod k))
 
   pub row-found :
       {i from : ℕ} → RowsPassed marks a b d i from → i < 32 → true ≡ rowMarked marks a i from → true ≡ rowsMarked marks a b d

@@ -8,9 +8,12 @@ use mathlib.Core.Option.{Option, none, some}
 use mathlib.Core.List.{List, [], _∷_, _++_, List·Memᴰ, List·Memᴰ·head, List·Memᴰ·tail, List·Memᴰ·not-nil, List·Memᴰ·cases-cons}
 use Rattle.scope.specs.Search.{firstOf}
 use Rattle.scope.specs.Numbers.{Answer, value, refusal, numberOf, placeOf, clashOf, turnedDown}
+use Rattle.scope.specs.Numbers.{recordTest, planTest, sidesTest, memoryTest, numberTest, suitsTest}
 use Rattle.scope.specs.Calls.{Result, answered, changed}
 use Rattle.scope.specs.Meaning.{ChainIsFirst}
+use Rattle.scope.specs.declared.Book.{Book}
 use Rattle.scope.specs.declared.Clash.{Clash}
+use Rattle.scope.specs.declared.Plan.{Plan}
 use Rattle.scope.specs.declared.Refusal.{Refusal}
 use Rattle.laws.proofs.Searches.{none-not-some}
 
@@ -240,3 +243,14 @@ changed-alike {before} {before′} {v} {v′} after refused old x new same alike
     by-tests none e = cc (same, alike e)
     by-tests (some r) e =
         rw (chain-stops before (after v) r e, chain-stops before′ (after v′) r (ap firstOf (sym same) ∙ e)) refl
+
+-- The tests of a fetch up to 10, and those after it.
+abbrev pub fetchTests : Book → Plan → ℕ → ℕ → ℕ → ℕ → List (Option Refusal) → List (Option Refusal)
+fetchTests book p W H words n ts =
+    recordTest book
+    ∷ planTest p
+    ∷ sidesTest W H
+    ∷ memoryTest p W H words
+    ∷ numberTest (book .count) n
+    ∷ suitsTest p book n
+    ∷ ts
