@@ -7,7 +7,7 @@ use mathlib.Core.List.{[], _∷_}
 use native.Mathlib.Omega.{arith}
 use lib.Dec.{T, leb, leb→le}
 use lib.IntN.{ℤ, pos, negsuc, natAbs, _+ℤ_, _*ℤ_}
-use lib.Signed.{nonNeg}
+use lib.Signed.{nonNeg, mag}
 use mir.Syntax.{Width, w64}
 use mir.Val.{Fits, SFits, toZ, ofZ, hbits}
 use mir.Facts.{toZ-ofZ, sfits-widen}
@@ -36,6 +36,10 @@ raised-below : (w : Width) (z : ℤ) → SFits w z → raised w z < half w + hal
 unfolding raised
 raised-below w (pos m) f = omega (arith, f .sfits)
 raised-below w (negsuc m) f = omega (arith, f .sfits)
+
+-- A number that is handed on as its bits is the same number, by the bound of an element or of a result.
+pub number-handed : (w : Width) {z : ℤ} → mag z < 2 ^ hbits w → toZ w (ofZ w z) ≡ z
+number-handed w h = toZ-ofZ {w = w} (record { sfits = h })
 
 -- z of w bits, read and widened to v bits, is z; `wide` holds by `tt`
 module _ (w v : Width) (wide : T (leb (hbits w) (hbits v))) (z : ℤ) (f : SFits w z) where

@@ -1,16 +1,18 @@
 -- What the tests of a plan, of a picture's sides and of a pixel say in plain numbers, with the bounds that the code rests on.
 -- Assumes nothing.
-use Prim.Native.Nat.{ℕ, _*_, _≤_, _<_}
+use Prim.Native.Nat.{ℕ, _*_, _^_, _≤_, _<_}
 use native.Mathlib.Omega.{arith}
 use native.Mathlib.Nat.{le-mul-of-pos-right, mul-comm}
-use mathlib.Core.Path.{_≡_, refl, sym, ap}
+use mathlib.Core.Path.{_≡_, refl, sym, ap, ap₂}
 use mathlib.Core.Logic.{_↔_, Iff·trans}
 use mathlib.Core.Bool.{true, _&&_, false≢true}
 use lib.IntN.{ℤ, pos, negsuc, natAbs, pos-ne-negsuc}
-use mir.Syntax.{w16}
-use mir.Val.{SFits, toZ, ofZ}
+use lib.Signed.{mag}
+use mir.Syntax.{Width, w16}
+use mir.Val.{SFits, toZ, ofZ, hbits}
 use mir.Facts.{toZ-ofZ}
 use Rattle.integers.proofs.Comparisons.{leb-iff, ltb-iff, and-iff}
+use Rattle.integers.proofs.Raised.{number-handed}
 use Rattle.scope.specs.Plans.{Pixel, at, isPlan, banks}
 use Rattle.scope.specs.Banks.{within, inside}
 use Rattle.scope.specs.Numbers.{isSide}
@@ -69,3 +71,8 @@ inside-means W H v = inside-iff W H v .0
 -- a pixel handed to a callee is the same pixel
 pub pixel-handed : {i j : ℤ} → SFits w16 i → SFits w16 j → at (toZ w16 (ofZ w16 i)) (toZ w16 (ofZ w16 j)) ≡ at i j
 pixel-handed f g = rw (toZ-ofZ f, toZ-ofZ g)
+
+-- and one whose coordinates are elements of arrays, by their bounds
+pub entry-handed :
+    (w : Width) (i j : ℤ) → mag i < 2 ^ hbits w → mag j < 2 ^ hbits w → at (toZ w (ofZ w i)) (toZ w (ofZ w j)) ≡ at i j
+entry-handed w i j f g = ap₂ at (number-handed w f) (number-handed w g)

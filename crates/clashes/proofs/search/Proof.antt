@@ -2,18 +2,18 @@
 -- Assumes nothing.
 use Prim.Native.Nat.{ℕ, suc, _-_, _≤_, _<_}
 use native.Mathlib.Omega.{arith}
-use mathlib.Core.Path.{_≡_, _∙_, ap₂, subst}
+use mathlib.Core.Path.{_≡_, _∙_, ap, subst}
 use mathlib.Core.Logic.{⊎-elim}
 use mathlib.Core.Bool.{true}
 use mathlib.Core.List.{List}
 use lib.IntN.{ℤ}
 use lib.ListN.{getD}
 use mir.Syntax.{w8}
-use mir.Facts.{toZ-ofZ}
 use borrow.Author.Needs.{needs}
 use Rattle.scope.specs.Plans.{at, isPlan, pixelAt}
 use Rattle.scope.specs.Banks.{bankOf}
 use Rattle.scope.specs.declared.Pattern.{Pattern}
+use Rattle.scope.proofs.PlanFacts.{entry-handed}
 use Rattle.clashes.proofs.Meetings.{bankAt, place-at-most, Searched, none-searched, all-searched, clash-met, none-met}
 use Rattle.clashes.proofs.search.Statement.{statement}
 use Rattle.clashes.proofs.search.Tie as tie
@@ -64,9 +64,8 @@ module _ (c : tie.After-bank-in Inv-loop μ-loop) where
   unfolding pixelAt at
   bank-is =
       c .bank-in .ensures .0
-      ∙ ap₂ (λ (i j : ℤ). bankOf (start .args .p) (at i j))
-      (toZ-ofZ {w = w8} (record { sfits = c .before .before .bank-in-arg .given }))
-      (toZ-ofZ {w = w8} (record { sfits = c .before .bank-in-arg2 .given }))
+      ∙ ap (bankOf (start .args .p))
+      (entry-handed w8 _ _ (c .before .before .bank-in-arg .given) (c .before .bank-in-arg2 .given))
 
   bank-small : k < 1024
   bank-small = c .bank-in .ensures .1

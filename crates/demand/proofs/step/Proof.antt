@@ -17,7 +17,7 @@ use Rattle.scope.specs.declared.Book.{Book}
 use Rattle.scope.specs.declared.Counted.{Counted}
 use Rattle.scope.specs.declared.Loaded.{Loaded}
 use Rattle.scope.specs.declared.Outcome.{Outcome}
-use Rattle.scope.proofs.PlanFacts.{pixel-handed}
+use Rattle.scope.proofs.PlanFacts.{entry-handed}
 use Rattle.laws.proofs.Chains.{Gives, same-gives}
 use Rattle.demand.specs.declared.Call.{Call}
 use Rattle.demand.specs.declared.Call.the-variants.{Store, Clear, Load, Fetch}
@@ -25,12 +25,9 @@ use Rattle.demand.specs.Steps.{setting, callIn, outputAfter, Stepped}
 use Rattle.demand.proofs.step.Statement.{statement}
 use Rattle.demand.proofs.step.Tie as tie
 
--- a pixel as the code hands it on is that pixel
+-- a pixel as the code hands it on
 abbrev handed : ℤ → ℤ → Pixel
 handed i j = at (toZ w16 (ofZ w16 i)) (toZ w16 (ofZ w16 j))
-
-same : (i j : ℤ) → mag i < 2 ^ 15 → mag j < 2 ^ 15 → handed i j ≡ at i j
-same i j f g = pixel-handed (record { sfits = f }) (record { sfits = g })
 
 -- What a call does, where its own contract holds: of the memory, then of the output.
 module _ (book : Book) (p : Plan) (W H : ℕ) (mem out : List ℕ) where
@@ -44,7 +41,7 @@ module _ (book : Book) (p : Plan) (W H : ℕ) (mem out : List ℕ) where
       → Steps call (Demand.stored (ofOutcome r)) next out
   unfolding Demand.reply Demand.after
   store-steps {i} {j} {x} e f g gives =
-      let (answer, content) = same-gives (ap (λ v. Calls.store p W H mem v x) (same i j f g)) gives in
+      let (answer, content) = same-gives (ap (λ v. Calls.store p W H mem v x) (entry-handed w16 i j f g)) gives in
       rw e (record { replied = ap (λ o. Demand.stored (ofOutcome o)) answer; left = content }, refl)
 
   clear-steps :
@@ -62,7 +59,7 @@ module _ (book : Book) (p : Plan) (W H : ℕ) (mem out : List ℕ) where
   load-steps {i} {j} e f g answer =
       rw e (
         record {
-          replied = ap (λ l. Demand.loaded (ofLoaded l)) (answer ∙ ap (Calls.load p W H mem) (same i j f g));
+          replied = ap (λ l. Demand.loaded (ofLoaded l)) (answer ∙ ap (Calls.load p W H mem) (entry-handed w16 i j f g));
           left = refl;
         },
         refl,
@@ -74,7 +71,7 @@ module _ (book : Book) (p : Plan) (W H : ℕ) (mem out : List ℕ) where
       → Steps call (Demand.fetched (ofCounted r) end) mem end
   unfolding Demand.reply Demand.after
   fetch-steps {n} {i} {j} e f g gives =
-      let (answer, content) = same-gives (ap (λ v. Calls.fetch book p W H mem n v out) (same i j f g)) gives in
+      let (answer, content) = same-gives (ap (λ v. Calls.fetch book p W H mem n v out) (entry-handed w16 i j f g)) gives in
       rw e (record { replied = ap₂ (λ c xs. Demand.fetched (ofCounted c) xs) answer content; left = refl }, content)
 
 enum-known-call : tie.Need-enum-known-call

@@ -3,12 +3,11 @@
 -- Assumes nothing.
 use Prim.Native.Nat.{ℕ, _-_, _≤_, _<_}
 use native.Mathlib.Omega.{arith}
-use mathlib.Core.Path.{_≡_, _∙_, ap₂}
+use mathlib.Core.Path.{_≡_, _∙_, ap}
 use mathlib.Core.Option.{none, some}
 use mathlib.Core.List.{List}
 use lib.IntN.{ℤ}
 use mir.Syntax.{w8}
-use mir.Facts.{toZ-ofZ}
 use borrow.Author.Needs.{needs}
 use borrow.Author.Count.{below-none, below-more}
 use Rattle.scope.specs.Search.{first}
@@ -17,6 +16,7 @@ use Rattle.scope.specs.Numbers.{pixelTest}
 use Rattle.scope.specs.declared.Pattern.{Pattern}
 use Rattle.scope.specs.declared.Refusal.{Refusal}
 use Rattle.scope.specs.declared.Outcome.{Outcome}
+use Rattle.scope.proofs.PlanFacts.{entry-handed}
 use Rattle.book.specs.Scan.{cellOf, outcomeOf}
 use Rattle.book.proofs.Window.{Seen, none-seen, more-seen, coordinate-found, repeat-found, nothing-found}
 use Rattle.book.proofs.Outcomes.{refused-at, done-after}
@@ -66,8 +66,7 @@ module _ (c : tie.After-cell Inv-loop μ-loop) where
   unfolding pixelAt at
   cell-is =
       c .cell .ensures
-      ∙ ap₂ (λ (i j : ℤ). cellOf (at i j)) (toZ-ofZ {w = w8} (record { sfits = c .before .before .cell-arg .given }))
-      (toZ-ofZ {w = w8} (record { sfits = c .before .cell-arg2 .given }))
+      ∙ ap cellOf (entry-handed w8 _ _ (c .before .before .cell-arg .given) (c .before .cell-arg2 .given))
 
   refused :
       {r : Refusal} → pixelTest 0 0 (pixelAt t) e ≡ some r

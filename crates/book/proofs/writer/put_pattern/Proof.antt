@@ -7,8 +7,9 @@ use mathlib.Core.Path.{_≡_, _∙_, ap}
 use mathlib.Core.List.{flatMap}
 use lib.IntN.{pos}
 use lib.ListN.{length, getD, set, length-set}
-use mir.Facts.{toZ-ofZ}
+use mir.Syntax.{w8}
 use borrow.Author.Needs.{needs}
+use Rattle.integers.proofs.Raised.{number-handed}
 use Rattle.scope.specs.Search.{gather}
 use Rattle.scope.specs.Plans.{pixels}
 use Rattle.scope.specs.Books.{unsigned, patternBytes}
@@ -85,9 +86,9 @@ loop-again c =
     let e = l .loop .e in
     let first = c .before .before in
     let column : first .unsigned-byte .result ≡ unsigned (getD (t .columns) e (pos 0)) =
-    first .unsigned-byte .ensures ∙ ap unsigned (toZ-ofZ (record { sfits = first .before .unsigned-byte-arg .given })) in
+    first .unsigned-byte .ensures ∙ ap unsigned (number-handed w8 (first .before .unsigned-byte-arg .given)) in
     let row : c .unsigned-byte2 .result ≡ unsigned (getD (t .rows) e (pos 0)) =
-    c .unsigned-byte2 .ensures ∙ ap unsigned (toZ-ofZ (record { sfits = c .before .unsigned-byte-arg2 .given })) in
+    c .unsigned-byte2 .ensures ∙ ap unsigned (number-handed w8 (c .before .unsigned-byte-arg2 .given)) in
     (omega arith, rw (column, row) (pixel-put t e (l .loop .inv .1) (omega (arith, room (first .before .before)))))
 
 same-length : tie.Need-same-length Inv-loop μ-loop

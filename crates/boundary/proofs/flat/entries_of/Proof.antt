@@ -5,7 +5,7 @@ use native.Mathlib.Omega.{arith}
 use lib.IntN.{pos}
 use lib.ListN.{getD}
 use mir.Syntax.{w8}
-use mir.Facts.{toZ-ofZ}
+use Rattle.integers.proofs.Raised.{number-handed}
 use Rattle.laws.proofs.Filling.{Filled, filled-none, filled-more, filled-all}
 use Rattle.boundary.specs.Flat.{entries}
 use Rattle.boundary.proofs.flat.entries_of.Statement.{statement}
@@ -41,7 +41,7 @@ loop-less c = omega arith
 loop-again : tie.Need-loop-again Inv-loop μ-loop
 loop-again c = (
   omega arith,
-  filled-more (c .before .before .loop .inv .1) (toZ-ofZ {w = w8} (record { sfits = c .x .given })),
+  filled-more (c .before .before .loop .inv .1) (number-handed w8 (c .x .given)),
 )
 
 returns : tie.Need-returns Inv-loop μ-loop

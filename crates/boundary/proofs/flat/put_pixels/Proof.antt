@@ -6,7 +6,7 @@ use mathlib.Core.List.{List}
 use lib.IntN.{ℤ, pos}
 use lib.ListN.{getD, replicate}
 use mir.Syntax.{w8}
-use mir.Facts.{toZ-ofZ}
+use Rattle.integers.proofs.Raised.{number-handed}
 use Rattle.scope.specs.Plans.{patternAt}
 use Rattle.scope.specs.declared.Pattern.{Pattern}
 use Rattle.scope.specs.declared.Book.{Book}
@@ -59,8 +59,8 @@ unfolding patternAt
 loop-again c =
     let t = c .before .before .before .before .loop .inv in (
       omega arith,
-      filled-more (t .1) (toZ-ofZ {w = w8} (record { sfits = c .before .x .given })),
-      filled-more (t .2) (toZ-ofZ {w = w8} (record { sfits = c .y .given })),
+      filled-more (t .1) (number-handed w8 (c .before .x .given)),
+      filled-more (t .2) (number-handed w8 (c .y .given)),
     )
 
 returns : tie.Need-returns Inv-loop μ-loop

@@ -8,8 +8,8 @@ use lib.ListN.{set}
 use lib.Signed.{mag}
 use mir.Syntax.{w16}
 use mir.Val.{toZ, ofZ}
-use mir.Facts.{toZ-ofZ}
 use borrow.Author.Needs.{needs}
+use Rattle.integers.proofs.Raised.{number-handed}
 use Rattle.scope.specs.Numbers.{ofLocated}
 use Rattle.boundary.proofs.Passed.{told-value, told-turned-down}
 use Rattle.boundary.proofs.told.tell_located.Statement.{statement}
@@ -20,7 +20,7 @@ sizes-put :
     (xs : List ℕ) {x y : ℕ} (i j : ℤ) → mag i < 2 ^ 15 → mag j < 2 ^ 15 → x ≡ natAbs (toZ w16 (ofZ w16 i)) →
     y ≡ natAbs (toZ w16 (ofZ w16 j)) → set (set xs 0 x) 1 y ≡ set (set xs 0 (natAbs i)) 1 (natAbs j)
 sizes-put xs i j p q e f =
-    cc (toZ-ofZ {w = w16} {z = i} (record { sfits = p }), toZ-ofZ {w = w16} {z = j} (record { sfits = q }))
+    cc (number-handed w16 {z = i} p, number-handed w16 {z = j} q)
 
 enum-known-l : tie.Need-enum-known-l
 enum-known-l c = search needs

@@ -8,8 +8,8 @@ use lib.IntN.{ℤ, pos, _+ℤ_}
 use lib.ListN.{getD}
 use mir.Syntax.{w8, w16}
 use mir.Val.{toZ, ofZ}
-use mir.Facts.{toZ-ofZ}
 use borrow.Author.Needs.{needs}
+use Rattle.integers.proofs.Raised.{number-handed}
 use Rattle.scope.specs.Search.{every}
 use Rattle.scope.specs.Plans.{Pixel, at}
 use Rattle.scope.specs.Banks.{within, inside}
@@ -45,7 +45,7 @@ column-told c =
     let u = c .before .before .before .before .before .before .args in
     c .is-within .ensures
     ∙ ap (λ (x : ℤ). within (toZ w16 (ofZ w16 (u .i)) +ℤ x) (u .w))
-    (toZ-ofZ {w = w8} (record { sfits = c .before .is-within-arg .given }))
+    (number-handed w8 (c .before .is-within-arg .given))
 
 -- and that of the row
 row-told :
@@ -57,7 +57,7 @@ row-told c =
     let u = c .before .before .before .before .before .before .before .before .before .args in
     c .is-within2 .ensures
     ∙ ap (λ (x : ℤ). within (toZ w16 (ofZ w16 (u .j)) +ℤ x) (u .h))
-    (toZ-ofZ {w = w8} (record { sfits = c .before .is-within-arg2 .given }))
+    (number-handed w8 (c .before .is-within-arg2 .given))
 
 -- the position that the loop knows is the one handed to it
 answers :

@@ -8,10 +8,10 @@ use mathlib.Core.Path.{_≡_, refl, _∙_, ap, ap₂}
 use mathlib.Core.List.{List}
 use lib.ListN.{length, set}
 use mir.Syntax.{w8}
-use mir.Facts.{toZ-ofZ}
 use borrow.Author.Needs.{needs}
 use Rattle.scope.specs.Plans.{Pixel, at, minus, pixelAt}
 use Rattle.scope.specs.declared.Pattern.{Pattern}
+use Rattle.scope.proofs.PlanFacts.{entry-handed}
 use Rattle.finder.specs.Table.{cellOf, markFrom}
 use Rattle.finder.proofs.Marking.{cell-below, length-markFrom}
 use Rattle.finder.proofs.finding.mark_from.Statement.{statement}
@@ -65,10 +65,8 @@ module _ (c : tie.After-difference-cell Inv-loop μ-loop) where
   cell-is =
       c .difference-cell .ensures
       ∙ ap₂ (λ (v w : Pixel). cellOf (minus v w))
-      (ap₂ at (toZ-ofZ {w = w8} (record { sfits = c .before .before .difference-cell-arg .given }))
-      (toZ-ofZ {w = w8} (record { sfits = c .before .difference-cell-arg2 .given })))
-      (ap₂ at (toZ-ofZ {w = w8} (record { sfits = head .before .before .x .given }))
-      (toZ-ofZ {w = w8} (record { sfits = head .before .y .given })))
+      (entry-handed w8 _ _ (c .before .before .difference-cell-arg .given) (c .before .difference-cell-arg2 .given))
+      (entry-handed w8 _ _ (head .before .before .x .given) (head .before .y .given))
 
 -- the table keeps its length
 table-length :

@@ -6,8 +6,8 @@ use mathlib.Core.Path.{_≡_, _∙_}
 use lib.IntN.{pos}
 use lib.ListN.{getD}
 use mir.Syntax.{w8}
-use mir.Facts.{toZ-ofZ}
 use borrow.Author.Needs.{needs}
+use Rattle.integers.proofs.Raised.{number-handed}
 use Rattle.scope.specs.Books.{byte}
 use Rattle.laws.proofs.Filling.{Filled, filled-none, filled-more}
 use Rattle.book.specs.Scan.{pixelFrom}
@@ -86,8 +86,8 @@ loop-again c =
     let l = c .before .before .before .before .before in
     let x = c .before .before .signed-byte in (
       omega arith,
-      filled-more (l .loop .inv .1) (toZ-ofZ {w = w8} (record { sfits = x .ok }) ∙ x .ensures),
-      filled-more (l .loop .inv .2) (toZ-ofZ {w = w8} (record { sfits = c .signed-byte2 .ok }) ∙ c .signed-byte2 .ensures),
+      filled-more (l .loop .inv .1) (number-handed w8 (x .ok) ∙ x .ensures),
+      filled-more (l .loop .inv .2) (number-handed w8 (c .signed-byte2 .ok) ∙ c .signed-byte2 .ensures),
     )
 
 returns : tie.Need-returns Inv-loop μ-loop

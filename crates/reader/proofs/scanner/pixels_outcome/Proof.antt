@@ -9,9 +9,9 @@ use mathlib.Core.List.{List}
 use lib.IntN.{ℤ}
 use lib.ListN.{length}
 use mir.Syntax.{w8}
-use mir.Facts.{toZ-ofZ}
 use borrow.Author.Needs.{needs}
 use borrow.Author.Count.{below-none, below-more}
+use Rattle.integers.proofs.Raised.{number-handed}
 use Rattle.scope.specs.Search.{first}
 use Rattle.scope.specs.Plans.{at}
 use Rattle.scope.specs.Numbers.{pixelTest}
@@ -94,9 +94,8 @@ module _ (c : tie.After-cell Inv-loop μ-loop) where
   cell-is =
       c .cell .ensures
       ∙ ap₂ (λ (i j : ℤ). cellOf (at i j))
-      (toZ-ofZ {w = w8} (record { sfits = c .before .before .before .signed-byte .ok })
-      ∙ c .before .before .before .signed-byte .ensures)
-      (toZ-ofZ {w = w8} (record { sfits = c .before .signed-byte2 .ok }) ∙ c .before .signed-byte2 .ensures)
+      (number-handed w8 (c .before .before .before .signed-byte .ok) ∙ c .before .before .before .signed-byte .ensures)
+      (number-handed w8 (c .before .signed-byte2 .ok) ∙ c .before .signed-byte2 .ensures)
 
   test-is :
       pixelReadFrom (s turn) (place turn) (e turn)
