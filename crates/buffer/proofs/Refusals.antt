@@ -12,7 +12,7 @@ use Rattle.scope.specs.Plans.{Pixel, pixels, patternAt, suits, determinantSize}
 use Rattle.scope.specs.Books.{bookBytes}
 use Rattle.scope.specs.Numbers.{Answer, refusal, turnedDown, ofPlanned, ofCounted, ofLoaded, ofLocated, ofOutcome, ofVerdict}
 use Rattle.scope.specs.Numbers.{recordTest, limitTest, dependentTest, largeTest, planTest, sidesTest, memoryTest, outsideTest}
-use Rattle.scope.specs.Numbers.{bankTest, cellTest, outputTest, numberTest, suitsTest, ringTest}
+use Rattle.scope.specs.Numbers.{bankTest, cellTest, outputTest, suitsTest, ringTest}
 use Rattle.scope.specs.Calls.{writeBook, normal, find, check, bank, depth, address, locate, store, load, clear, sum}
 use Rattle.scope.specs.Calls.{moved, fetch, ringFetch, recordPixel, fillRecords}
 use Rattle.scope.specs.Meaning.{IsPlan, IsSide, Inside, AllInside, IsPicture, IsBook, Independent}

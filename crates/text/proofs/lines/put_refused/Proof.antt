@@ -1,7 +1,7 @@
 -- `text::lines::put_refused` meets its contract: the word and the number are put, and then the line's end.
 -- Assumes nothing.
 use native.Mathlib.Omega.{arith}
-use mathlib.Core.List.{[], _∷_, _++_}
+use mathlib.Core.List.{[], _∷_}
 use borrow.Author.Needs.{needs}
 use Rattle.scope.specs.Program.{ascii, refusedLine}
 use Rattle.text.proofs.Puts.{RoomFor, PutBut, first-part-fits, first-part-put, room-for-last, last-put}
