@@ -1,14 +1,14 @@
 -- One record: what its pixel's address and bank tell of it.
 -- Assumes nothing.
-use Prim.Native.Nat.{ℕ, _≤_, _<_}
+use Prim.Native.Nat.{ℕ, _<_, _^_}
 use native.Mathlib.Omega.{arith}
 use mathlib.Core.Path.{_≡_, refl, sym, _∙_, ap}
 use mathlib.Core.Bool.{true, false}
 use mathlib.Core.Option.{Option, none}
 use mathlib.Core.List.{[], _∷_, List·Memᴰ·head}
-use lib.IntN.{ℤ}
+use lib.Signed.{mag}
 use mir.Syntax.{w16}
-use mir.Val.{SFits, toZ, ofZ}
+use mir.Val.{hbits, toZ, ofZ}
 use Rattle.scope.specs.Search.{firstOf}
 use Rattle.scope.specs.Plans.{Pixel, at, banks}
 use Rattle.scope.specs.Banks.{bankOf, addressOf}
@@ -19,7 +19,7 @@ use Rattle.scope.specs.declared.Plan.{Plan}
 use Rattle.scope.specs.declared.PixelRecord.{PixelRecord}
 use Rattle.scope.specs.declared.Refusal.{Refusal}
 use Rattle.scope.specs.declared.Counted.{Counted}
-use Rattle.scope.proofs.PlanFacts.{pixel-handed}
+use Rattle.scope.proofs.PlanFacts.{entry-handed}
 use Rattle.laws.proofs.Searches.{none-not-some}
 use Rattle.laws.proofs.Tests.{plan-legal-iff}
 use Rattle.lattice.proofs.Banks.{bank-below-count}
@@ -31,10 +31,10 @@ use Rattle.records.specs.Filling.{isNumber, isPlaceable, placedIf}
 
 -- a record's pixel handed to a callee is its pixel
 pub record-pixel-handed :
-    (r : PixelRecord) → SFits w16 (r .column) → SFits w16 (r .row)
+    (r : PixelRecord) → mag (r .column) < 2 ^ hbits w16 → mag (r .row) < 2 ^ hbits w16
     → at (toZ w16 (ofZ w16 (r .column))) (toZ w16 (ofZ w16 (r .row))) ≡ recordPixel r
 unfolding recordPixel at
-record-pixel-handed r f g = pixel-handed f g
+record-pixel-handed r f g = entry-handed w16 (r .column) (r .row) f g
 
 module _ (p : Plan) (W H : ℕ) (r : PixelRecord) where
   abbrev v : Pixel

@@ -25,8 +25,8 @@ module _ (c : tie.After-address) where
   address-given =
       c .address .ensures
       ∙ ap (address _ _ _)
-      (record-pixel-handed (start .args .r) (record { sfits = c .before .before .struct-told .given .0 .1 })
-      (record { sfits = c .before .before .struct-told .given .1 .0 .1 }))
+      (record-pixel-handed (start .args .r) (c .before .before .struct-told .given .0 .1)
+      (c .before .before .struct-told .given .1 .0 .1))
 
 returns : tie.Need-returns
 returns c = sym (has-address _ _ _ _ (address-given (c .before .before)) (c .enum-told .given .1))

@@ -1,11 +1,12 @@
 -- `records::placed` meets its contract: the bank and the address are those of the plan's methods.
 -- Assumes nothing.
-use Prim.Native.Nat.{ℕ}
+use Prim.Native.Nat.{ℕ, _<_, _^_}
 use mathlib.Core.Path.{_≡_, _∙_, ap}
+use lib.Signed.{mag}
 use borrow.Author.Needs.{needs}
 use mir.Syntax.{w16}
-use mir.Val.{SFits}
-use mir.Facts.{toZ-ofZ}
+use mir.Val.{hbits}
+use Rattle.integers.proofs.Raised.{number-handed}
 use Rattle.scope.specs.Calls.{bank, address, recordPixel}
 use Rattle.scope.specs.declared.Counted.{Counted}
 use Rattle.records.proofs.Placing.{record-pixel-handed, kept, address-small, no-bank, bank-small, is-placed}
@@ -35,11 +36,11 @@ module _ (c : tie.After-address) where
   abbrev start : tie.Start
   start = c .before .before .before
 
-  column-fits : SFits w16 (start .args .r .column)
-  column-fits = record { sfits = c .before .before .struct-told .given .0 .1 }
+  column-fits : mag (start .args .r .column) < 2 ^ hbits w16
+  column-fits = c .before .before .struct-told .given .0 .1
 
-  row-fits : SFits w16 (start .args .r .row)
-  row-fits = record { sfits = c .before .before .struct-told .given .1 .0 .1 }
+  row-fits : mag (start .args .r .row) < 2 ^ hbits w16
+  row-fits = c .before .before .struct-told .given .1 .0 .1
 
   address-given :
       c .address .result ≡ address (start .args .p) (start .args .w) (start .args .h) (recordPixel (start .args .r))
@@ -84,7 +85,7 @@ cast-t12 c =
 returns-3 : tie.Need-returns-3
 returns-3 c =
     let b = c .before .before .before in
-    rw (toZ-ofZ (column-fits (addressed b)), toZ-ofZ (row-fits (addressed b)))
+    rw (number-handed w16 (column-fits (addressed b)), number-handed w16 (row-fits (addressed b)))
     (is-placed _ _ _ _ (address-given (addressed b)) (u-given b) (bank-given b) (c .before .bank2 .given .1))
 
 pub placed-spec : {M : Type 1} → statement M
