@@ -13,8 +13,8 @@ use Rattle.scope.specs.Books.{bookBytes}
 use Rattle.scope.specs.Numbers.{Answer, refusal, turnedDown, ofPlanned, ofCounted, ofLoaded, ofLocated, ofOutcome, ofVerdict}
 use Rattle.scope.specs.Numbers.{recordTest, limitTest, dependentTest, largeTest, planTest, sidesTest, memoryTest, outsideTest}
 use Rattle.scope.specs.Numbers.{bankTest, cellTest, outputTest, suitsTest, ringTest}
-use Rattle.scope.specs.Calls.{writeBook, normal, find, check, bank, depth, address, locate, store, load, clear, sum}
-use Rattle.scope.specs.Calls.{moved, fetch, ringFetch, recordPixel, fillRecords}
+use Rattle.scope.specs.Calls.{recordOutcome, writeBook, normal, find, check, bank, depth, address, locate, store, load, clear}
+use Rattle.scope.specs.Calls.{sum, moved, fetch, ringFetch, recordPixel, fillRecords}
 use Rattle.scope.specs.Meaning.{IsPlan, IsSide, Inside, AllInside, IsPicture, IsBook, Independent}
 use Rattle.scope.specs.PicturePromises.{LegalFetch}
 use Rattle.scope.specs.RefusalPromises.{PlanRefused, PictureRefused, WordRefused, BankRefused, FetchRefused, CallsRefuse}
@@ -24,6 +24,7 @@ use Rattle.scope.specs.declared.Clash.{Clash}
 use Rattle.scope.specs.declared.Refusal.{Refusal}
 use Rattle.scope.specs.declared.Refusal.the-variants.{NotPlan}
 use Rattle.scope.specs.declared.Counted.{Counted}
+use Rattle.scope.specs.declared.Outcome.{Outcome}
 use Rattle.scope.specs.declared.PixelRecord.{PixelRecord}
 use Rattle.laws.proofs.Searches.{true-not-false}
 use Rattle.laws.proofs.Chains.{answered-some, fetchTests}
@@ -198,7 +199,7 @@ module _ (book : Book) (p : Plan) (W H : ℕ) (mem : List ℕ) (n : ℕ) (o : Pi
 
 -- A call that is turned down gives the number of the first condition that holds.
 pub calls-refuse : CallsRefuse
-unfolding bank depth locate store load clear sum
+unfolding recordOutcome bank depth locate store load clear sum
 calls-refuse =
     record {
       normal-8 = λ x y. refused-unless (normal-follows x y) (independent-decides x y);
@@ -208,6 +209,7 @@ calls-refuse =
       check-2-3-4 = λ book x y. refused-by-first (check-follows book x y);
       check-8 = λ book x y legal. refused-unless (after-book (check-follows book x y) legal) (independent-decides x y);
       check-9 = λ book x y legal. large-refused x y (after-book (check-follows book x y) legal);
+      record-2-3-4 = λ book f e. ap ofOutcome (answered-some (recordTest book) Outcome.Refused Outcome.Done f e);
       write-2-3-4 = λ book out. refused-by-first (write-follows book out);
       write-16 = λ book out legal. output-refused (length (bookBytes book)) (length out) (after-book (write-follows book out) legal);
       bank-11 = λ p v fails. ap ofCounted (answered-some (planTest p) Counted.Refused _ NotPlan (plan-decides p .refuses fails));

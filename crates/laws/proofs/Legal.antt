@@ -1,4 +1,5 @@
--- A legal call of plans or of the writer is never refused, and a refused call leaves what it was lent as it was.
+-- A legal call, of the test of a record, the writer or plans, is never refused, and a refused call leaves what it was lent
+-- as it was.
 -- Assumes nothing.
 use Prim.Native.Nat.{ℕ, _≤_}
 use mathlib.Core.Path.{_≡_, ap}
@@ -12,8 +13,8 @@ use Rattle.scope.specs.Banks.{bankOf, addressOf, depthOf, wordIn, afterStore, a
 use Rattle.scope.specs.Books.{bookBytes}
 use Rattle.scope.specs.Numbers.{value, refusal, ofPlanned, ofCounted, ofOutcome, recordTest, planTest, sidesTest, outsideTest}
 use Rattle.scope.specs.Numbers.{outputTest}
-use Rattle.scope.specs.Calls.{changed, writeBook, normal, bank, depth, address, wordTest, store, wholeBankTest, clear, moved}
-use Rattle.scope.specs.Calls.{fetchTest, fetch, ringFetchTest, ringMoved, ringFetch, recordPixel, placed, fillRecords}
+use Rattle.scope.specs.Calls.{changed, recordOutcome, writeBook, normal, bank, depth, address, wordTest, store, wholeBankTest, clear}
+use Rattle.scope.specs.Calls.{moved, fetchTest, fetch, ringFetchTest, ringMoved, ringFetch, recordPixel, placed, fillRecords}
 use Rattle.scope.specs.Meaning.{IsPlan, IsSide, Inside, AllInside, IsBook, Independent, LegalCallsAnswer}
 use Rattle.scope.specs.PicturePromises.{RefusalsChangeNothing}
 use Rattle.scope.specs.declared.Plan.{Plan}
@@ -38,6 +39,11 @@ pub write-test-iff :
     → (firstOf (recordTest book ∷ outputTest (length (bookBytes book)) room ∷ []) ≡ none)
     ↔ (IsBook book × (length (bookBytes book) ≤ room))
 write-test-iff book room = test-before (book-legal-iff book) (last-test (output-enough-iff (length (bookBytes book)) room)) .iff
+
+record-answers : (book : Book) → IsBook book → ofOutcome (recordOutcome book) ≡ value tt
+unfolding recordOutcome
+record-answers book legal =
+    ap ofOutcome (answered-none (recordTest book) Outcome.Refused Outcome.Done (book-legal-iff book .1 legal))
 
 write-answers :
     (book : Book) (out : List ℕ) → IsBook book → length (bookBytes book) ≤ length out
@@ -76,10 +82,11 @@ address-answers p W H v plan w h inside =
     (test-before (plan-legal-iff p) (test-before (sides-legal-iff W H) (last-test (all-inside-iff W H (v ∷ [])))) .iff .1
     (plan, ((w, h), one-inside W H v inside))))
 
--- A legal call of plans or of the writer gives its value.
+-- A legal call, of the test of a record, the writer or plans, gives its value.
 pub legal-calls-answer : LegalCallsAnswer
 legal-calls-answer =
     record {
+      record-outcome = record-answers;
       write = write-answers;
       normal-form = normal-answers;
       bank-is = bank-answers;

@@ -15,8 +15,8 @@ use Rattle.scope.specs.Search.{firstOf}
 use Rattle.scope.specs.Plans.{Pixel, at, minus, pixelAt, patternAt, pixels, patterns, differences, banks, InLattice, latticeTest, suits, suitsAll, determinant, determinantSize, normalForm}
 use Rattle.scope.specs.Banks.{bankOf, addressOf, depthOf, pixelOf, inside}
 use Rattle.scope.specs.Books.{bookBytes}
-use Rattle.scope.specs.Numbers.{value, ofPlanned, ofCounted, recordTest, limitTest, dependentTest, largeTest, suitsTest, planTest, sidesTest, memoryTest, outsideTest, bankTest, cellTest, outputTest, numberTest, ringTest}
-use Rattle.scope.specs.Calls.{writeBook, normal, bank, depth, address, moved}
+use Rattle.scope.specs.Numbers.{value, ofPlanned, ofCounted, ofOutcome, recordTest, limitTest, dependentTest, largeTest, suitsTest, planTest, sidesTest, memoryTest, outsideTest, bankTest, cellTest, outputTest, numberTest, ringTest}
+use Rattle.scope.specs.Calls.{recordOutcome, writeBook, normal, bank, depth, address, moved}
 use Rattle.scope.specs.declared.Plan.{Plan}
 use Rattle.scope.specs.declared.Pattern.{Pattern}
 use Rattle.scope.specs.declared.Book.{Book}
@@ -132,8 +132,11 @@ pub record TestsMean : Type 0 where
   pub number-17 : (count n : ℕ) → (numberTest count n ≡ none) ↔ (n < count)
   pub ring-18 : (p : Plan) (W H : ℕ) → IsPlan p → (ringTest p W H ≡ none) ↔ (Multiple (banks p) W × Multiple (banks p) H)
 
--- A legal call is never refused: plans and the writer. (The finder's, the check's and the picture's calls: PlanPromises, PicturePromises.)
+-- A legal call is never refused: the test of a record, the writer, and plans. (The finder's, the check's and the picture's
+-- calls: PlanPromises, PicturePromises.)
 pub record LegalCallsAnswer : Type 0 where
+  -- "A call given a book record tests 2, 3, 4": that test by itself
+  pub record-outcome : (book : Book) → IsBook book → ofOutcome (recordOutcome book) ≡ value tt
   pub write :
       (book : Book) (out : List ℕ) → IsBook book → length (bookBytes book) ≤ length out
       → ofCounted (writeBook book out .answer) ≡ value (length (bookBytes book))

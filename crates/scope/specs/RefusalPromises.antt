@@ -13,7 +13,7 @@ use Rattle.scope.specs.Plans.{Pixel, at, pixelAt, patternAt, pixels, ban
 use Rattle.scope.specs.Banks.{depthOf}
 use Rattle.scope.specs.Books.{signed, patternOf, bookOf, pixelBytes, patternBytes, bookBytes}
 use Rattle.scope.specs.Numbers.{Answer, value, refusal, turnedDown, ofPlanned, ofCounted, ofLoaded, ofLocated, ofOutcome, ofVerdict, recordTest}
-use Rattle.scope.specs.Calls.{readBook, partOutcome, writeBook, normal, find, check, bank, depth, address, locate, store, load, clear, sum, moved, fetch, ringFetch, recordPixel, fillRecords}
+use Rattle.scope.specs.Calls.{readBook, partOutcome, recordOutcome, writeBook, normal, find, check, bank, depth, address, locate, store, load, clear, sum, moved, fetch, ringFetch, recordPixel, fillRecords}
 use Rattle.scope.specs.Meaning.{IsPlan, IsSide, Inside, AllInside, IsPicture, InRange, IsPattern, IsBook, Independent}
 use Rattle.scope.specs.PicturePromises.{LegalFetch}
 use Rattle.scope.specs.declared.Plan.{Plan}
@@ -65,6 +65,8 @@ pub record CallsRefuse : Type 0 where
   pub check-8 : (book : Book) (x y : Pixel) → IsBook book → (Independent x y → ⊥) → ofVerdict (check book x y) ≡ refusal 8 0 none
   pub check-9 :
       (book : Book) (x y : Pixel) → IsBook book → 1024 < determinantSize x y → ofVerdict (check book x y) ≡ refusal 9 0 none
+  -- "A call given a book record tests 2, 3, 4": that test by itself
+  pub record-2-3-4 : (book : Book) (f : Refusal) → recordTest book ≡ some f → ofOutcome (recordOutcome book) ≡ turnedDown f
   pub write-2-3-4 :
       (book : Book) (out : List ℕ) (f : Refusal) → recordTest book ≡ some f
       → ofCounted (writeBook book out .answer) ≡ turnedDown f
