@@ -141,7 +141,8 @@ writing-hold : Hold writing
 unfolding writing
 writing-hold = refl
 
--- The program. Nine patterns (0,0), (i,0), i from 1 to 9, need 10 banks.
+-- The program. Nine patterns (0,0), (i,0), i from 1 to 9, need 10 banks. The last two rows are document 01's "banks 5",
+-- "plan 5 2 1" and "refused 1", each letter in ASCII.
 programs : List Row
 unfolding row is programText ascii book5 gather flatMap decimal
 programs =
@@ -151,6 +152,8 @@ programs =
     ∷ row (is (programText (6 ∷ flatMap (λ v. 2 ∷ 0 ∷ 0 ∷ v) ((0 ∷ 1 ∷ []) ∷ (1 ∷ 1 ∷ []) ∷ (2 ∷ 1 ∷ []) ∷ (0xff ∷ 1 ∷ []) ∷ (1 ∷ 2 ∷ []) ∷ (1 ∷ 0 ∷ []) ∷ [])))) (is (ascii "banks 4\nplan 2 0 2\n"))
     ∷ row (is (programText (1 ∷ 1 ∷ 0x10 ∷ 0 ∷ []))) (is (ascii "refused 3\n"))
     ∷ row (is (decimal 1024 ++ decimal 0)) (is (ascii "10240"))
+    ∷ row (is (ascii "banks 5\nplan 5 2 1\n")) (is (98 ∷ 97 ∷ 110 ∷ 107 ∷ 115 ∷ 32 ∷ 53 ∷ 10 ∷ 112 ∷ 108 ∷ 97 ∷ 110 ∷ 32 ∷ 53 ∷ 32 ∷ 50 ∷ 32 ∷ 49 ∷ 10 ∷ []))
+    ∷ row (is (programText [])) (is (114 ∷ 101 ∷ 102 ∷ 117 ∷ 115 ∷ 101 ∷ 100 ∷ 32 ∷ 49 ∷ 10 ∷ []))
     ∷ []
 
 programs-hold : Hold programs
