@@ -10,7 +10,7 @@ use mathlib.Core.List.{List, [], _∷_, _++_, flatMap}
 use borrow.Author.Tests.{lt-ltb, le-ltb}
 use lib.Dec.{leb→le}
 use lib.IntN.{ℤ, pos, negsuc, _-ℤ_}
-use lib.ListN.{length, getD, take, drop, length-drop, drop-of-length-le}
+use lib.ListN.{length, getD, take, drop, length-append, length-drop, drop-of-length-le}
 use lib.Seq.{drop-cons, take-at}
 use Rattle.integers.specs.Division.{floorMod}
 use Rattle.integers.proofs.Divisions.{remainder-is, remainder-of-small}
@@ -129,6 +129,21 @@ start-after s n (suc c) h = by-order (ℕ-discrete n c) (start-after s n c)
     by-order : Dec (n ≡ c) → (n < c → start s (suc n) ≤ start s c) → start s (suc n) ≤ start s (suc c)
     by-order (yes e) before = rw e (omega arith)
     by-order (no e) before = omega (arith, before (omega arith), next-start s c)
+
+-- A pattern begins after the bytes of those before it.
+pub start-is-length :
+    (s : List ℕ) (u e : ℕ) → start s (e + u) ≡ start s e + length (flatMap patternBytes (gather e u (patternIn s)))
+unfolding flatMap gather patternBytes
+start-is-length s zero e = ap (start s) (add-zero e) ∙ sym (add-zero (start s e))
+start-is-length s (suc u) e =
+    ap (start s) (add-suc e u ∙ sym (suc-add e u))
+    ∙ omega (
+      arith,
+      start-is-length s u (suc e),
+      next-start s e,
+      length-pixel-bytes s e,
+      length-append (patternBytes (patternIn s e)) (flatMap patternBytes (gather (suc e) u (patternIn s))),
+    )
 
 -- If each item has its bytes between its place and the next, so have the items of a range.
 items-before :

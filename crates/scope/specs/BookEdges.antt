@@ -114,6 +114,7 @@ parts =
     ∷ row (is (patternPart book33 1)) (is (0 ∷ 0 ∷ 0 ∷ 1 ∷ 0 ∷ 2 ∷ []))
     ∷ row (is (patternPart book33 2)) (is [])
     ∷ row (is (partPlace book33 0 ∷ partPlace book33 1 ∷ partPlace book33 2 ∷ [])) (is (2 ∷ 9 ∷ 0 ∷ []))
+    ∷ row (is (partPlace (3 ∷ 1 ∷ 0 ∷ 0 ∷ 1 ∷ 0 ∷ 0 ∷ 1 ∷ 0 ∷ 0 ∷ []) 2 ∷ [])) (is (8 ∷ []))
     ∷ row (done (recordOutcome (readBook book33 .book))) (is [])
     ∷ row (done (recordOutcome (bookOf ((px 0 0 ∷ px 0 0 ∷ []) ∷ [])))) (refused 4 0)
     ∷ row (done (partOutcome book33 2)) (refused 17 0)

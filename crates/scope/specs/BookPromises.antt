@@ -9,9 +9,9 @@ use lib.IntN.{ℤ, pos, _-ℤ_}
 use lib.ListN.{length, getD, take, drop}
 use Rattle.scope.specs.Plans.{Pixel, pixelAt, patternAt, pixels, patterns, banks}
 use Rattle.scope.specs.Banks.{overStart}
-use Rattle.scope.specs.Books.{byte, signed, unsigned, bookOf, pixelBytes, bookBytes}
+use Rattle.scope.specs.Books.{byte, signed, unsigned, bookOf, pixelBytes, patternBytes, bookBytes}
 use Rattle.scope.specs.Numbers.{value, refusal, ofPlanned, ofCounted, ofOutcome, recordTest}
-use Rattle.scope.specs.Calls.{readBook, patternPart, partOutcome, writeBook, find, check, fetch, ringFetch}
+use Rattle.scope.specs.Calls.{readBook, patternPart, partOutcome, partPlace, writeBook, find, check, fetch, ringFetch}
 use Rattle.scope.specs.Program.{ascii, decimal, programText}
 use Rattle.scope.specs.Meaning.{IsBook}
 use Rattle.scope.specs.declared.Plan.{Plan}
@@ -63,6 +63,12 @@ pub record PartsAre : Type 0 where
       (s : List ℕ) → Bytes s → (n : ℕ) → ofOutcome (partOutcome s n) ≡ value tt
       → patternPart s n ≡ flatMap pixelBytes (pixels (patternAt (readBook s .book) n))
   pub empty : (s : List ℕ) (n m i : ℕ) (c : Option Clash) → ofOutcome (partOutcome s n) ≡ refusal m i c → patternPart s n ≡ []
+  -- "the part of the book where they stand": after the pattern count, the patterns before it and its own pixel count
+  pub place :
+      (s : List ℕ) (n : ℕ) → ofOutcome (partOutcome s n) ≡ value tt
+      → partPlace s n ≡ 1 + length (flatMap patternBytes (take n (patterns (readBook s .book)))) + 1
+  -- an empty part is at the start
+  pub place-empty : (s : List ℕ) (n m i : ℕ) (c : Option Clash) → ofOutcome (partOutcome s n) ≡ refusal m i c → partPlace s n ≡ 0
 
 -- two records agree where it counts
 pub record SameUsed (book other : Book) : Type 0 where
