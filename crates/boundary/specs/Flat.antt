@@ -1,15 +1,19 @@
 -- A book record as flat arrays: 16 × 64 columns, 16 × 64 rows, 16 used counts, and the pattern count.
 -- Assumes nothing.
 use Prim.Native.Nat.{ℕ, _+_, _*_, _/_, _%_}
+use mathlib.Core.Path.{_≡_}
+use mathlib.Core.Option.{Option}
 use mathlib.Core.List.{List, [], _∷_}
 use lib.IntN.{ℤ, pos}
 use lib.ListN.{getD}
 use Rattle.scope.specs.Search.{gather}
 use Rattle.scope.specs.Plans.{patternAt}
-use Rattle.scope.specs.Numbers.{Answer, value, turnedDown}
+use Rattle.scope.specs.Numbers.{Answer, value, refusal, turnedDown, ofOutcome}
+use Rattle.scope.specs.Calls.{readBook}
 use Rattle.book.specs.Scan.{entryNumber}
 use Rattle.scope.specs.declared.Pattern.{Pattern}
 use Rattle.scope.specs.declared.Book.{Book}
+use Rattle.scope.specs.declared.Clash.{Clash}
 use Rattle.scope.specs.declared.Reading.{Reading}
 use Rattle.scope.specs.declared.Outcome.the-variants.{Done, Refused}
 
@@ -57,3 +61,23 @@ countRow book = book .count ∷ []
 
 abbrev pub whenRead : {A : Type 0} → (Book → List A) → Reading → List A → List A
 whenRead flat r out = elim (r .outcome) [ Done ↦ flat (r .book) | Refused q ↦ out ]
+
+-- What `bankplan_read_book` tells and leaves is what was read: the answer has its record, and the record of the arrays with
+-- the count told is that record; on a refusal it tells that, and "buffers and lists stay unchanged"
+pub record ReadIsKept : Type 0 where
+  pub told : (s : List ℕ) → ofOutcome (readBook s .outcome) ≡ value tt → ofReading (readBook s) ≡ value (readBook s .book)
+  pub arrays :
+      (s : List ℕ) (columns rows : List ℤ) (used : List ℕ) → ofOutcome (readBook s .outcome) ≡ value tt
+      → flatBook (whenRead flatColumns (readBook s) columns) (whenRead flatRows (readBook s) rows)
+      (whenRead flatUsed (readBook s) used)
+      (readBook s .book .count)
+      ≡ readBook s .book
+  pub told-refusal :
+      (s : List ℕ) (n i : ℕ) (c : Option Clash) → ofOutcome (readBook s .outcome) ≡ refusal n i c
+      → ofReading (readBook s) ≡ refusal n i c
+  pub unchanged :
+      (s : List ℕ) (columns rows : List ℤ) (used : List ℕ) (n i : ℕ) (c : Option Clash)
+      → ofOutcome (readBook s .outcome) ≡ refusal n i c
+      → (whenRead flatColumns (readBook s) columns ≡ columns)
+      × (whenRead flatRows (readBook s) rows ≡ rows)
+      × (whenRead flatUsed (readBook s) used ≡ used)
