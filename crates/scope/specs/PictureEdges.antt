@@ -117,6 +117,7 @@ filling : List Row
 unfolding row is refused done records fillRecords plan recordAt
 filling =
     row (records (fillRecords (plan 5 2 1) 7 4 (recordAt 6 3 ∷ recordAt 1 0 ∷ recordAt 5 1 ∷ []) .content)) (is (6 ∷ 3 ∷ 0 ∷ 7 ∷ 1 ∷ 0 ∷ 1 ∷ 0 ∷ 5 ∷ 1 ∷ 3 ∷ 3 ∷ []))
+    ∷ row (records (fillRecords (plan 5 2 1) 7 4 (recordAt 6 3 ∷ recordAt 1 0 ∷ recordAt 5 1 ∷ recordAt 0 2 ∷ recordAt 4 3 ∷ []) .content)) (is (6 ∷ 3 ∷ 0 ∷ 7 ∷ 1 ∷ 0 ∷ 1 ∷ 0 ∷ 5 ∷ 1 ∷ 3 ∷ 3 ∷ 0 ∷ 2 ∷ 1 ∷ 4 ∷ 4 ∷ 3 ∷ 3 ∷ 6 ∷ []))
     ∷ row (records (fillRecords (plan 5 2 1) 7 4 (recordAt 6 3 ∷ recordAt 7 3 ∷ []) .content)) (is (6 ∷ 3 ∷ 3 ∷ 9 ∷ 7 ∷ 3 ∷ 3 ∷ 9 ∷ []))
     ∷ row (done (fillRecords (plan 5 2 1) 7 4 (recordAt 6 3 ∷ recordAt 7 3 ∷ []) .answer)) (refused 14 0)
     ∷ []
