@@ -1,6 +1,7 @@
 -- `records::placed` meets its contract: the bank and the address are those of the plan's methods.
 -- Assumes nothing.
 use Prim.Native.Nat.{ℕ, _<_, _^_}
+use native.Mathlib.Omega.{arith}
 use mathlib.Core.Path.{_≡_, _∙_, ap}
 use lib.Signed.{mag}
 use borrow.Author.Needs.{needs}
@@ -62,6 +63,12 @@ module _ (c : tie.After-bank) where
       c .bank .ensures
       ∙ ap (bank _) (record-pixel-handed (start addressed .args .r) (column-fits addressed) (row-fits addressed))
 
+  address-fits : u < 4294967296
+  address-fits = address-small _ _ _ _ (address-given addressed) u-given
+
+  bank-fits : {k : ℕ} → c .bank .result ≡ Counted.Number k → k < 4294967296
+  bank-fits e = bank-small _ _ _ _ (address-given addressed) u-given bank-given e
+
 returns : tie.Need-returns
 returns c = kept _ _ _ _ (address-given (c .before .before)) (c .enum-told .given .1)
 
@@ -70,17 +77,16 @@ returns-2 c =
     let b = c .before .before in
     absurd (no-bank _ _ _ _ (address-given (addressed b)) (u-given b) (bank-given b) (c .enum-told2 .given .1))
 
+-- each from both bounds, so that an exchange of the two numbers is refused where the record is returned
 cast-t11 : tie.Need-cast-t11
 cast-t11 c =
     let b = c .before .before .before in
-    record {
-      fits = bank-small _ _ _ _ (address-given (addressed b)) (u-given b) (bank-given b) (c .before .bank2 .given .1);
-    }
+    record { fits = omega (arith, bank-fits b (c .before .bank2 .given .1), address-fits b) }
 
 cast-t12 : tie.Need-cast-t12
 cast-t12 c =
     let b = c .before .before .before in
-    record { fits = address-small _ _ _ _ (address-given (addressed b)) (u-given b) }
+    record { fits = omega (arith, bank-fits b (c .before .bank2 .given .1), address-fits b) }
 
 returns-3 : tie.Need-returns-3
 returns-3 c =
