@@ -2,12 +2,13 @@
 -- Assumes nothing.
 use Prim.Native.Nat.{ℕ, _<_, _^_}
 use native.Mathlib.Omega.{arith}
-use mathlib.Core.Path.{_≡_, _∙_, ap}
+use mathlib.Core.Path.{_≡_, subst}
 use lib.Signed.{mag}
 use borrow.Author.Needs.{needs}
 use mir.Syntax.{w16}
 use mir.Val.{hbits}
 use Rattle.integers.proofs.Raised.{number-handed}
+use Rattle.scope.specs.Plans.{Pixel}
 use Rattle.scope.specs.Calls.{bank, address, recordPixel}
 use Rattle.scope.specs.declared.Counted.{Counted}
 use Rattle.records.proofs.Placing.{record-pixel-handed, kept, address-small, no-bank, bank-small, is-placed}
@@ -45,7 +46,10 @@ module _ (c : tie.After-address) where
 
   address-given :
       c .address .result ≡ address (start .args .p) (start .args .w) (start .args .h) (recordPixel (start .args .r))
-  address-given = c .address .ensures ∙ ap (address _ _ _) (record-pixel-handed (start .args .r) column-fits row-fits)
+  address-given =
+      subst (λ (v : Pixel). c .address .result ≡ address (start .args .p) (start .args .w) (start .args .h) v)
+      (record-pixel-handed (start .args .r) column-fits row-fits)
+      (c .address .ensures)
 
 -- it is u, and the bank was asked for
 module _ (c : tie.After-bank) where
@@ -60,8 +64,9 @@ module _ (c : tie.After-bank) where
 
   bank-given : c .bank .result ≡ bank (start addressed .args .p) (recordPixel (start addressed .args .r))
   bank-given =
-      c .bank .ensures
-      ∙ ap (bank _) (record-pixel-handed (start addressed .args .r) (column-fits addressed) (row-fits addressed))
+      subst (λ (v : Pixel). c .bank .result ≡ bank (start addressed .args .p) v)
+      (record-pixel-handed (start addressed .args .r) (column-fits addressed) (row-fits addressed))
+      (c .bank .ensures)
 
   address-fits : u < 4294967296
   address-fits = address-small _ _ _ _ (address-given addressed) u-given
