@@ -1,3 +1,4 @@
+-- The files of this folder.
 pub mod Records
 pub mod Bytes
 pub mod Unused

@@ -11,7 +11,7 @@ use Rattle.scope.specs.declared.Clash.{Clash}
 use Rattle.scope.specs.declared.Outcome.{Outcome}
 use Rattle.scope.specs.declared.Outcome.the-variants.{Done, Refused}
 use Rattle.scope.specs.declared.Reading.{Reading}
-use Rattle.boundary.specs.Told.{Tells, numberIn, clashRow, rowIn, noRow, putFrom}
+use Rattle.boundary.specs.Told.{Tells, numberTold, clashRow, rowIn, noRow, putFrom}
 use Rattle.boundary.specs.Flat.{ofReading, whenRead}
 
 pub told-of :
@@ -24,14 +24,14 @@ pub told-value :
     {A : Type 0} {row : A → List ℕ} {x : Answer A} {v : A} {before after : List ℕ} → x ≡ value v
     → after ≡ putFrom 0 (row v) before → Tells row x before after 0
 told-value {row} {before} e put =
-    record { number = sym (ap numberIn e); row-put = put ∙ sym (ap (λ a. putFrom 0 (rowIn row a) before) e) }
+    record { number = sym (ap numberTold e); row-put = put ∙ sym (ap (λ a. putFrom 0 (rowIn row a) before) e) }
 
 pub told-turned-down :
     {A : Type 0} {row : A → List ℕ} {x : Answer A} {m place : ℕ} {clash : Option Clash} {before after : List ℕ} {n : ℕ}
     → x ≡ refusal m place clash → (n ≡ m) × (after ≡ putFrom 0 (place ∷ clashRow clash) before) → Tells row x before after n
 told-turned-down {row} {before} e (number, put) =
     record {
-      number = number ∙ sym (ap numberIn e);
+      number = number ∙ sym (ap numberTold e);
       row-put = put ∙ sym (ap (λ a. putFrom 0 (rowIn row a) before) e);
     }
 
@@ -41,7 +41,7 @@ pub told-refusal :
     → outcome ≡ Refused r → x ≡ turnedDown r → Tells noRow (ofOutcome outcome) before after n → Tells row x before after n
 told-refusal {before} e f told =
     told-turned-down f (
-      told .number ∙ ap (λ o. numberIn (ofOutcome o)) e,
+      told .number ∙ ap (λ o. numberTold (ofOutcome o)) e,
       told .row-put ∙ ap (λ o. putFrom 0 (rowIn noRow (ofOutcome o)) before) e,
     )
 

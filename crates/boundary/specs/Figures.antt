@@ -11,12 +11,12 @@ use Rattle.scope.specs.Numbers.{Answer, value, turnedDown, ofVerdict}
 use Rattle.scope.specs.declared.Book.{Book}
 use Rattle.scope.specs.declared.Refusal.{Refusal}
 use Rattle.scope.specs.declared.Verdict.{Verdict}
-use Rattle.boundary.specs.Told.{numberIn, rowIn, planRow, checkedRow, numberRow, pixelRow, putFrom}
+use Rattle.boundary.specs.Told.{numberTold, rowIn, planRow, checkedRow, numberRow, pixelRow, putFrom}
 use Rattle.boundary.specs.Flat.{flatBook, flatColumns, flatRows, flatUsed}
 
 -- the number that an answer is told by, and an array of four nines after it
 told : {A : Type 0} → (A → List ℕ) → Answer A → List ℕ
-told row x = numberIn x ∷ putFrom 0 (rowIn row x) (9 ∷ 9 ∷ 9 ∷ 9 ∷ [])
+told row x = numberTold x ∷ putFrom 0 (rowIn row x) (9 ∷ 9 ∷ 9 ∷ 9 ∷ [])
 
 record Row (A : Type 0) : Type 0 where
   computed : A

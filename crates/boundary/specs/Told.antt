@@ -16,9 +16,9 @@ use Rattle.scope.specs.declared.Plan.{Plan}
 use Rattle.scope.specs.declared.Checked.{Checked}
 
 -- 0, or the refusal's number
-abbrev pub numberIn : {A : Type 0} → Answer A → ℕ
-numberIn (value x) = 0
-numberIn (refusal n place clash) = n
+abbrev pub numberTold : {A : Type 0} → Answer A → ℕ
+numberTold (value x) = 0
+numberTold (refusal n place clash) = n
 
 -- c where the number is 10: a row of the code always has a clash, which only 10 tells
 abbrev pub clashIf : ℕ → Clash → Option Clash
@@ -56,5 +56,5 @@ putFrom k (x ∷ xs) out = putFrom (suc k) xs (set out k x)
 
 -- the call answered n and put its row over what stood in the array before
 pub record Tells {A : Type 0} (row : A → List ℕ) (answer : Answer A) (before after : List ℕ) (n : ℕ) : Type 0 where
-  pub number : n ≡ numberIn answer
+  pub number : n ≡ numberTold answer
   pub row-put : after ≡ putFrom 0 (rowIn row answer) before

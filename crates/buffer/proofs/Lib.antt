@@ -1,3 +1,4 @@
+-- The files of this folder.
 pub mod Memory
 pub mod LastStored
 pub mod CallTests

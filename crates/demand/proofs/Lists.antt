@@ -1,4 +1,4 @@
--- Demand 3 on the code: a list of calls that the code made has the replies and the memory of the list that demand 3 speaks of.
+-- Demand 3 about the code: a list of calls that the code made has the replies and the memory of the list that demand 3 speaks of.
 -- Assumes nothing.
 use Prim.Native.Nat.{ℕ, suc}
 use native.Mathlib.Omega.{arith}
@@ -47,7 +47,7 @@ every-list-is-made g mem (c ∷ cs) =
     let (rs, made) = every-list-is-made g (after g mem c) cs in
     (reply g mem c ∷ rs, (after g mem c, record { replied = refl; left = refl }, made))
 
--- Demand 3, of the code.
+-- Demand 3 about the code.
 pub code-meets-demand-3 : CodeMeetsDemand3
 code-meets-demand-3 g limit mem calls replies end plan enough zeros made =
     record {

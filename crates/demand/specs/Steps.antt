@@ -72,7 +72,7 @@ EveryListIsMade =
     (g : Setting) (mem : List ℕ) (calls : List Demand.Call)
     → (replies : List Demand.Reply) × Made g mem calls replies (run g mem calls)
 
--- Demand 3 on the code. The first premise is what `find` ensures where it answers with a plan.
+-- Demand 3 about the code. The first premise is what `find` ensures where it answers with a plan.
 abbrev pub CodeMeetsDemand3 : Type 0
 CodeMeetsDemand3 =
     (g : Setting) (limit : ℕ) (mem : List ℕ) (calls : List Demand.Call) (replies : List Demand.Reply) (end : List ℕ)

@@ -1,3 +1,4 @@
+-- The files of this folder.
 pub mod Deliveries
 pub mod Moved
 pub mod OfBooks

@@ -1,3 +1,4 @@
+-- The files of this folder.
 pub mod Search
 pub mod FindAnswers
 pub mod Least

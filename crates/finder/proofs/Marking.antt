@@ -18,7 +18,7 @@ use Rattle.scope.specs.Plans.{Pixel, patternAt}
 use Rattle.scope.specs.declared.Pattern.{Pattern}
 use Rattle.scope.specs.declared.Book.{Book}
 use Rattle.laws.proofs.Searches.{not-true-is-false}
-use Rattle.finder.specs.Table.{isRow, inHalf, cellOf, markFrom, markPattern, markBook}
+use Rattle.finder.specs.Table.{isRow, inHalf, tableCell, markFrom, markPattern, markBook}
 
 -- which cell a vector has
 row-at-most : (z : ℤ) → isRow z ≡ true → natAbs z ≤ 31
@@ -31,18 +31,18 @@ module _ (v : Pixel) where
   unfolding inHalf
   in-half-iff = and-iff _ _ (leb-iff (natAbs (v .column)) 31) (λ h. h, λ h. h)
 
-  pub cell-outside : inHalf v ≡ false → cellOf v ≡ 2016
-  unfolding cellOf
+  pub cell-outside : inHalf v ≡ false → tableCell v ≡ 2016
+  unfolding tableCell
   cell-outside h = rw h
 
-  pub cell-inside : inHalf v ≡ true → cellOf v ≡ 63 * natAbs (v .row) + natAbs (v .column +ℤ pos 31)
-  unfolding cellOf
+  pub cell-inside : inHalf v ≡ true → tableCell v ≡ 63 * natAbs (v .row) + natAbs (v .column +ℤ pos 31)
+  unfolding tableCell
   cell-inside h = rw h
 
-  pub cell-below : cellOf v ≤ 2016
+  pub cell-below : tableCell v ≤ 2016
   cell-below = by-half (inHalf v) refl
     where
-      by-half : (b : Bool) → inHalf v ≡ b → cellOf v ≤ 2016
+      by-half : (b : Bool) → inHalf v ≡ b → tableCell v ≤ 2016
       by-half false h = omega (arith, cell-outside h)
       by-half true h =
           let (near, row) = in-half-iff .0 h in
@@ -89,10 +89,10 @@ module _
         λ h. ((h .column-least, h .column-most), (h .row-least, h .row-most)),
       ))
 
-  pub raised-outside : (InBounds right left upper lower → ⊥) → 2016 ≡ cellOf v
+  pub raised-outside : (InBounds right left upper lower → ⊥) → 2016 ≡ tableCell v
   raised-outside h = sym (cell-outside v (not-true-is-false (inHalf v) (λ t. h (raised-half-iff .0 t))))
 
-  pub raised-inside : InBounds right left upper lower → 63 * (upper - lower) + (right - left) ≡ cellOf v
+  pub raised-inside : InBounds right left upper lower → 63 * (upper - lower) + (right - left) ≡ tableCell v
   raised-inside h =
       omega (
         arith,

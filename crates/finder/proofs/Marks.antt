@@ -19,7 +19,7 @@ use Rattle.scope.specs.declared.Book.{Book}
 use Rattle.laws.proofs.Searches.{true-not-false}
 use Rattle.laws.proofs.Lists.{getD-set-same, getD-set-other}
 use Rattle.laws.proofs.Patterns.{same-coordinates}
-use Rattle.finder.specs.Table.{isRow, inHalf, cellOf, markFrom, markPattern, markBook}
+use Rattle.finder.specs.Table.{isRow, inHalf, tableCell, markFrom, markPattern, markBook}
 use Rattle.finder.proofs.Marking.{in-half-iff, cell-inside, cell-outside}
 
 -- a cell of the half window: its row and its place in the row, its number, and its vector
@@ -73,7 +73,7 @@ in-half-is-placed v h =
     by-row place (negsuc j) row low = absurd (true-not-false (sym low))
 
 -- a vector's cell
-cell-of-vector : (c : Cell) → cellOf (vector c) ≡ number c
+cell-of-vector : (c : Cell) → tableCell (vector c) ≡ number c
 unfolding isRow
 cell-of-vector c =
     let back : pos (c .x) -ℤ pos 31 +ℤ pos 31 ≡ pos (c .x) = ring (pos (c .x) ∷ []) (search reify depth 40 fits 9000) refl in
@@ -82,17 +82,17 @@ cell-of-vector c =
     ∙ ap (λ (z : ℤ). 63 * c .j + natAbs z) back
 
 -- a cell is that of one vector only
-cell-iff : (c : Cell) (v : Pixel) → (cellOf v ≡ number c) ↔ (v ≡ vector c)
-cell-iff c v = (by-half (inHalf v) refl, λ e. ap cellOf e ∙ cell-of-vector c)
+cell-iff : (c : Cell) (v : Pixel) → (tableCell v ≡ number c) ↔ (v ≡ vector c)
+cell-iff c v = (by-half (inHalf v) refl, λ e. ap tableCell e ∙ cell-of-vector c)
   where
-    in-cell : Placed v → cellOf v ≡ number c → v ≡ vector c
+    in-cell : Placed v → tableCell v ≡ number c → v ≡ vector c
     in-cell p e =
-        let here : cellOf v ≡ number (p .cell) = ap cellOf (p .is) ∙ cell-of-vector (p .cell) in
+        let here : tableCell v ≡ number (p .cell) = ap tableCell (p .is) ∙ cell-of-vector (p .cell) in
         let same-row : p .cell .j ≡ c .j = omega (arith, p .cell .x-below, c .x-below) in
         let same-place : p .cell .x ≡ c .x = omega arith in
         p .is ∙ same-coordinates (ap (λ (x : ℕ). pos x -ℤ pos 31) same-place) (ap pos same-row)
 
-    by-half : (b : Bool) → inHalf v ≡ b → cellOf v ≡ number c → v ≡ vector c
+    by-half : (b : Bool) → inHalf v ≡ b → tableCell v ≡ number c → v ≡ vector c
     by-half true h e = in-cell (in-half-is-placed v h) e
     by-half false h e = absurd (omega (arith, cell-outside v h, c .j-below, c .x-below))
 
@@ -119,26 +119,26 @@ none-marked =
     }
 
 one-more-marked :
-    {marks : List ℕ} {P : Pixel → Type 0} → Holds marks P → (v : Pixel) → Holds (set marks (cellOf v) 1) (λ w. P w ⊎ (v ≡ w))
+    {marks : List ℕ} {P : Pixel → Type 0} → Holds marks P → (v : Pixel) → Holds (set marks (tableCell v) 1) (λ w. P w ⊎ (v ≡ w))
 one-more-marked {marks} {P} h v =
     record {
-      size = length-set marks (cellOf v) 1 ∙ h .size;
-      marked = λ c. at-cell c (ℕ-discrete (cellOf v) (number c));
+      size = length-set marks (tableCell v) 1 ∙ h .size;
+      marked = λ c. at-cell c (ℕ-discrete (tableCell v) (number c));
     }
   where
     at-cell :
-        (c : Cell) → Dec (cellOf v ≡ number c)
-        → (getD (set marks (cellOf v) 1) (number c) 0 ≡ 1) ↔ (P (vector c) ⊎ (v ≡ vector c))
+        (c : Cell) → Dec (tableCell v ≡ number c)
+        → (getD (set marks (tableCell v) 1) (number c) 0 ≡ 1) ↔ (P (vector c) ⊎ (v ≡ vector c))
     at-cell c (yes d) = (
       λ e. inr (cell-iff c v .0 d),
-      λ p. rw (← d) (getD-set-same marks (cellOf v) 1 0 (omega (arith, h .size, c .j-below, c .x-below))),
+      λ p. rw (← d) (getD-set-same marks (tableCell v) 1 0 (omega (arith, h .size, c .j-below, c .x-below))),
     )
     at-cell c (no d) = (λ e. inl (h .marked c .0 (sym other ∙ e)), back)
       where
-        other : getD (set marks (cellOf v) 1) (number c) 0 ≡ getD marks (number c) 0
-        other = getD-set-other marks (cellOf v) (number c) 1 0 (λ e. d (sym e))
+        other : getD (set marks (tableCell v) 1) (number c) 0 ≡ getD marks (number c) 0
+        other = getD-set-other marks (tableCell v) (number c) 1 0 (λ e. d (sym e))
 
-        back : P (vector c) ⊎ (v ≡ vector c) → getD (set marks (cellOf v) 1) (number c) 0 ≡ 1
+        back : P (vector c) ⊎ (v ≡ vector c) → getD (set marks (tableCell v) 1) (number c) 0 ≡ 1
         back (inl p) = other ∙ h .marked c .1 p
         back (inr e) = absurd (d (cell-iff c v .1 e))
 

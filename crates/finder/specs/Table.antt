@@ -28,15 +28,15 @@ unfolding isRow
 inHalf v = leb (natAbs (v .column)) 31 && isRow (v .row)
 
 -- a vector's cell, 63 to a row; the last, 2016, is that of every vector outside
-unfoldable pub cellOf : Pixel → ℕ
+unfoldable pub tableCell : Pixel → ℕ
 unfolding inHalf
-cellOf v = cond (inHalf v) (63 * natAbs (v .row) + natAbs (v .column +ℤ pos 31)) 2016
+tableCell v = cond (inHalf v) (63 * natAbs (v .row) + natAbs (v .column +ℤ pos 31)) 2016
 
 -- the table after the differences of the first l pixels of a pattern and its pixel e are marked
 unfoldable pub markFrom : Pattern → ℕ → ℕ → List ℕ → List ℕ
-unfolding cellOf minus pixelAt
+unfolding tableCell minus pixelAt
 markFrom t e zero marks = marks
-markFrom t e (suc l) marks = set (markFrom t e l marks) (cellOf (minus (pixelAt t l) (pixelAt t e))) 1
+markFrom t e (suc l) marks = set (markFrom t e l marks) (tableCell (minus (pixelAt t l) (pixelAt t e))) 1
 
 -- after those of all its pixels and its first e
 unfoldable pub markPattern : Pattern → ℕ → List ℕ → List ℕ

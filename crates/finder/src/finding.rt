@@ -17,11 +17,11 @@ ghost use Rattle.scope.specs.Plans.{at, minus};
 ghost use Rattle.scope.specs.Finding.{trial, leastD, leastPlan};
 ghost use Rattle.scope.specs.Numbers.{recordTest};
 ghost use Rattle.scope.specs.Calls.{find};
-ghost use Rattle.finder.specs.Table.{cellOf, markFrom, markPattern, markBook, rowMarked, rowsMarked, SearchedIn};
+ghost use Rattle.finder.specs.Table.{tableCell, markFrom, markPattern, markBook, rowMarked, rowsMarked, SearchedIn};
 
 // The cell of (i, j) - (x, y): 63 to a row, column -31 first; 2016 where the difference is outside the half window.
 fn difference_cell(i: i8, j: i8, x: i8, y: i8) -> usize
-    ensures { λ r. ⌜ r ≡ cellOf (minus (at i j) (at x y)) ⌝ }
+    ensures { λ r. ⌜ r ≡ tableCell (minus (at i j) (at x y)) ⌝ }
 {
     let right = raised8(i) + 31;
     let left = raised8(x);

@@ -13,15 +13,15 @@ use mir.Facts.{toZ-ofZ}
 use Rattle.integers.specs.Division.{ceilDiv}
 use Rattle.integers.proofs.Comparisons.{ltb-iff, and-iff, not-iff, or-false-iff}
 use Rattle.integers.proofs.Sizes.{small-fits}
-use Rattle.formulas.specs.Cells.{columnOf, rowOf, isLacking}
+use Rattle.formulas.specs.Cells.{cellColumn, cellRow, isLacking}
 
 -- the picture has its pixel
 pub pixel-below :
-    (a b d W H k i : ℕ) → isLacking a b d W H k i ≡ false → (columnOf a b W k i < W) × (rowOf a d W k i < H)
+    (a b d W H k i : ℕ) → isLacking a b d W H k i ≡ false → (cellColumn a b W k i < W) × (cellRow a d W k i < H)
 unfolding isLacking
 pixel-below a b d W H k i h =
     or-false-iff (leb (a * d) k || leb (ceilDiv W a * ceilDiv H d) i) _ (λ e. e, λ e. e)
-    (not-iff _ (and-iff _ _ (ltb-iff (columnOf a b W k i) W) (ltb-iff (rowOf a d W k i) H))) .0 h .1
+    (not-iff _ (and-iff _ _ (ltb-iff (cellColumn a b W k i) W) (ltb-iff (cellRow a d W k i) H))) .0 h .1
 
 -- a column or a row modulo 2^15 is read back from 16 bits
 pub read-back : (n : ℕ) → toZ w16 (ofZ w16 (pos (n % 32768))) ≡ pos (n % 32768)

@@ -11,7 +11,7 @@ ghost use lib.Dec.{leb, ltb};
 ghost use lib.IntN.{pos, natAbs, _-ℤ_, _*ℤ_};
 ghost use lib.Signed.{nonNeg};
 ghost use Rattle.integers.specs.Division.{floorDiv, floorMod, ceilDiv};
-ghost use Rattle.formulas.specs.Cells.{columnOf, rowOf, isLacking};
+ghost use Rattle.formulas.specs.Cells.{cellColumn, cellRow, isLacking};
 
 // A pixel of a picture, or that there is none.
 pub struct Cell {
@@ -103,8 +103,8 @@ pub fn address_number(top_a: u32, top_d: u32, w: u32, i: i16, j: i16) -> u64
 pub fn reverse_map(top_a: u32, b: u16, top_d: u32, w: u32, h: u32, k: u64, i: u64) -> Cell
     ensures { λ r. ⌜
         (r .lacking ≡ isLacking («top_a» + 1) b («top_d» + 1) w h k i)
-        × (r .column ≡ cond (isLacking («top_a» + 1) b («top_d» + 1) w h k i) (pos 0) (pos (columnOf («top_a» + 1) b w k i % 32768)))
-        × (r .row ≡ cond (isLacking («top_a» + 1) b («top_d» + 1) w h k i) (pos 0) (pos (rowOf («top_a» + 1) («top_d» + 1) w k i % 32768)))
+        × (r .column ≡ cond (isLacking («top_a» + 1) b («top_d» + 1) w h k i) (pos 0) (pos (cellColumn («top_a» + 1) b w k i % 32768)))
+        × (r .row ≡ cond (isLacking («top_a» + 1) b («top_d» + 1) w h k i) (pos 0) (pos (cellRow («top_a» + 1) («top_d» + 1) w k i % 32768)))
         ⌝ }
 {
     let a = top_a as u64 + 1;

@@ -1,3 +1,4 @@
+-- The files of this folder.
 pub mod Comparisons
 pub mod Integers
 pub mod Polynomials

@@ -1,3 +1,4 @@
+-- The files of this folder.
 pub mod Membership
 pub mod Bases
 pub mod Euclid

@@ -1,3 +1,4 @@
+-- The files of this folder.
 pub mod Searches
 pub mod Lists
 pub mod Filling

@@ -1,3 +1,4 @@
+-- The files of this folder.
 pub mod Answers
 pub mod PictureTests
 pub mod WholeBanks

@@ -1,3 +1,4 @@
+-- The files of this folder.
 pub mod Scanned
 pub mod Fills
 pub mod Taken

@@ -10,7 +10,7 @@ use lib.Dec.{leb}
 use lib.IntN.{ℤ, pos}
 use mir.Syntax.{w16}
 use mir.Val.{toZ, ofZ}
-use Rattle.formulas.specs.Cells.{columnOf, rowOf, isLacking}
+use Rattle.formulas.specs.Cells.{cellColumn, cellRow, isLacking}
 use Rattle.formulas.proofs.Cells.{pixel-below, read-back}
 use Rattle.scope.specs.Plans.{banks, isPlan}
 use Rattle.scope.specs.Banks.{inside, depthOf, pixelOf}
@@ -48,16 +48,16 @@ module _ (p : Plan) (W H k i : ℕ) (plan : isPlan p ≡ true) (sides : isSide W
   -- the pixel whose column and row are given modulo 2^15
   cell-given :
       lacking ≡ false
-      → locate p W H k i ≡ PixelAt (pos (columnOf (p .a) (p .b) W k i % 32768)) (pos (rowOf (p .a) (p .d) W k i % 32768))
-  unfolding columnOf rowOf pixelOf
+      → locate p W H k i ≡ PixelAt (pos (cellColumn (p .a) (p .b) W k i % 32768)) (pos (cellRow (p .a) (p .d) W k i % 32768))
+  unfolding cellColumn cellRow pixelOf
   cell-given h =
       let below = pixel-below (p .a) (p .b) (p .d) W H k i h in
       let most = sides-mean W H sides in
       pixel-given h
       ∙ sym
       (rw (
-        mod-eq-of-lt {n = columnOf (p .a) (p .b) W k i} {m = 32768} (omega (arith, below .0, most .0 .1)),
-        mod-eq-of-lt {n = rowOf (p .a) (p .d) W k i} {m = 32768} (omega (arith, below .1, most .1 .1)),
+        mod-eq-of-lt {n = cellColumn (p .a) (p .b) W k i} {m = 32768} (omega (arith, below .0, most .0 .1)),
+        mod-eq-of-lt {n = cellRow (p .a) (p .d) W k i} {m = 32768} (omega (arith, below .1, most .1 .1)),
       ))
 
   -- t, x and y are what `reverse_map` gives for a and d less 1
@@ -65,8 +65,8 @@ module _ (p : Plan) (W H k i : ℕ) (plan : isPlan p ≡ true) (sides : isSide W
   Given a d t x y =
       let none : Bool = isLacking a (p .b) d W H k i in
       (t ≡ none)
-      × (x ≡ cond none (pos 0) (pos (columnOf a (p .b) W k i % 32768)))
-      × (y ≡ cond none (pos 0) (pos (rowOf a d W k i % 32768)))
+      × (x ≡ cond none (pos 0) (pos (cellColumn a (p .b) W k i % 32768)))
+      × (y ≡ cond none (pos 0) (pos (cellRow a d W k i % 32768)))
 
   module _ {t : Bool} {x y : ℤ} (given : Given (p .a - 1 + 1) (p .d - 1 + 1) t x y) where
     told : Given (p .a) (p .d) t x y
@@ -78,6 +78,6 @@ module _ (p : Plan) (W H k i : ℕ) (plan : isPlan p ≡ true) (sides : isSide W
     pub answer-pixel : t ≡ false → PixelAt (toZ w16 (ofZ w16 x)) (toZ w16 (ofZ w16 y)) ≡ locate p W H k i
     answer-pixel h =
         let there : lacking ≡ false = sym (told .0) ∙ h in
-        let column : x ≡ pos (columnOf (p .a) (p .b) W k i % 32768) = told .1 ∙ rw there in
-        let row : y ≡ pos (rowOf (p .a) (p .d) W k i % 32768) = told .2 ∙ rw there in
-        rw (column, row, read-back (columnOf (p .a) (p .b) W k i), read-back (rowOf (p .a) (p .d) W k i)) (sym (cell-given there))
+        let column : x ≡ pos (cellColumn (p .a) (p .b) W k i % 32768) = told .1 ∙ rw there in
+        let row : y ≡ pos (cellRow (p .a) (p .d) W k i % 32768) = told .2 ∙ rw there in
+        rw (column, row, read-back (cellColumn (p .a) (p .b) W k i), read-back (cellRow (p .a) (p .d) W k i)) (sym (cell-given there))

@@ -1,3 +1,4 @@
+-- The files of this folder, in the order to read them.
 pub mod Search
 pub mod Plans
 pub mod Finding

@@ -1,3 +1,4 @@
+-- The files of this folder.
 pub mod Digits
 pub mod Puts
 pub mod Texts

@@ -14,7 +14,7 @@ use borrow.Author.Needs.{needs}
 use borrow.Author.Tests.{le-ltb, lt-ltb, le-leb, lt-leb}
 use Rattle.integers.specs.Division.{ceilDiv}
 use Rattle.integers.proofs.Digits.{digits-below}
-use Rattle.formulas.specs.Cells.{columnOf, rowOf, isLacking}
+use Rattle.formulas.specs.Cells.{cellColumn, cellRow, isLacking}
 use Rattle.formulas.proofs.Ceilings.{rounded-at-most, product-fits, blocks-at-most}
 use Rattle.formulas.proofs.Cells.{read-back}
 use Rattle.formulas.proofs.reverse_map.Statement.{statement}
@@ -51,7 +51,7 @@ module _ (T b S W H k i C : ℕ) where
   lacking = isLacking a b d W H k i
 
   abbrev Right : Bool → ℤ → ℤ → Type 0
-  Right = Answers lacking (columnOf a b W k i) (rowOf a d W k i)
+  Right = Answers lacking (cellColumn a b W k i) (cellRow a d W k i)
 
   -- past the tests of bank and address: what the code forms fits 64 bits, and its answers are right
   record There : Type 0 where
@@ -116,12 +116,12 @@ module _ (T b S W H k i C : ℕ) where
         row-most : row < 8589934592
         row-most = omega (arith, digits-below D d strip-below g, blocks-at-most H S f, small .2, small .4)
 
-        column-is : column ≡ columnOf a b W k i
-        unfolding columnOf
+        column-is : column ≡ cellColumn a b W k i
+        unfolding cellColumn
         column-is = rw (← e)
 
-        row-is : row ≡ rowOf a d W k i
-        unfolding rowOf
+        row-is : row ≡ cellRow a d W k i
+        unfolding cellRow
         row-is = rw (← e)
 
         by-sides : {u v : Bool} → ltb column W ≡ u → ltb row H ≡ v → lacking ≡ not (u && v)

@@ -10,7 +10,7 @@ use borrow.Author.Needs.{needs}
 use Rattle.integers.proofs.Raised.{raised-read}
 use Rattle.integers.proofs.Ring.{ring, linear, _·_, reify}
 use Rattle.scope.specs.Plans.{Pixel, at, minus}
-use Rattle.finder.specs.Table.{cellOf}
+use Rattle.finder.specs.Table.{tableCell}
 use Rattle.finder.proofs.Marking.{InBounds, raised-outside, raised-inside}
 use Rattle.finder.proofs.finding.difference_cell.Statement.{statement}
 use Rattle.finder.proofs.finding.difference_cell.Tie as tie
@@ -53,10 +53,10 @@ module _ (c : tie.After-raised84) where
       linear ((pos 1 · h) ∷ (negsuc 0 · k) ∷ [])
       (ring (pos upper ∷ pos lower ∷ start .args .j ∷ start .args .y ∷ []) (search reify depth 40 fits 9000) refl)
 
-  outside : (InBounds right left upper lower → ⊥) → 2016 ≡ cellOf difference
+  outside : (InBounds right left upper lower → ⊥) → 2016 ≡ tableCell difference
   outside = raised-outside difference right left upper lower column row
 
-  inside : InBounds right left upper lower → 63 * (upper - lower) + (right - left) ≡ cellOf difference
+  inside : InBounds right left upper lower → 63 * (upper - lower) + (right - left) ≡ tableCell difference
   inside = raised-inside difference right left upper lower column row
 
 raised8-requires : tie.Need-raised8-requires

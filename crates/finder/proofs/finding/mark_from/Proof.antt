@@ -12,7 +12,7 @@ use borrow.Author.Needs.{needs}
 use Rattle.scope.specs.Plans.{Pixel, at, minus, pixelAt}
 use Rattle.scope.specs.declared.Pattern.{Pattern}
 use Rattle.scope.proofs.PlanFacts.{entry-handed}
-use Rattle.finder.specs.Table.{cellOf, markFrom}
+use Rattle.finder.specs.Table.{tableCell, markFrom}
 use Rattle.finder.proofs.Marking.{cell-below, length-markFrom}
 use Rattle.finder.proofs.finding.mark_from.Statement.{statement}
 use Rattle.finder.proofs.finding.mark_from.Tie as tie
@@ -60,11 +60,11 @@ module _ (c : tie.After-difference-cell Inv-loop μ-loop) where
   abbrev l : ℕ
   l = head .loop .l
 
-  cell-is : c .difference-cell .result ≡ cellOf (minus (pixelAt t l) (pixelAt t e))
+  cell-is : c .difference-cell .result ≡ tableCell (minus (pixelAt t l) (pixelAt t e))
   unfolding pixelAt at
   cell-is =
       c .difference-cell .ensures
-      ∙ ap₂ (λ (v w : Pixel). cellOf (minus v w))
+      ∙ ap₂ (λ (v w : Pixel). tableCell (minus v w))
       (entry-handed w8 _ _ (c .before .before .difference-cell-arg .given) (c .before .difference-cell-arg2 .given))
       (entry-handed w8 _ _ (head .before .before .x .given) (head .before .y .given))
 
