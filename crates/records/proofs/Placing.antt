@@ -9,6 +9,7 @@ use mathlib.Core.List.{[], _∷_, List·Memᴰ·head}
 use lib.Signed.{mag}
 use mir.Syntax.{w16}
 use mir.Val.{hbits, toZ, ofZ}
+use Rattle.integers.proofs.Raised.{number-handed}
 use Rattle.scope.specs.Search.{firstOf}
 use Rattle.scope.specs.Plans.{Pixel, at, banks}
 use Rattle.scope.specs.Banks.{bankOf, addressOf}
@@ -35,6 +36,14 @@ pub record-pixel-handed :
     → at (toZ w16 (ofZ w16 (r .column))) (toZ w16 (ofZ w16 (r .row))) ≡ recordPixel r
 unfolding recordPixel at
 record-pixel-handed r f g = entry-handed w16 (r .column) (r .row) f g
+
+-- and so is a record whose pixel was read and put again
+pub record-put :
+    (r : PixelRecord) (k u : ℕ) → mag (r .column) < 2 ^ hbits w16 → mag (r .row) < 2 ^ hbits w16
+    → _≡_ {A = PixelRecord}
+    (record { column = toZ w16 (ofZ w16 (r .column)); row = toZ w16 (ofZ w16 (r .row)); bank = k; address = u })
+    (record { column = r .column; row = r .row; bank = k; address = u })
+record-put r k u f g = rw (number-handed w16 f, number-handed w16 g)
 
 module _ (p : Plan) (W H : ℕ) (r : PixelRecord) where
   abbrev v : Pixel

@@ -2,16 +2,15 @@
 -- Assumes nothing.
 use Prim.Native.Nat.{ℕ, _<_, _^_}
 use native.Mathlib.Omega.{arith}
-use mathlib.Core.Path.{_≡_, subst}
+use mathlib.Core.Path.{_≡_, _∙_, subst}
 use lib.Signed.{mag}
 use borrow.Author.Needs.{needs}
 use mir.Syntax.{w16}
 use mir.Val.{hbits}
-use Rattle.integers.proofs.Raised.{number-handed}
 use Rattle.scope.specs.Plans.{Pixel}
 use Rattle.scope.specs.Calls.{bank, address, recordPixel}
 use Rattle.scope.specs.declared.Counted.{Counted}
-use Rattle.records.proofs.Placing.{record-pixel-handed, kept, address-small, no-bank, bank-small, is-placed}
+use Rattle.records.proofs.Placing.{record-pixel-handed, record-put, kept, address-small, no-bank, bank-small, is-placed}
 use Rattle.records.proofs.placed.Statement.{statement}
 use Rattle.records.proofs.placed.Tie as tie
 
@@ -96,8 +95,8 @@ cast-t12 c =
 returns-3 : tie.Need-returns-3
 returns-3 c =
     let b = c .before .before .before in
-    rw (number-handed w16 (column-fits (addressed b)), number-handed w16 (row-fits (addressed b)))
-    (is-placed _ _ _ _ (address-given (addressed b)) (u-given b) (bank-given b) (c .before .bank2 .given .1))
+    record-put (start (addressed b) .args .r) _ _ (column-fits (addressed b)) (row-fits (addressed b))
+    ∙ is-placed _ _ _ _ (address-given (addressed b)) (u-given b) (bank-given b) (c .before .bank2 .given .1)
 
 pub placed-spec : {M : Type 1} → statement M
 placed-spec =
