@@ -19,10 +19,10 @@ use Rattle.integers.proofs.Order.{eq-by}
 use Rattle.scope.specs.Search.{gather}
 use Rattle.scope.specs.Plans.{Pixel}
 use Rattle.scope.specs.Books.{byte, signed, unsigned, start, place, pixelIn, partIn, pixelBytes, patternBytes}
-use Rattle.scope.specs.Meaning.{InRange}
-use Rattle.scope.specs.BookPromises.{TwosComplement, Bytes}
-use Rattle.laws.proofs.Searches.{length-gather}
-use Rattle.laws.proofs.Lists.{append-assoc, append-nil, length-flatMap}
+use Rattle.scope.specs.promises.Meaning.{InRange}
+use Rattle.scope.specs.promises.BookPromises.{TwosComplement, Bytes}
+use Rattle.checks.proofs.Searches.{length-gather}
+use Rattle.checks.proofs.Lists.{append-assoc, append-nil, length-flatMap}
 
 -- A byte below 128 is its own number, and one from 128 on stands for 256 less.
 signed-of-low : (n : ℕ) → n < 128 → signed n ≡ pos n

@@ -7,7 +7,7 @@ use mathlib.Core.Logic.{_⊎_, inl, inr}
 use mathlib.Core.List.{List, [], _∷_, List·Memᴰ, List·Memᴰ·cases-cons, List·Memᴰ·not-nil}
 use lib.ListN.{length, getD}
 use Rattle.scope.specs.Program.{digits, decimal}
-use Rattle.scope.specs.BookPromises.{numberIn, DecimalMeans}
+use Rattle.scope.specs.promises.BookPromises.{numberIn, DecimalMeans}
 
 -- What holds of a number of one digit, and of a number if it holds of the number without its last digit in front of that
 -- digit, holds of all that `digits` writes, if the steps suffice.

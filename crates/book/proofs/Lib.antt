@@ -16,4 +16,9 @@ pub mod Outcomes
 pub mod Window
 pub mod Scanning
 pub mod RecordLoops
-pub mod Puts
+pub mod PutBooks
+pub mod Scanned
+pub mod Fills
+pub mod Taken
+pub mod PartAnswers
+pub mod LongInput

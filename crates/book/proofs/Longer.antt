@@ -12,10 +12,10 @@ use Rattle.integers.proofs.Comparisons.{ltb-iff}
 use Rattle.scope.specs.Search.{first, gather}
 use Rattle.scope.specs.Books.{byte, start, place, pixelIn, patternOf, bookIn}
 use Rattle.scope.specs.Numbers.{countRead, patternRead, extraTest, bytesTest}
-use Rattle.scope.specs.Meaning.{IsPattern}
+use Rattle.scope.specs.promises.Meaning.{IsPattern}
 use Rattle.scope.specs.declared.Refusal.the-variants.{Extra}
-use Rattle.laws.proofs.Searches.{gather-same, none-first, some-whenever}
-use Rattle.laws.proofs.Chains.{chain-refuses, chain-goes-on}
+use Rattle.checks.proofs.Searches.{gather-same, none-first, some-whenever}
+use Rattle.checks.proofs.Chains.{chain-refuses, chain-goes-on}
 use Rattle.book.proofs.Bytes.{patternIn, next-start, start-after}
 use Rattle.book.proofs.Reading.{FromTo, gathered-book-iff, count-read-iff, pattern-is-read, bytes-taken-iff}
 

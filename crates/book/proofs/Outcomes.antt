@@ -11,8 +11,8 @@ use Rattle.scope.specs.Calls.{answered, recordOutcome}
 use Rattle.scope.specs.declared.Book.{Book}
 use Rattle.scope.specs.declared.Refusal.{Refusal}
 use Rattle.scope.specs.declared.Outcome.{Outcome}
-use Rattle.laws.proofs.Searches.{found-from-0, none-first}
-use Rattle.laws.proofs.Chains.{answered-none, answered-some}
+use Rattle.checks.proofs.Searches.{found-from-0, none-first}
+use Rattle.checks.proofs.Chains.{answered-none, answered-some}
 use Rattle.book.specs.Scan.{outcomeOf}
 
 pub answered-by-refusal : (t : Option Refusal) (r : Refusal) → t ≡ some r → Outcome.Refused r ≡ outcomeOf t

@@ -13,14 +13,14 @@ use Rattle.scope.specs.Plans.{patternAt, pixels, patterns}
 use Rattle.scope.specs.Books.{byte, start, place, partIn, bookIn, pixelBytes, patternBytes}
 use Rattle.scope.specs.Numbers.{value, refusal, ofOutcome, bytesTest}
 use Rattle.scope.specs.Calls.{readBook, partTest, patternPart, partOutcome, partPlace}
-use Rattle.scope.specs.BookPromises.{Bytes, PartsAre}
+use Rattle.scope.specs.promises.BookPromises.{Bytes, PartsAre}
 use Rattle.scope.specs.declared.Clash.{Clash}
 use Rattle.scope.specs.declared.Outcome.{Outcome}
-use Rattle.laws.proofs.Searches.{getD-gather}
-use Rattle.laws.proofs.Chains.{value-not-refusal, answered-none, answered-some, RefusedBy, answered-value, answered-refusal}
-use Rattle.laws.proofs.Booleans.{last-test, test-before}
-use Rattle.laws.proofs.Tests.{number-in-book-iff}
-use Rattle.laws.proofs.Patterns.{getD-patterns}
+use Rattle.checks.proofs.Searches.{getD-gather}
+use Rattle.checks.proofs.Chains.{value-not-refusal, answered-none, answered-some, RefusedBy, answered-value, answered-refusal}
+use Rattle.checks.proofs.Booleans.{last-test, test-before}
+use Rattle.checks.proofs.Tests.{number-in-book-iff}
+use Rattle.checks.proofs.Patterns.{getD-patterns}
 use Rattle.book.proofs.Bytes.{patternIn, first-place, start-after, start-is-length, part-is-pixel-bytes}
 use Rattle.book.proofs.Reading.{bytes-taken-iff}
 use Rattle.book.proofs.ReadWrite.{book-read, read-taken-iff, count-of-read, patterns-of-read}

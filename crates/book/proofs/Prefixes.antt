@@ -13,13 +13,13 @@ use Rattle.scope.specs.Search.{gather}
 use Rattle.scope.specs.Plans.{Pixel}
 use Rattle.scope.specs.Books.{byte, start, place, pixelIn, patternOf, pixelBytes}
 use Rattle.scope.specs.Numbers.{countRead, pixelRead, patternRead, extraTest, bytesTest}
-use Rattle.scope.specs.Meaning.{IsPattern}
-use Rattle.scope.specs.RefusalPromises.{bytesSoFar, PatternsSoFar, bytesWithin, PixelsSoFar}
+use Rattle.scope.specs.promises.Meaning.{IsPattern}
+use Rattle.scope.specs.promises.RefusalPromises.{bytesSoFar, PatternsSoFar, bytesWithin, PixelsSoFar}
 use Rattle.scope.specs.declared.Refusal.{Refusal}
-use Rattle.laws.proofs.Searches.{getD-gather}
-use Rattle.laws.proofs.Lists.{append-assoc, mem-getD}
-use Rattle.laws.proofs.BookRefusals.{search-refuses}
-use Rattle.laws.proofs.Patterns.{pattern-in-range}
+use Rattle.checks.proofs.Searches.{getD-gather}
+use Rattle.checks.proofs.Lists.{append-assoc, mem-getD}
+use Rattle.checks.proofs.BookRefusals.{search-refuses}
+use Rattle.checks.proofs.Patterns.{pattern-in-range}
 use Rattle.book.proofs.Records.{used-patternOf, pixels-patternOf}
 use Rattle.book.proofs.Bytes.{Rest, length-of-rest, first-of-rest, others-of-rest, patternIn, first-place}
 use Rattle.book.proofs.Written.{AllInRange, pixels-at-rest, patterns-at-rest}

@@ -7,13 +7,13 @@ use mathlib.Core.List.{List, _++_}
 use Rattle.scope.specs.Numbers.{value, refusal, ofPlanned, ofOutcome}
 use Rattle.scope.specs.Calls.{readBook, find}
 use Rattle.scope.specs.Program.{ascii, decimal, planLines, refusedLine, planText, programText}
-use Rattle.scope.specs.BookPromises.{ProgramWrites}
+use Rattle.scope.specs.promises.BookPromises.{ProgramWrites}
 use Rattle.scope.specs.declared.Plan.{Plan}
 use Rattle.scope.specs.declared.Planned.{Planned}
 use Rattle.scope.specs.declared.Outcome.{Outcome}
 use Rattle.scope.specs.declared.Refusal.{Refusal}
 use Rattle.scope.specs.declared.Clash.{Clash}
-use Rattle.laws.proofs.Chains.{value-not-refusal, value-injective, refusal-number}
+use Rattle.checks.proofs.Chains.{value-not-refusal, value-injective, refusal-number}
 
 -- what the program writes for an outcome of the reader and an answer of the finder
 abbrev written : Outcome → Planned → List ℕ

@@ -13,17 +13,17 @@ use Rattle.scope.specs.Banks.{overStart}
 use Rattle.scope.specs.Books.{byte, patternBytes, bookOf, bookIn, bookBytes}
 use Rattle.scope.specs.Numbers.{value, ofOutcome, ofCounted, bytesTest}
 use Rattle.scope.specs.Calls.{readBook, writeBook}
-use Rattle.scope.specs.Meaning.{IsBook}
-use Rattle.scope.specs.BookPromises.{Bytes, BytesMean, ReadsBack, ReadAfterWrite, WriteAfterRead}
+use Rattle.scope.specs.promises.Meaning.{IsBook}
+use Rattle.scope.specs.promises.BookPromises.{Bytes, BytesMean, ReadsBack, ReadAfterWrite, WriteAfterRead}
 use Rattle.scope.specs.declared.Book.{Book}
 use Rattle.scope.specs.declared.Counted.{Counted}
 use Rattle.scope.specs.declared.Reading.{Reading}
-use Rattle.laws.proofs.Searches.{length-gather}
-use Rattle.laws.proofs.Chains.{value-injective, answered-none, changed-none-content, answered-value, changed-value}
-use Rattle.laws.proofs.BookTests.{book-legal-iff}
-use Rattle.laws.proofs.Legal.{write-test-iff, legal-calls-answer}
-use Rattle.laws.proofs.Outputs.{over-start-first, over-start-rest, over-start-length}
-use Rattle.laws.proofs.Patterns.{mem-patterns, length-patterns, pattern-in-range}
+use Rattle.checks.proofs.Searches.{length-gather}
+use Rattle.checks.proofs.Chains.{value-injective, answered-none, changed-none-content, answered-value, changed-value}
+use Rattle.checks.proofs.BookTests.{book-legal-iff}
+use Rattle.checks.proofs.Legal.{write-test-iff, legal-calls-answer}
+use Rattle.checks.proofs.Outputs.{over-start-first, over-start-rest, over-start-length}
+use Rattle.checks.proofs.Patterns.{mem-patterns, length-patterns, pattern-in-range}
 use Rattle.book.proofs.Records.{used-patternOf, count-bookOf, patternAt-bookOf, patterns-bookOf}
 use Rattle.book.proofs.Unused.{same-record-tests, rebuilt-same}
 use Rattle.book.proofs.Bytes.{patternIn, patternsIn, bytes-are-of-patterns}

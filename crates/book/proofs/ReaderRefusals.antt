@@ -16,17 +16,17 @@ use Rattle.scope.specs.Books.{byte, signed, start, place, pixelIn, bookOf}
 use Rattle.scope.specs.Numbers.{refusal, turnedDown, ofOutcome, countTest, pixelTest, countRead, pixelRead, patternRead}
 use Rattle.scope.specs.Numbers.{extraTest, bytesTest, numberTest}
 use Rattle.scope.specs.Calls.{readBook, partTest, partOutcome}
-use Rattle.scope.specs.Meaning.{InRange}
-use Rattle.scope.specs.RefusalPromises.{bytesSoFar, PatternsSoFar, bytesWithin, PixelsSoFar, readAnswer, ReaderRefuses}
+use Rattle.scope.specs.promises.Meaning.{InRange}
+use Rattle.scope.specs.promises.RefusalPromises.{bytesSoFar, PatternsSoFar, bytesWithin, PixelsSoFar, readAnswer, ReaderRefuses}
 use Rattle.scope.specs.declared.Clash.{Clash}
 use Rattle.scope.specs.declared.Outcome.{Outcome}
 use Rattle.scope.specs.declared.Reading.{Reading}
 use Rattle.scope.specs.declared.Refusal.{Refusal}
 use Rattle.scope.specs.declared.Refusal.the-variants.{Ends, Count, Coordinate, Repeat, Extra, NoPattern}
-use Rattle.laws.proofs.Searches.{At, mem-gather, none-whenever, some-whenever}
-use Rattle.laws.proofs.Lists.{append-nil}
-use Rattle.laws.proofs.Chains.{value-not-refusal, chain-refuses, chain-goes-on, answered-some, RefusedBy, answered-refusal}
-use Rattle.laws.proofs.BookRefusals.{count-refused, column-refused, row-refused, repeat-refused}
+use Rattle.checks.proofs.Searches.{At, mem-gather, none-whenever, some-whenever}
+use Rattle.checks.proofs.Lists.{append-nil}
+use Rattle.checks.proofs.Chains.{value-not-refusal, chain-refuses, chain-goes-on, answered-some, RefusedBy, answered-refusal}
+use Rattle.checks.proofs.BookRefusals.{count-refused, column-refused, row-refused, repeat-refused}
 use Rattle.book.specs.Scan.{pixelFrom}
 use Rattle.book.proofs.Bytes.{Rest, length-of-rest, first-of-rest}
 use Rattle.book.proofs.Written.{pixel-of-bytes}

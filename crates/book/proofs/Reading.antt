@@ -13,12 +13,12 @@ use Rattle.scope.specs.Search.{gather}
 use Rattle.scope.specs.Plans.{Pixel, pixelAt, patternAt}
 use Rattle.scope.specs.Books.{byte, start, place, pixelIn, patternOf, bookOf, bookIn}
 use Rattle.scope.specs.Numbers.{countRead, pixelRead, patternRead, extraTest, bytesTest}
-use Rattle.scope.specs.Meaning.{InRange, IsPattern, IsBook}
+use Rattle.scope.specs.promises.Meaning.{InRange, IsPattern, IsBook}
 use Rattle.scope.specs.declared.Refusal.the-variants.{Ends, Extra}
-use Rattle.laws.proofs.Searches.{length-gather, getD-gather}
-use Rattle.laws.proofs.Booleans.{refuses-iff, last-test, test-before, first-iff}
-use Rattle.laws.proofs.BookTests.{count-legal-iff, pixel-legal-iff}
-use Rattle.laws.proofs.Patterns.{origin}
+use Rattle.checks.proofs.Searches.{length-gather, getD-gather}
+use Rattle.checks.proofs.Booleans.{refuses-iff, last-test, test-before, first-iff}
+use Rattle.checks.proofs.BookTests.{count-legal-iff, pixel-legal-iff}
+use Rattle.checks.proofs.Patterns.{origin}
 use Rattle.book.proofs.Records.{used-patternOf, pixelAt-patternOf, count-bookOf, patternAt-bookOf}
 use Rattle.book.proofs.Bytes.{patternIn, patternsIn, next-place, last-place, next-start, start-after}
 

@@ -11,7 +11,7 @@ use Rattle.scope.specs.declared.Book.{Book}
 use Rattle.scope.specs.declared.Pattern.{Pattern}
 use Rattle.scope.specs.declared.Outcome.{Outcome}
 use Rattle.scope.specs.declared.Refusal.{Refusal}
-use Rattle.laws.proofs.BookRefusals.{record-refuses}
+use Rattle.checks.proofs.BookRefusals.{record-refuses}
 use Rattle.book.specs.Scan.{outcomeOf, patternTestOf}
 use Rattle.book.proofs.Reading.{FromTo}
 use Rattle.book.proofs.Outcomes.{answered-by-refusal, answered-by-done, done-found-nothing, refused-found}

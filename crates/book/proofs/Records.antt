@@ -10,8 +10,8 @@ use lib.ListN.{length, getD, List·getD-eq-default, List·getD-map}
 use lib.Seq.{ext-getD}
 use Rattle.scope.specs.Plans.{Pixel, at, pixelAt, noPattern, patternAt, pixels, patterns}
 use Rattle.scope.specs.Books.{filled, patternOf, bookOf}
-use Rattle.laws.proofs.Searches.{length-gather, getD-gather}
-use Rattle.laws.proofs.Patterns.{origin, same-coordinates, length-pixels, getD-pixels, length-patterns, getD-patterns}
+use Rattle.checks.proofs.Searches.{length-gather, getD-gather}
+use Rattle.checks.proofs.Patterns.{origin, same-coordinates, length-pixels, getD-pixels, length-patterns, getD-patterns}
 
 -- An array of n entries that begins with xs and goes on with x: its length, and the entry at a place below n.
 length-filled : {A : Type 0} (n : ℕ) (x : A) (xs : List A) → length (filled n x xs) ≡ n

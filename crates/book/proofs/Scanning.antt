@@ -19,10 +19,10 @@ use Rattle.scope.specs.declared.Pattern.{Pattern}
 use Rattle.scope.specs.declared.Book.{Book}
 use Rattle.scope.specs.declared.Refusal.{Refusal}
 use Rattle.scope.specs.declared.Refusal.the-variants.{Count}
-use Rattle.laws.proofs.Searches.{some-whenever, none-whenever}
-use Rattle.laws.proofs.Chains.{chain-refuses, chain-goes-on, chain-of-one}
-use Rattle.laws.proofs.BookTests.{count-legal-iff, pattern-legal-iff, book-legal-iff}
-use Rattle.laws.proofs.BookRefusals.{count-refused, search-refuses}
+use Rattle.checks.proofs.Searches.{some-whenever, none-whenever}
+use Rattle.checks.proofs.Chains.{chain-refuses, chain-goes-on, chain-of-one}
+use Rattle.checks.proofs.BookTests.{count-legal-iff, pattern-legal-iff, book-legal-iff}
+use Rattle.checks.proofs.BookRefusals.{count-refused, search-refuses}
 use Rattle.book.specs.Scan.{entryNumber, pixelFrom, pixelReadFrom, patternReadFrom, patternTestOf}
 use Rattle.book.proofs.Reading.{FromTo}
 

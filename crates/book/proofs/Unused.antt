@@ -13,14 +13,14 @@ use Rattle.scope.specs.Plans.{Pixel, at, samePixel, pixelAt, noPattern, pattern
 use Rattle.scope.specs.Books.{patternOf, bookOf, bookIn}
 use Rattle.scope.specs.Numbers.{repeats, pixelTest, patternTest, recordTest, bytesTest}
 use Rattle.scope.specs.Calls.{answered, readBook}
-use Rattle.scope.specs.Meaning.{IsBook}
-use Rattle.scope.specs.BookPromises.{SameUsed, ReaderSetsZero}
+use Rattle.scope.specs.promises.Meaning.{IsBook}
+use Rattle.scope.specs.promises.BookPromises.{SameUsed, ReaderSetsZero}
 use Rattle.scope.specs.declared.Book.{Book}
 use Rattle.scope.specs.declared.Refusal.{Refusal}
 use Rattle.scope.specs.declared.Outcome.{Outcome}
 use Rattle.scope.specs.declared.Reading.{Reading}
-use Rattle.laws.proofs.Searches.{first-same, gather-same, someBelow-same}
-use Rattle.laws.proofs.Patterns.{origin, length-pixels, getD-pixels, length-patterns, getD-patterns}
+use Rattle.checks.proofs.Searches.{first-same, gather-same, someBelow-same}
+use Rattle.checks.proofs.Patterns.{origin, length-pixels, getD-pixels, length-patterns, getD-patterns}
 use Rattle.book.proofs.Records.{used-patternOf, length-columns-patternOf, length-rows-patternOf}
 use Rattle.book.proofs.Records.{columns-patternOf, rows-patternOf, pixelAt-patternOf}
 use Rattle.book.proofs.Records.{count-bookOf, length-array-bookOf, patternAt-bookOf, patternAt-bookOf-past-array}

@@ -13,13 +13,13 @@ use Rattle.scope.specs.Books.{bookBytes}
 use Rattle.scope.specs.Numbers.{recordTest, planTest, sidesTest, memoryTest, numberTest, suitsTest, outsideTest, ringTest, outputTest}
 use Rattle.scope.specs.Calls.{changed, Result, writeBook, findTest, find, checkTest, check}
 use Rattle.scope.specs.Calls.{moved, fetchTest, fetch, ringFetchTest, ringMoved, ringFetch}
-use Rattle.scope.specs.BookPromises.{SameUsed, UnusedDontCount}
+use Rattle.scope.specs.promises.BookPromises.{SameUsed, UnusedDontCount}
 use Rattle.scope.specs.declared.Plan.{Plan}
 use Rattle.scope.specs.declared.Book.{Book}
 use Rattle.scope.specs.declared.Refusal.{Refusal}
 use Rattle.scope.specs.declared.Counted.{Counted}
-use Rattle.laws.proofs.Chains.{chain-is-first, changed-alike}
-use Rattle.laws.proofs.Tests.{number-in-book-iff}
+use Rattle.checks.proofs.Chains.{chain-is-first, changed-alike}
+use Rattle.checks.proofs.Tests.{number-in-book-iff}
 use Rattle.book.proofs.Unused.{same-record-tests, same-pixels, same-patterns, rebuilt-same}
 
 -- Finding, checking and writing look at a record's tests, its count and its patterns.

@@ -15,13 +15,13 @@ use Rattle.integers.proofs.Ring.{reify}
 use Rattle.integers.proofs.Order.{le-by, eq-by, of-le, of-eq}
 use Rattle.scope.specs.Plans.{Pixel}
 use Rattle.scope.specs.Numbers.{small, pixelTest}
-use Rattle.scope.specs.Meaning.{InRange}
+use Rattle.scope.specs.promises.Meaning.{InRange}
 use Rattle.scope.specs.declared.Refusal.{Refusal}
-use Rattle.laws.proofs.Searches.{true-not-false, not-true-is-false, At}
-use Rattle.laws.proofs.Lists.{getD-set-same, getD-set-other}
-use Rattle.laws.proofs.Patterns.{same-coordinates}
-use Rattle.laws.proofs.BookTests.{small-iff, pixel-legal-iff}
-use Rattle.laws.proofs.BookRefusals.{column-refused, row-refused, repeat-refused}
+use Rattle.checks.proofs.Searches.{true-not-false, not-true-is-false, At}
+use Rattle.checks.proofs.Lists.{getD-set-same, getD-set-other}
+use Rattle.checks.proofs.Patterns.{same-coordinates}
+use Rattle.checks.proofs.BookTests.{small-iff, pixel-legal-iff}
+use Rattle.checks.proofs.BookRefusals.{column-refused, row-refused, repeat-refused}
 use Rattle.book.specs.Scan.{cellOf}
 
 -- A coordinate's distance from -16.

@@ -9,9 +9,9 @@ use lib.ListN.{length}
 use Rattle.scope.specs.Search.{gather}
 use Rattle.scope.specs.Plans.{Pixel, at}
 use Rattle.scope.specs.Books.{byte, signed, unsigned, start, place, pixelIn, pixelBytes, patternBytes}
-use Rattle.scope.specs.Meaning.{InRange}
-use Rattle.laws.proofs.Lists.{append-assoc, append-nil}
-use Rattle.laws.proofs.Patterns.{same-coordinates}
+use Rattle.scope.specs.promises.Meaning.{InRange}
+use Rattle.checks.proofs.Lists.{append-assoc, append-nil}
+use Rattle.checks.proofs.Patterns.{same-coordinates}
 use Rattle.book.proofs.Bytes.{signed-unsigned, Rest, length-of-rest, first-of-rest, others-of-rest, patternIn, patternsIn}
 use Rattle.book.proofs.Bytes.{next-place, first-place, last-place}
 

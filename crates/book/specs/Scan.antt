@@ -8,9 +8,9 @@ use mathlib.Core.Bool.{cond}
 use lib.Dec.{ltb}
 use lib.IntN.{pos, natAbs, _+ℤ_}
 use lib.ListN.{length}
-use Rattle.scope.specs.Search.{first, whenever, firstOf}
+use Rattle.scope.specs.Search.{first, gather, whenever, firstOf}
 use Rattle.scope.specs.Plans.{Pixel, pixelAt}
-use Rattle.scope.specs.Books.{byte, signed}
+use Rattle.scope.specs.Books.{byte, signed, patternOf}
 use Rattle.scope.specs.Numbers.{countTest, small, pixelTest, countRead}
 use Rattle.scope.specs.Calls.{answered}
 use Rattle.scope.specs.declared.Pattern.{Pattern}
@@ -39,6 +39,11 @@ pixelReadFrom s i e =
 unfoldable pub patternReadFrom : List ℕ → ℕ → Option Refusal
 unfolding firstOf first countRead pixelReadFrom byte
 patternReadFrom s i = firstOf (countRead s 64 i ∷ first 0 (byte s i) (pixelReadFrom s (i + 1)) ∷ [])
+
+-- the record of the pattern whose pixel count is at place i, as the loop over the patterns fills it
+unfoldable pub patternFrom : List ℕ → ℕ → Pattern
+unfolding patternOf gather pixelFrom byte
+patternFrom s i = patternOf (gather 0 (byte s i) (pixelFrom s (i + 1)))
 
 -- the number of the entry that stands for pattern n: n, or the last one where there is none
 abbrev pub entryNumber : ℕ → ℕ

@@ -7,9 +7,9 @@ use lib.IntN.{ℤ}
 use Rattle.scope.specs.declared.Pattern.{Pattern}
 use Rattle.book.specs.Scan.{entryNumber}
 use Rattle.book.proofs.Scanning.{entry-number-below}
-use Rattle.fetches.specs.Fetching.{entryFor}
-use Rattle.boundary.specs.Flat.{flatBook, flatEntry}
-use Rattle.boundary.proofs.Flattened.{pattern-there}
+use Rattle.pictures.specs.Fetching.{entryFor}
+use Rattle.capi.specs.Flat.{flatBook, flatEntry}
+use Rattle.capi.proofs.Flattened.{pattern-there}
 
 pub entry-there :
     (columns rows : List ℤ) (used : List ℕ) (count n : ℕ) {t : Pattern} → t ≡ flatEntry columns rows used n

@@ -1,26 +1,28 @@
 // The library for C and Rust: the calls on numbers, slices and arrays. Each answers a number, 0 where it was not refused, and
 // puts what it has to tell at the start of `answer`, the rest unchanged: its values, or the refusal's place and, of 10, the
 // clash's pattern and its earlier and later position.
+mod flat;
 mod list;
 mod memory;
+mod told;
 
+use crate::flat::book_of;
+use crate::flat::put_pixels;
+use crate::flat::put_used;
+use crate::flat::tested_of;
+use crate::told::tell_counted;
+use crate::told::tell_located;
+use crate::told::tell_outcome;
+use crate::told::tell_planned;
+use crate::told::tell_verdict;
+use book::part_outcome;
+use book::part_place;
+use book::pattern_part;
+use book::read_book;
 use book::write_book;
-use boundary::book_of;
-use boundary::put_pixels;
-use boundary::put_used;
-use boundary::tell_counted;
-use boundary::tell_located;
-use boundary::tell_outcome;
-use boundary::tell_planned;
-use boundary::tell_verdict;
-use boundary::tested_of;
-use checker::check;
+use finder::check;
 use finder::find;
 use lattice::normal_form;
-use reader::part_outcome;
-use reader::part_place;
-use reader::pattern_part;
-use reader::read_book;
 use scope::Outcome;
 use scope::Plan;
 ghost use mathlib.Core.Path.{_≡_};
@@ -29,8 +31,8 @@ ghost use lib.ListN.{length};
 ghost use Rattle.scope.specs.Plans.{at, plan};
 ghost use Rattle.scope.specs.Numbers.{ofPlanned, ofCounted, ofLocated, ofOutcome, ofVerdict};
 ghost use Rattle.scope.specs.Calls.{readBook, patternPart, partOutcome, partPlace, recordOutcome, writeBook, normal, find, check, bank, depth, address, locate};
-ghost use Rattle.boundary.specs.Told.{Tells, planRow, numberRow, pixelRow, checkedRow, noRow};
-ghost use Rattle.boundary.specs.Flat.{flatBook, flatColumns, flatRows, flatUsed, ofReading, countRow, whenRead};
+ghost use Rattle.capi.specs.Told.{Tells, planRow, numberRow, pixelRow, checkedRow, noRow};
+ghost use Rattle.capi.specs.Flat.{flatBook, flatColumns, flatRows, flatUsed, ofReading, countRow, whenRead};
 
 // The normal form of (x1, x2) and (y1, y2): a, b, d.
 #[no_mangle]

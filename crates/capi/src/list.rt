@@ -1,5 +1,5 @@
 // The record list: a slice of records laid out as C does.
-use boundary::tell_outcome;
+use crate::told::tell_outcome;
 use records::fill_records;
 use scope::PixelRecord;
 use scope::Plan;
@@ -7,7 +7,7 @@ ghost use mathlib.Core.Path.{_≡_};
 ghost use Rattle.scope.specs.Plans.{plan};
 ghost use Rattle.scope.specs.Numbers.{ofOutcome};
 ghost use Rattle.scope.specs.Calls.{fillRecords};
-ghost use Rattle.boundary.specs.Told.{Tells, noRow};
+ghost use Rattle.capi.specs.Told.{Tells, noRow};
 
 // Fills in the bank and the address of every record.
 #[no_mangle]

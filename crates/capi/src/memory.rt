@@ -1,13 +1,13 @@
 // The calls on a picture: the memory is a slice of 16-bit words.
-use boundary::entry_of;
-use boundary::tell_counted;
-use boundary::tell_loaded;
-use boundary::tell_outcome;
-use boundary::tested_of;
-use fetches::fetch_pattern;
-use fetches::ring_fetch_pattern;
+use crate::flat::entry_of;
+use crate::flat::tested_of;
+use crate::told::tell_counted;
+use crate::told::tell_loaded;
+use crate::told::tell_outcome;
 use pictures::clear;
+use pictures::fetch_pattern;
 use pictures::load;
+use pictures::ring_fetch_pattern;
 use pictures::store;
 use pictures::sum;
 use scope::Plan;
@@ -15,8 +15,8 @@ ghost use mathlib.Core.Path.{_≡_};
 ghost use Rattle.scope.specs.Plans.{at, plan};
 ghost use Rattle.scope.specs.Numbers.{ofCounted, ofLoaded, ofOutcome};
 ghost use Rattle.scope.specs.Calls.{store, load, clear, sum, fetch, ringFetch};
-ghost use Rattle.boundary.specs.Told.{Tells, numberRow, noRow};
-ghost use Rattle.boundary.specs.Flat.{flatBook};
+ghost use Rattle.capi.specs.Told.{Tells, numberRow, noRow};
+ghost use Rattle.capi.specs.Flat.{flatBook};
 
 // Stores x at the pixel (i, j).
 #[no_mangle]

@@ -12,16 +12,16 @@ use lib.ListN.{length, getD, length-map}
 use Rattle.scope.specs.Plans.{Pixel, plus, patterns, plan, banks, suits}
 use Rattle.scope.specs.Finding.{boxWidth, boxHeight, leastPlan}
 use Rattle.scope.specs.Banks.{bankOf}
-use Rattle.scope.specs.Meaning.{IsPlan}
-use Rattle.scope.specs.Demand.{AllDifferent}
-use Rattle.scope.specs.PlanPromises.{FinderBounds, FinderStaysWithin, LimitIsEnough}
+use Rattle.scope.specs.promises.Meaning.{IsPlan}
+use Rattle.scope.specs.promises.Demand.{AllDifferent}
+use Rattle.scope.specs.promises.PlanPromises.{FinderBounds, FinderStaysWithin, LimitIsEnough}
 use Rattle.scope.specs.declared.Plan.{Plan}
-use Rattle.laws.proofs.Lists.{mem-getD, mem-map}
-use Rattle.laws.proofs.Patterns.{origin, Different, different-in-book}
-use Rattle.lattice.proofs.Banks.{bank-below-count}
+use Rattle.checks.proofs.Lists.{mem-getD, mem-map}
+use Rattle.checks.proofs.Patterns.{origin, Different, different-in-book}
+use Rattle.lattice.proofs.SameBank.{bank-below-count}
 use Rattle.lattice.proofs.Suits.{suits-all-iff}
 use Rattle.lattice.proofs.Apart.{moved-banks-differ}
-use Rattle.finder.proofs.Search.{suiting-is-plan, least-plan-some, some-least-plan}
+use Rattle.finder.proofs.PlanSearch.{suiting-is-plan, least-plan-some, some-least-plan}
 use Rattle.finder.proofs.FindAnswers.{LegalFind, find-value-iff}
 use Rattle.finder.proofs.Pigeonhole.{pigeonhole}
 use Rattle.finder.proofs.Boxes.{box-suits, box-within}

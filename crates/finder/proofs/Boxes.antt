@@ -17,15 +17,15 @@ use Rattle.integers.proofs.Polynomials.{no-difference}
 use Rattle.integers.proofs.Order.{le-by, of-le}
 use Rattle.scope.specs.Plans.{Pixel, minus, differences, plan, pixels, patternAt, patterns, InLattice}
 use Rattle.scope.specs.Finding.{greatest, boxWidth, boxHeight}
-use Rattle.scope.specs.Meaning.{InRange, IsPattern, IsBook}
-use Rattle.scope.specs.PlanPromises.{BoxIsGreatest}
+use Rattle.scope.specs.promises.Meaning.{InRange, IsPattern, IsBook}
+use Rattle.scope.specs.promises.PlanPromises.{BoxIsGreatest}
 use Rattle.scope.specs.declared.Pattern.{Pattern}
 use Rattle.scope.specs.declared.Book.{Book}
 use Rattle.scope.specs.declared.Plan.{Plan}
 use Rattle.lattice.proofs.Suits.{suits-means, suits-all-iff, DifferenceIn, mem-differences, differences-mem}
-use Rattle.finder.proofs.Search.{Suiting}
-use Rattle.laws.proofs.Patterns.{same-coordinates, mem-patterns, pattern-in-range}
-use Rattle.laws.proofs.Lists.{mem-map, map-mem, flatMap-mem, mem-flatMap}
+use Rattle.finder.proofs.PlanSearch.{Suiting}
+use Rattle.checks.proofs.Patterns.{same-coordinates, mem-patterns, pattern-in-range}
+use Rattle.checks.proofs.Lists.{mem-map, map-mem, flatMap-mem, mem-flatMap}
 
 -- no entry is above the greatest, and it is an entry or 0
 greatest-at-least : (ns : List ℕ) (n : ℕ) → List·Memᴰ n ns → n ≤ greatest ns

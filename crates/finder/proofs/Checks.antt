@@ -12,23 +12,23 @@ use Rattle.scope.specs.Plans.{Pixel, patterns, banks, suitsAll, determinantSize
 use Rattle.scope.specs.Finding.{clash, leastPlan, leastCount}
 use Rattle.scope.specs.Numbers.{value, refusal, ofVerdict, ofPlanned, numberOf}
 use Rattle.scope.specs.Calls.{find, checkTest, judged, check}
-use Rattle.scope.specs.Meaning.{IsPlan, IsBook, Independent}
-use Rattle.scope.specs.PlanPromises.{Excess, SurplusIsExcess, CheckDecides}
+use Rattle.scope.specs.promises.Meaning.{IsPlan, IsBook, Independent}
+use Rattle.scope.specs.promises.PlanPromises.{Excess, SurplusIsExcess, CheckDecides}
 use Rattle.scope.specs.declared.Plan.{Plan}
 use Rattle.scope.specs.declared.Book.{Book}
 use Rattle.scope.specs.declared.Clash.{Clash}
 use Rattle.scope.specs.declared.Checked.{Checked}
 use Rattle.scope.specs.declared.Verdict.{Verdict}
 use Rattle.scope.specs.declared.Refusal.{Refusal}
-use Rattle.laws.proofs.Searches.{none-not-some, not-true-is-false}
-use Rattle.laws.proofs.Chains.{value-not-refusal, value-injective, answered-none, answered-value}
-use Rattle.laws.proofs.Booleans.{last-test, test-before}
-use Rattle.laws.proofs.Tests.{independent-iff, size-within-iff}
-use Rattle.laws.proofs.BookTests.{book-legal-iff}
-use Rattle.laws.proofs.Deciding.{independent-decides, size-decides}
-use Rattle.laws.proofs.RefusalNumbers.{decided-numbers, numbers-before, last-numbers, record-numbers}
+use Rattle.checks.proofs.Searches.{none-not-some, not-true-is-false}
+use Rattle.checks.proofs.Chains.{value-not-refusal, value-injective, answered-none, answered-value}
+use Rattle.checks.proofs.Booleans.{last-test, test-before}
+use Rattle.checks.proofs.Tests.{independent-iff, size-within-iff}
+use Rattle.checks.proofs.BookTests.{book-legal-iff}
+use Rattle.checks.proofs.Deciding.{independent-decides, size-decides}
+use Rattle.checks.proofs.RefusalNumbers.{decided-numbers, numbers-before, last-numbers, record-numbers}
 use Rattle.lattice.proofs.NormalForm.{normal-form-is-plan}
-use Rattle.finder.proofs.Search.{Suiting, plan-is-suiting, least-plan-some, some-least-plan}
+use Rattle.finder.proofs.PlanSearch.{Suiting, plan-is-suiting, least-plan-some, some-least-plan}
 use Rattle.finder.proofs.FindAnswers.{find-value-iff}
 use Rattle.finder.proofs.ClashSearch.{no-clash-none-meets, no-clash-iff-suits-all}
 

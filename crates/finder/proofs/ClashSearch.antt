@@ -13,15 +13,15 @@ use lib.ListN.{length, getD}
 use Rattle.scope.specs.Search.{first}
 use Rattle.scope.specs.Plans.{Pixel, minus, pixelAt, patternAt, pixels, patterns, suits, suitsAll, InLattice}
 use Rattle.scope.specs.Finding.{meeting, clashIn, clash}
-use Rattle.scope.specs.Meaning.{IsBook}
-use Rattle.scope.specs.PlanPromises.{Meets, FirstClashIn}
+use Rattle.scope.specs.promises.Meaning.{IsBook}
+use Rattle.scope.specs.promises.PlanPromises.{Meets, FirstClashIn}
 use Rattle.scope.specs.declared.Plan.{Plan}
 use Rattle.scope.specs.declared.Pattern.{Pattern}
 use Rattle.scope.specs.declared.Book.{Book}
 use Rattle.scope.specs.declared.Clash.{Clash}
-use Rattle.laws.proofs.Searches.{Found, first-found, first-none, none-first, first-same, whenever-some}
-use Rattle.laws.proofs.Patterns.{origin, length-pixels, getD-pixels, length-patterns, getD-patterns}
-use Rattle.laws.proofs.Patterns.{mem-patterns, patterns-mem, pattern-different}
+use Rattle.checks.proofs.Searches.{Found, first-found, first-none, none-first, first-same, whenever-some}
+use Rattle.checks.proofs.Patterns.{origin, length-pixels, getD-pixels, length-patterns, getD-patterns}
+use Rattle.checks.proofs.Patterns.{mem-patterns, patterns-mem, pattern-different}
 use Rattle.lattice.proofs.Membership.{lattice-means}
 use Rattle.lattice.proofs.Suits.{MeetsAt, no-meeting-iff, no-clash-iff-none-meets, suits-all-iff, no-clash-iff-suits}
 

@@ -13,21 +13,21 @@ use Rattle.scope.specs.Finding.{clash}
 use Rattle.scope.specs.Numbers.{refusal, ofVerdict, ofCounted, clashOf, recordTest, suitsTest, planTest, sidesTest, memoryTest}
 use Rattle.scope.specs.Numbers.{outsideTest, outputTest, numberTest, ringTest}
 use Rattle.scope.specs.Calls.{changed, checkTest, judged, check, moved, fetchTest, fetch, ringFetchTest, ringFetch}
-use Rattle.scope.specs.Meaning.{IsPlan, Independent}
-use Rattle.scope.specs.PlanPromises.{Meets, FirstClashIn, ClashIsFirst}
+use Rattle.scope.specs.promises.Meaning.{IsPlan, Independent}
+use Rattle.scope.specs.promises.PlanPromises.{Meets, FirstClashIn, ClashIsFirst}
 use Rattle.scope.specs.declared.Plan.{Plan}
 use Rattle.scope.specs.declared.Book.{Book}
 use Rattle.scope.specs.declared.Clash.{Clash}
 use Rattle.scope.specs.declared.Verdict.{Verdict}
 use Rattle.scope.specs.declared.Counted.{Counted}
 use Rattle.scope.specs.declared.Refusal.{Refusal}
-use Rattle.laws.proofs.Searches.{some-injective}
-use Rattle.laws.proofs.Chains.{value-not-refusal, refusal-clash, RefusedBy, chain-some, answered-none, answered-refusal, changed-refusal}
-use Rattle.laws.proofs.Chains.{fetchTests}
-use Rattle.laws.proofs.Tests.{plan-legal-iff, number-in-book-iff}
-use Rattle.laws.proofs.Deciding.{plan-decides, sides-decide, memory-decides, inside-decides, output-decides, number-decides, ring-decides}
-use Rattle.laws.proofs.RefusalNumbers.{Numbers, ChainNumbers, decided-numbers, numbers-before, last-numbers, record-numbers}
-use Rattle.lattice.proofs.Tests.{suits-test-some}
+use Rattle.checks.proofs.Searches.{some-injective}
+use Rattle.checks.proofs.Chains.{value-not-refusal, refusal-clash, RefusedBy, chain-some, answered-none, answered-refusal, changed-refusal}
+use Rattle.checks.proofs.Chains.{fetchTests}
+use Rattle.checks.proofs.Tests.{plan-legal-iff, number-in-book-iff}
+use Rattle.checks.proofs.Deciding.{plan-decides, sides-decide, memory-decides, inside-decides, output-decides, number-decides, ring-decides}
+use Rattle.checks.proofs.RefusalNumbers.{Numbers, ChainNumbers, decided-numbers, numbers-before, last-numbers, record-numbers}
+use Rattle.lattice.proofs.TestMeanings.{suits-test-some}
 use Rattle.lattice.proofs.NormalForm.{normal-form-is-only}
 use Rattle.finder.proofs.ClashSearch.{first-clash-in-pattern, first-clash-in-book}
 use Rattle.finder.proofs.Checks.{check-legal-iff, check-refusals, judged-clash, judged-suits}

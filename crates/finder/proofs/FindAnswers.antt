@@ -9,17 +9,17 @@ use Rattle.scope.specs.Plans.{patterns}
 use Rattle.scope.specs.Finding.{leastPlan}
 use Rattle.scope.specs.Numbers.{value, refusal, ofPlanned}
 use Rattle.scope.specs.Calls.{findTest, found, find}
-use Rattle.scope.specs.Meaning.{IsBook}
+use Rattle.scope.specs.promises.Meaning.{IsBook}
 use Rattle.scope.specs.declared.Plan.{Plan}
 use Rattle.scope.specs.declared.Book.{Book}
 use Rattle.scope.specs.declared.Planned.{Planned}
 use Rattle.scope.specs.declared.Clash.{Clash}
 use Rattle.scope.specs.declared.Refusal.{Refusal}
-use Rattle.laws.proofs.Chains.{value-not-refusal, value-injective, answered-none, RefusedBy, answered-value, answered-refusal}
-use Rattle.laws.proofs.Booleans.{last-test, test-before}
-use Rattle.laws.proofs.Tests.{limit-legal-iff}
-use Rattle.laws.proofs.BookTests.{book-legal-iff}
-use Rattle.laws.proofs.RefusalNumbers.{find-refusals}
+use Rattle.checks.proofs.Chains.{value-not-refusal, value-injective, answered-none, RefusedBy, answered-value, answered-refusal}
+use Rattle.checks.proofs.Booleans.{last-test, test-before}
+use Rattle.checks.proofs.Tests.{limit-legal-iff}
+use Rattle.checks.proofs.BookTests.{book-legal-iff}
+use Rattle.checks.proofs.RefusalNumbers.{find-refusals}
 
 -- what an answer tells of its search
 found-value : (o : Option Plan) (p : Plan) → ofPlanned (found o) ≡ value p → o ≡ some p

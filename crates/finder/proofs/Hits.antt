@@ -18,9 +18,9 @@ use Rattle.integers.proofs.Divisions.{Divides, divides-iff, divisor-at-most, no
 use Rattle.integers.proofs.Divisions.{remainder-zero-iff-divides, same-remainder-iff-divides}
 use Rattle.scope.specs.Plans.{plan, latticeTest}
 use Rattle.scope.specs.declared.Plan.{Plan}
-use Rattle.laws.proofs.Searches.{fails-iff}
+use Rattle.checks.proofs.Searches.{fails-iff}
 use Rattle.finder.specs.Table.{rowMarked, rowsMarked}
-use Rattle.finder.proofs.Rows.{Marked, rowStart, row-marked-iff, rows-marked-iff}
+use Rattle.finder.proofs.RowTests.{Marked, rowStart, row-marked-iff, rows-marked-iff}
 use Rattle.finder.proofs.Marks.{Cell, number, vector}
 
 -- s, s + a, .. are the numbers from s with the remainder of s

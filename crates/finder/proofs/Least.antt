@@ -15,14 +15,14 @@ use Rattle.scope.specs.Plans.{Pixel, minus, patterns, banks, along, up, suitsAl
 use Rattle.scope.specs.Finding.{leastPlan}
 use Rattle.scope.specs.Numbers.{value, refusal, ofPlanned}
 use Rattle.scope.specs.Calls.{find}
-use Rattle.scope.specs.Meaning.{Independent}
-use Rattle.scope.specs.PlanPromises.{Generates, Parted, LeastFor, NoneWithin}
-use Rattle.scope.specs.PlanPromises.{FinderIsLeast, FinderNone, FinderDecides, FinderOrder}
+use Rattle.scope.specs.promises.Meaning.{Independent}
+use Rattle.scope.specs.promises.PlanPromises.{Generates, Parted, LeastFor, NoneWithin}
+use Rattle.scope.specs.promises.PlanPromises.{FinderIsLeast, FinderNone, FinderDecides, FinderOrder}
 use Rattle.scope.specs.declared.Plan.{Plan}
 use Rattle.lattice.proofs.Suits.{suits-means, suits-all-iff}
 use Rattle.lattice.proofs.NormalForm.{normal-form-is-only}
-use Rattle.finder.proofs.Search.{Suiting, Least, suiting-is-plan, plan-is-suiting, suiting-banks}
-use Rattle.finder.proofs.Search.{least-plan-some, least-plan-none, none-least-plan}
+use Rattle.finder.proofs.PlanSearch.{Suiting, Least, suiting-is-plan, plan-is-suiting, suiting-banks}
+use Rattle.finder.proofs.PlanSearch.{least-plan-some, least-plan-none, none-least-plan}
 use Rattle.finder.proofs.FindAnswers.{LegalFind, find-value-iff, find-none-iff}
 
 -- the determinant of a plan's own two vectors is its count

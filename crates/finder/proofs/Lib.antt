@@ -1,5 +1,5 @@
 -- The files of this folder.
-pub mod Search
+pub mod PlanSearch
 pub mod FindAnswers
 pub mod Least
 pub mod Pigeonhole
@@ -9,8 +9,11 @@ pub mod ClashSearch
 pub mod Checks
 pub mod Clashes
 pub mod Marking
-pub mod Rows
+pub mod RowTests
 pub mod Marks
 pub mod Hits
 pub mod Tables
 pub mod TableSearch
+pub mod MetAnswers
+pub mod Meetings
+pub mod Verdicts

@@ -17,7 +17,7 @@ use Rattle.integers.proofs.Comparisons.{leb-iff, and-iff}
 use Rattle.scope.specs.Plans.{Pixel, patternAt}
 use Rattle.scope.specs.declared.Pattern.{Pattern}
 use Rattle.scope.specs.declared.Book.{Book}
-use Rattle.laws.proofs.Searches.{not-true-is-false}
+use Rattle.checks.proofs.Searches.{not-true-is-false}
 use Rattle.finder.specs.Table.{isRow, inHalf, tableCell, markFrom, markPattern, markBook}
 
 -- which cell a vector has

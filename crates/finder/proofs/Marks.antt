@@ -16,9 +16,9 @@ use Rattle.integers.proofs.Ring.{ring, reify}
 use Rattle.scope.specs.Plans.{Pixel, minus, pixelAt, patternAt}
 use Rattle.scope.specs.declared.Pattern.{Pattern}
 use Rattle.scope.specs.declared.Book.{Book}
-use Rattle.laws.proofs.Searches.{true-not-false}
-use Rattle.laws.proofs.Lists.{getD-set-same, getD-set-other}
-use Rattle.laws.proofs.Patterns.{same-coordinates}
+use Rattle.checks.proofs.Searches.{true-not-false}
+use Rattle.checks.proofs.Lists.{getD-set-same, getD-set-other}
+use Rattle.checks.proofs.Patterns.{same-coordinates}
 use Rattle.finder.specs.Table.{isRow, inHalf, tableCell, markFrom, markPattern, markBook}
 use Rattle.finder.proofs.Marking.{in-half-iff, cell-inside, cell-outside}
 

@@ -16,8 +16,8 @@ use Rattle.scope.specs.Calls.{found}
 use Rattle.scope.specs.declared.Plan.{Plan}
 use Rattle.scope.specs.declared.Planned.{Planned}
 use Rattle.scope.specs.declared.Refusal.{Refusal}
-use Rattle.scope.proofs.Answers.{fails, holds}
-use Rattle.laws.proofs.Searches.{found-first, none-first}
+use Rattle.scope.proofs.MethodAnswers.{fails, holds}
+use Rattle.checks.proofs.Searches.{found-first, none-first}
 use Rattle.finder.specs.Table.{rowMarked, rowsMarked, SearchedIn}
 use Rattle.finder.proofs.FindAnswers.{plan-found, none-found}
 use Rattle.finder.proofs.Tables.{suits-by-table}

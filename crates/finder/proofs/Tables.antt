@@ -14,12 +14,12 @@ use Rattle.integers.proofs.Ring.{ring, reify}
 use Rattle.integers.proofs.Polynomials.{no-difference}
 use Rattle.scope.specs.Plans.{Pixel, minus, plan, pixelAt, patternAt, pixels, patterns, latticeTest, suits, suitsAll}
 use Rattle.scope.specs.Numbers.{recordTest}
-use Rattle.scope.specs.Meaning.{IsPattern, IsBook}
+use Rattle.scope.specs.promises.Meaning.{IsPattern, IsBook}
 use Rattle.scope.specs.declared.Plan.{Plan}
 use Rattle.scope.specs.declared.Pattern.{Pattern}
 use Rattle.scope.specs.declared.Book.{Book}
-use Rattle.laws.proofs.BookTests.{book-legal-iff}
-use Rattle.laws.proofs.Patterns.{same-coordinates, pattern-in-range, mem-pixels, pixels-mem, mem-patterns, patterns-mem}
+use Rattle.checks.proofs.BookTests.{book-legal-iff}
+use Rattle.checks.proofs.Patterns.{same-coordinates, pattern-in-range, mem-pixels, pixels-mem, mem-patterns, patterns-mem}
 use Rattle.lattice.proofs.Membership.{lattice-means, lattice-symmetric}
 use Rattle.lattice.proofs.Suits.{suits-means, suits-all-iff}
 use Rattle.finder.specs.Table.{markBook, rowMarked, rowsMarked}

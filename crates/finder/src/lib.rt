@@ -1,4 +1,9 @@
-// The finder: the plan with the fewest banks.
+// The finder, the clash of one pattern under a plan, and the check of a supplier's two vectors.
+mod checking;
+mod clash;
 mod finding;
 
+pub use checking::check;
+pub use clash::Met;
+pub use clash::clash_in;
 pub use finding::find;

@@ -1,4 +1,4 @@
 -- The files of this folder.
 pub mod Division
 pub mod Gcd
-pub mod Figures
+pub mod DivisionValues

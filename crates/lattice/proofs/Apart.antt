@@ -11,13 +11,13 @@ use Rattle.integers.proofs.Ring.{ring, reify}
 use Rattle.scope.specs.Plans.{Pixel, plus, minus, pixels, patternAt, suits}
 use Rattle.scope.specs.Banks.{bankOf}
 use Rattle.scope.specs.Calls.{moved}
-use Rattle.scope.specs.Meaning.{IsPlan, IsBook}
-use Rattle.scope.specs.Demand.{AllDifferent}
+use Rattle.scope.specs.promises.Meaning.{IsPlan, IsBook}
+use Rattle.scope.specs.promises.Demand.{AllDifferent}
 use Rattle.scope.specs.declared.Plan.{Plan}
 use Rattle.scope.specs.declared.Book.{Book}
-use Rattle.laws.proofs.Lists.{mem-getD, getD-map}
-use Rattle.laws.proofs.Patterns.{origin, same-coordinates, Different, pattern-different}
-use Rattle.lattice.proofs.Banks.{same-bank-means-lattice}
+use Rattle.checks.proofs.Lists.{mem-getD, getD-map}
+use Rattle.checks.proofs.Patterns.{origin, same-coordinates, Different, pattern-different}
+use Rattle.lattice.proofs.SameBank.{same-bank-means-lattice}
 use Rattle.lattice.proofs.Suits.{suits-means}
 
 -- moving two pixels alike keeps their difference

@@ -13,13 +13,13 @@ use Rattle.integers.proofs.Divisions.{floor-division, ceiling-division}
 use Rattle.scope.specs.Plans.{Pixel, at, plus, minus, pixelAt, patternAt, pixels, differences}
 use Rattle.scope.specs.Banks.{quotient, across, addressOf, depthOf, wrapped}
 use Rattle.scope.specs.Calls.{moved, ringMoved, recordPixel}
-use Rattle.scope.specs.Meaning.{IsPlan, PatternsAre}
-use Rattle.scope.specs.PicturePromises.{RoundedUp, FormulasAre}
+use Rattle.scope.specs.promises.Meaning.{IsPlan, PatternsAre}
+use Rattle.scope.specs.promises.PicturePromises.{RoundedUp, FormulasAre}
 use Rattle.scope.specs.declared.Plan.{Plan}
 use Rattle.scope.specs.declared.Book.{Book}
-use Rattle.laws.proofs.Lists.{getD-map}
-use Rattle.laws.proofs.Patterns.{origin, length-pixels, getD-pixels, length-patterns, getD-patterns}
-use Rattle.lattice.proofs.Banks.{bank-by-divisions}
+use Rattle.checks.proofs.Lists.{getD-map}
+use Rattle.checks.proofs.Patterns.{origin, length-pixels, getD-pixels, length-patterns, getD-patterns}
+use Rattle.lattice.proofs.SameBank.{bank-by-divisions}
 use Rattle.lattice.proofs.Suits.{DifferenceIn, mem-differences, differences-mem, suits-all-iff}
 
 -- a difference is that of two different pixels

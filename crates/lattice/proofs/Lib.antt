@@ -4,11 +4,11 @@ pub mod Bases
 pub mod Euclid
 pub mod Carried
 pub mod NormalForm
-pub mod Banks
+pub mod SameBank
 pub mod Words
 pub mod Reverse
 pub mod Rings
 pub mod Suits
-pub mod Tests
+pub mod TestMeanings
 pub mod Apart
 pub mod Formulas

@@ -11,7 +11,7 @@ use Rattle.integers.proofs.Ring.{ring, linear, _·_, reify}
 use Rattle.integers.proofs.Divisions.{Divides, divides-iff, quotient-of-multiple}
 use Rattle.integers.proofs.Comparisons.{and-iff, same-truth}
 use Rattle.scope.specs.Plans.{Pixel, at, plus, minus, Combination, InLattice, latticeTest}
-use Rattle.scope.specs.Meaning.{LatticeMeans}
+use Rattle.scope.specs.promises.Meaning.{LatticeMeans}
 use Rattle.scope.specs.declared.Plan.{Plan}
 
 -- a combination of x and y, its factors the same in both coordinates

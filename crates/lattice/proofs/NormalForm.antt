@@ -12,8 +12,8 @@ use Rattle.integers.proofs.Ring.{ring, linear, _·_, reify}
 use Rattle.integers.proofs.Divisions.{Divides, division, remainder-below, remainder-is, remainder-of-small, cancel-factor, divisor-at-most}
 use Rattle.integers.proofs.Bezout.{Sign, sign-of}
 use Rattle.scope.specs.Plans.{Pixel, plan, banks, along, up, InLattice, determinant, determinantSize, normalForm}
-use Rattle.scope.specs.Meaning.{IsPlan, Independent}
-use Rattle.scope.specs.PlanPromises.{Generates, NormalFormIsOnly}
+use Rattle.scope.specs.promises.Meaning.{IsPlan, Independent}
+use Rattle.scope.specs.promises.PlanPromises.{Generates, NormalFormIsOnly}
 use Rattle.scope.specs.declared.Plan.{Plan}
 use Rattle.lattice.proofs.Membership.{row-of-lattice, first-is-combination, second-is-combination}
 use Rattle.lattice.proofs.Bases.{SameBasis, same-basis-then, unit-gives-basis}

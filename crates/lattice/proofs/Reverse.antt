@@ -16,15 +16,15 @@ use Rattle.scope.specs.Plans.{Pixel, banks}
 use Rattle.scope.specs.Banks.{bankOf, inside, across, addressOf, depthOf, pixelOf}
 use Rattle.scope.specs.Numbers.{value, refusal, ofLocated, cellTest}
 use Rattle.scope.specs.Calls.{answered, locate}
-use Rattle.scope.specs.Meaning.{IsPlan, IsSide, Inside}
-use Rattle.scope.specs.PicturePromises.{ReverseMap}
+use Rattle.scope.specs.promises.Meaning.{IsPlan, IsSide, Inside}
+use Rattle.scope.specs.promises.PicturePromises.{ReverseMap}
 use Rattle.scope.specs.declared.Plan.{Plan}
 use Rattle.scope.specs.declared.Refusal.{Refusal}
-use Rattle.laws.proofs.Searches.{some-whenever, none-whenever}
-use Rattle.laws.proofs.Chains.{value-not-refusal, value-injective}
-use Rattle.laws.proofs.Tests.{plan-legal-iff, sides-legal-iff, cell-legal-iff}
+use Rattle.checks.proofs.Searches.{some-whenever, none-whenever}
+use Rattle.checks.proofs.Chains.{value-not-refusal, value-injective}
+use Rattle.checks.proofs.Tests.{plan-legal-iff, sides-legal-iff, cell-legal-iff}
 use Rattle.integers.proofs.Digits.{upper-digit}
-use Rattle.lattice.proofs.Banks.{bank-is, bank-below-count, upper-digit-below}
+use Rattle.lattice.proofs.SameBank.{bank-is, bank-below-count, upper-digit-below}
 use Rattle.lattice.proofs.Words.{address-of-inside, address-below-depth, reverse-undoes}
 
 module _ (p : Plan) (plan : IsPlan p) (W H k i : ℕ) where

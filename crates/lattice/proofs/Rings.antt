@@ -9,9 +9,9 @@ use Rattle.integers.proofs.Ring.{ring, linear, _·_, reify}
 use Rattle.integers.proofs.Divisions.{division, remainder-below}
 use Rattle.scope.specs.Plans.{Pixel, minus, banks, InLattice}
 use Rattle.scope.specs.Banks.{wrapped}
-use Rattle.scope.specs.PicturePromises.{RingKeepsBanks}
+use Rattle.scope.specs.promises.PicturePromises.{RingKeepsBanks}
 use Rattle.scope.specs.declared.Plan.{Plan}
-use Rattle.lattice.proofs.Banks.{lattice-means-same-bank}
+use Rattle.lattice.proofs.SameBank.{lattice-means-same-bank}
 
 -- the lattice has every vector with both coordinates multiples of N: (x × a × d, y × a × d) is x × d - y × b times (a, 0)
 -- and y × a times (b, d)

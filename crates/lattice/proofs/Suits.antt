@@ -12,13 +12,13 @@ use lib.ListN.{length, getD}
 use Rattle.scope.specs.Search.{first}
 use Rattle.scope.specs.Plans.{Pixel, samePixel, minus, differences, latticeTest, suits, suitsAll}
 use Rattle.scope.specs.Finding.{meeting, clashIn}
-use Rattle.scope.specs.Meaning.{SuitsMeans}
+use Rattle.scope.specs.promises.Meaning.{SuitsMeans}
 use Rattle.scope.specs.declared.Plan.{Plan}
 use Rattle.scope.specs.declared.Clash.{Clash}
-use Rattle.laws.proofs.Searches.{true-not-false, fails-iff, not-true-is-false, first-none, none-first, whenever-none, none-whenever, every-holds, holds-every}
-use Rattle.laws.proofs.Lists.{mem-getD, getD-mem, mem-flatMap, flatMap-mem}
-use Rattle.laws.proofs.BookTests.{same-pixel-iff}
-use Rattle.laws.proofs.Patterns.{origin, Different}
+use Rattle.checks.proofs.Searches.{true-not-false, fails-iff, not-true-is-false, first-none, none-first, whenever-none, none-whenever, every-holds, holds-every}
+use Rattle.checks.proofs.Lists.{mem-getD, getD-mem, mem-flatMap, flatMap-mem}
+use Rattle.checks.proofs.BookTests.{same-pixel-iff}
+use Rattle.checks.proofs.Patterns.{origin, Different}
 use Rattle.lattice.proofs.Membership.{lattice-means, lattice-symmetric}
 
 -- v is the difference of two different pixels of t

@@ -11,11 +11,11 @@ use Rattle.integers.proofs.Ring.{ring, linear, _·_, reify}
 use Rattle.integers.proofs.Divisions.{quotient-of-pos, remainder-of-pos, remainder-is, ceiling-division}
 use Rattle.scope.specs.Plans.{Pixel, banks}
 use Rattle.scope.specs.Banks.{quotient, remainder, bankOf, across, addressOf, depthOf, wordOf, pixelOf}
-use Rattle.scope.specs.Meaning.{IsPlan, Inside}
-use Rattle.scope.specs.PicturePromises.{PixelsHaveWords}
+use Rattle.scope.specs.promises.Meaning.{IsPlan, Inside}
+use Rattle.scope.specs.promises.PicturePromises.{PixelsHaveWords}
 use Rattle.scope.specs.declared.Plan.{Plan}
 use Rattle.integers.proofs.Digits.{upper-digit, lower-digit, digits-below}
-use Rattle.lattice.proofs.Banks.{lap, lane, remainder-of-bank, lane-of-bank, column-division, bank-below-count}
+use Rattle.lattice.proofs.SameBank.{lap, lane, remainder-of-bank, lane-of-bank, column-division, bank-below-count}
 
 -- a number below n has its quotient below n/d rounded up
 quotient-below-ceiling : (i n d : ℕ) → 0 < d → i < n → i / d < ceilDiv n d

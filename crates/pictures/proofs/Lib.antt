@@ -1,4 +1,19 @@
 -- The files of this folder.
-pub mod Answers
+pub mod Memory
+pub mod LastStored
+pub mod CallTests
+pub mod Sums
+pub mod Fetches
+pub mod Pictures
+pub mod Runs
+pub mod Replies
+pub mod DemandHolds
+pub mod Refusals
+pub mod CountedAnswers
 pub mod PictureTests
 pub mod WholeBanks
+pub mod Deliveries
+pub mod Moved
+pub mod OfBooks
+pub mod Starts
+pub mod Wrapped

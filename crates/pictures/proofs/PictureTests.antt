@@ -12,15 +12,15 @@ use Rattle.scope.specs.Plans.{Pixel}
 use Rattle.scope.specs.Banks.{depthOf, wordOf}
 use Rattle.scope.specs.Numbers.{planTest, sidesTest, memoryTest, outsideTest, bankTest}
 use Rattle.scope.specs.Calls.{wordTest, wholeBankTest}
-use Rattle.scope.specs.Meaning.{IsPicture}
+use Rattle.scope.specs.promises.Meaning.{IsPicture}
 use Rattle.scope.specs.declared.Plan.{Plan}
 use Rattle.scope.specs.declared.Counted.{Counted}
 use Rattle.scope.specs.declared.Refusal.{Refusal}
-use Rattle.laws.proofs.Chains.{tests-as-one}
+use Rattle.checks.proofs.Chains.{tests-as-one}
 use Rattle.lattice.proofs.Words.{pixels-have-words}
-use Rattle.buffer.proofs.CallTests as calls
+use Rattle.pictures.proofs.CallTests as calls
 use Rattle.pictures.specs.Places.{pictureTest, pictureDepth, wordPlace, bankDepth}
-use Rattle.pictures.proofs.Answers.{number-told, refusal-told}
+use Rattle.pictures.proofs.CountedAnswers.{number-told, refusal-told}
 
 module _ (p : Plan) (W H words : ℕ) where
   -- They find nothing exactly where there is a plan, a picture and a memory that is long enough.

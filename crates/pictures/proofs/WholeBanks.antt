@@ -12,12 +12,12 @@ use lib.Seq.{length-take-le, drop-drop}
 use Rattle.scope.specs.Plans.{banks}
 use Rattle.scope.specs.Banks.{depthOf, bankWords, afterClear}
 use Rattle.scope.specs.Calls.{wholeBankTest}
-use Rattle.scope.specs.Meaning.{IsPicture}
+use Rattle.scope.specs.promises.Meaning.{IsPicture}
 use Rattle.scope.specs.declared.Plan.{Plan}
 use Rattle.scope.specs.declared.Counted.{Counted}
-use Rattle.buffer.proofs.CallTests.{bank-test-iff}
-use Rattle.buffer.proofs.Memory.{bank-in-picture}
-use Rattle.buffer.proofs.Sums.{depth-at-most}
+use Rattle.pictures.proofs.CallTests.{bank-test-iff}
+use Rattle.pictures.proofs.Memory.{bank-in-picture}
+use Rattle.pictures.proofs.Sums.{depth-at-most}
 use Rattle.pictures.specs.Places.{bankDepth}
 use Rattle.pictures.proofs.PictureTests.{bank-told}
 

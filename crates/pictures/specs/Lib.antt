@@ -1,2 +1,3 @@
 -- The files of this folder.
 pub mod Places
+pub mod Fetching

@@ -1,10 +1,17 @@
-// The calls on a picture's words and banks. The memory is lent: 16-bit words, of which a picture has the first N × depth.
+// Pictures in a lent memory: store, load, clear, sum, fetch and ring fetch.
 mod banks;
+mod books;
+mod fetching;
+mod moving;
 mod places;
 mod words;
 
 pub use banks::clear;
 pub use banks::sum;
+pub use books::fetch;
+pub use books::ring_fetch;
+pub use fetching::fetch_pattern;
+pub use fetching::ring_fetch_pattern;
 pub use places::picture_depth;
 pub use words::load;
 pub use words::store;

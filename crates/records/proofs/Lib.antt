@@ -1,3 +1,3 @@
 -- The files of this folder.
-pub mod Lists
+pub mod RecordLists
 pub mod Placing

@@ -15,19 +15,19 @@ use Rattle.scope.specs.Plans.{Pixel, at, banks}
 use Rattle.scope.specs.Banks.{bankOf, addressOf}
 use Rattle.scope.specs.Numbers.{planTest, sidesTest, outsideTest}
 use Rattle.scope.specs.Calls.{bank, address, recordPixel, placed}
-use Rattle.scope.specs.Meaning.{IsPlan, IsSide, Inside, AllInside}
+use Rattle.scope.specs.promises.Meaning.{IsPlan, IsSide, Inside, AllInside}
 use Rattle.scope.specs.declared.Plan.{Plan}
 use Rattle.scope.specs.declared.PixelRecord.{PixelRecord}
 use Rattle.scope.specs.declared.Refusal.{Refusal}
 use Rattle.scope.specs.declared.Counted.{Counted}
 use Rattle.scope.proofs.PlanFacts.{entry-handed}
-use Rattle.laws.proofs.Searches.{none-not-some}
-use Rattle.laws.proofs.Tests.{plan-legal-iff}
-use Rattle.lattice.proofs.Banks.{bank-below-count}
+use Rattle.checks.proofs.Searches.{none-not-some}
+use Rattle.checks.proofs.Tests.{plan-legal-iff}
+use Rattle.lattice.proofs.SameBank.{bank-below-count}
 use Rattle.lattice.proofs.Words.{address-below-depth}
-use Rattle.buffer.proofs.Sums.{depth-at-most}
-use Rattle.buffer.proofs.CallTests.{fill-test-iff}
-use Rattle.pictures.proofs.Answers.{number-told, refusal-told}
+use Rattle.pictures.proofs.Sums.{depth-at-most}
+use Rattle.pictures.proofs.CallTests.{fill-test-iff}
+use Rattle.pictures.proofs.CountedAnswers.{number-told, refusal-told}
 use Rattle.records.specs.Filling.{isNumber, isPlaceable, placedIf}
 
 -- a record's pixel handed to a callee is its pixel

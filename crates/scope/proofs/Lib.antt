@@ -1,4 +1,6 @@
 -- The files of this folder.
+pub mod Ceilings
+pub mod CellBounds
 pub mod PlanFacts
-pub mod Answers
-pub mod Cells
+pub mod MethodAnswers
+pub mod LocateAnswers

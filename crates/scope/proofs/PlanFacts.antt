@@ -16,7 +16,7 @@ use Rattle.integers.proofs.Raised.{number-handed}
 use Rattle.scope.specs.Plans.{Pixel, at, isPlan, banks}
 use Rattle.scope.specs.Banks.{within, inside}
 use Rattle.scope.specs.Numbers.{isSide}
-use Rattle.scope.specs.Meaning.{IsPlan, IsSide, Inside, InsideMeans}
+use Rattle.scope.specs.promises.Meaning.{IsPlan, IsSide, Inside, InsideMeans}
 use Rattle.scope.specs.declared.Plan.{Plan}
 
 -- 11

@@ -1,4 +1,5 @@
--- The files of this folder, in the order to read them.
+-- The files of this folder.
+pub mod code
 pub mod Search
 pub mod Plans
 pub mod Finding
@@ -7,14 +8,5 @@ pub mod Books
 pub mod Numbers
 pub mod Calls
 pub mod Program
-pub mod Meaning
-pub mod Demand
-pub mod PlanPromises
-pub mod PicturePromises
-pub mod BookPromises
-pub mod RefusalPromises
-pub mod Promises
-pub mod Rows
-pub mod Figures
-pub mod BookEdges
-pub mod PictureEdges
+pub mod promises
+pub mod values

@@ -1,5 +1,13 @@
-// Document 01's types. What each call does with them is defined in specs/; the calls on a plan are in plans.rt.
+// Document 01's types. What each call does with them is defined in specs/; the calls on a plan are in plans.rt, its formulas
+// on plain numbers in formulas.rt, and the number, place and clash of a refusal in refusals.rt.
+mod formulas;
 mod plans;
+mod refusals;
+
+pub use formulas::is_plan;
+pub use refusals::Row;
+pub use refusals::number_of;
+pub use refusals::row_of;
 
 // A pattern: the columns and rows of its pixels, of which the first `used` count.
 pub struct Pattern {

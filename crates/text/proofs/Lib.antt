@@ -1,5 +1,5 @@
 -- The files of this folder.
-pub mod Digits
-pub mod Puts
-pub mod Texts
+pub mod DecimalDigits
+pub mod PutLines
+pub mod LineParts
 pub mod ProgramTexts

@@ -9,20 +9,20 @@ use Rattle.scope.specs.Plans.{patterns}
 use Rattle.scope.specs.Numbers.{ofPlanned}
 use Rattle.scope.specs.Calls.{readBook, find}
 use Rattle.scope.specs.Program.{planText, programText}
-use Rattle.scope.specs.Meaning.{IsPlan}
+use Rattle.scope.specs.promises.Meaning.{IsPlan}
 use Rattle.scope.specs.declared.Book.{Book}
 use Rattle.scope.specs.declared.Plan.{Plan}
 use Rattle.scope.specs.declared.Planned.{Planned}
 use Rattle.scope.specs.declared.Outcome.{Outcome}
 use Rattle.scope.proofs.PlanFacts.{a-at-most, d-at-most}
-use Rattle.laws.proofs.Outputs.{over-start-length}
+use Rattle.checks.proofs.Outputs.{over-start-length}
 use Rattle.book.proofs.ProgramText.{text-of-read, text-of-refused}
-use Rattle.reader.proofs.LongInput.{long-input-text}
-use Rattle.finder.proofs.Search.{least-plan-some, suiting-is-plan}
+use Rattle.book.proofs.LongInput.{long-input-text}
+use Rattle.finder.proofs.PlanSearch.{least-plan-some, suiting-is-plan}
 use Rattle.finder.proofs.FindAnswers.{find-value-iff}
 use Rattle.text.specs.Texts.{textOf, AlsoOfLonger}
 use Rattle.text.specs.declared.Text.{Text}
-use Rattle.text.proofs.Texts.{plan-lines-at-most, refused-line-at-most}
+use Rattle.text.proofs.LineParts.{plan-lines-at-most, refused-line-at-most}
 
 -- The text for s is that of every longer input, where s is more than any book has.
 pub also-of-longer : (s : List ℕ) (t : Text) → t ≡ textOf (programText s) → (t ≡ textOf (programText s)) × AlsoOfLonger s t

@@ -1,9 +1,9 @@
 // The lines of an answer, put at the start of an output that is long enough.
 use crate::Text;
-use boundary::number_of;
 use scope::Plan;
 use scope::Planned;
 use scope::Refusal;
+use scope::number_of;
 ghost use mathlib.Core.Path.{_≡_};
 ghost use mathlib.Core.List.{_++_};
 ghost use Prim.Native.Nat.{_≤_};

@@ -2,8 +2,8 @@
 use crate::Text;
 use crate::lines::planned_text;
 use crate::lines::refused_text;
+use book::read_book;
 use finder::find;
-use reader::read_book;
 use scope::Outcome;
 ghost use mathlib.Core.Path.{_≡_};
 ghost use Rattle.scope.specs.Program.{programText};

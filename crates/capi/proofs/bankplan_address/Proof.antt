@@ -6,7 +6,7 @@ use Rattle.scope.specs.Plans.{plan}
 use Rattle.scope.specs.Numbers.{ofCounted}
 use Rattle.scope.specs.Calls.{address}
 use Rattle.scope.proofs.PlanFacts.{pixel-handed}
-use Rattle.boundary.proofs.Passed.{told-of}
+use Rattle.capi.proofs.Passed.{told-of}
 use Rattle.capi.proofs.bankplan_address.Statement.{statement}
 use Rattle.capi.proofs.bankplan_address.Tie as tie
 

@@ -6,7 +6,7 @@ use Rattle.scope.specs.Plans.{plan}
 use Rattle.scope.specs.Numbers.{ofCounted}
 use Rattle.scope.specs.Calls.{bank}
 use Rattle.scope.proofs.PlanFacts.{pixel-handed}
-use Rattle.boundary.proofs.Passed.{told-of}
+use Rattle.capi.proofs.Passed.{told-of}
 use Rattle.capi.proofs.bankplan_bank.Statement.{statement}
 use Rattle.capi.proofs.bankplan_bank.Tie as tie
 

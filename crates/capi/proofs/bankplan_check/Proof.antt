@@ -5,7 +5,7 @@ use borrow.Author.Needs.{needs}
 use Rattle.scope.specs.Numbers.{ofVerdict}
 use Rattle.scope.specs.Calls.{check}
 use Rattle.scope.proofs.PlanFacts.{pixel-handed}
-use Rattle.boundary.proofs.Passed.{told-of}
+use Rattle.capi.proofs.Passed.{told-of}
 use Rattle.capi.proofs.bankplan_check.Statement.{statement}
 use Rattle.capi.proofs.bankplan_check.Tie as tie
 

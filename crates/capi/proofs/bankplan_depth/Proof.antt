@@ -3,7 +3,7 @@
 use borrow.Author.Needs.{needs}
 use Rattle.scope.specs.Plans.{plan}
 use Rattle.scope.specs.Numbers.{ofCounted}
-use Rattle.boundary.proofs.Passed.{told-of}
+use Rattle.capi.proofs.Passed.{told-of}
 use Rattle.capi.proofs.bankplan_depth.Statement.{statement}
 use Rattle.capi.proofs.bankplan_depth.Tie as tie
 

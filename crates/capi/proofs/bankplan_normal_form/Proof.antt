@@ -5,7 +5,7 @@ use borrow.Author.Needs.{needs}
 use Rattle.scope.specs.Numbers.{ofPlanned}
 use Rattle.scope.specs.Calls.{normal}
 use Rattle.scope.proofs.PlanFacts.{pixel-handed}
-use Rattle.boundary.proofs.Passed.{told-of}
+use Rattle.capi.proofs.Passed.{told-of}
 use Rattle.capi.proofs.bankplan_normal_form.Statement.{statement}
 use Rattle.capi.proofs.bankplan_normal_form.Tie as tie
 

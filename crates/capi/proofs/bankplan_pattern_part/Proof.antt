@@ -3,7 +3,7 @@
 use mathlib.Core.Path.{refl, ap}
 use borrow.Author.Needs.{needs}
 use Rattle.scope.specs.Numbers.{ofOutcome}
-use Rattle.boundary.proofs.Passed.{told-value, told-refusal}
+use Rattle.capi.proofs.Passed.{told-value, told-refusal}
 use Rattle.capi.proofs.bankplan_pattern_part.Statement.{statement}
 use Rattle.capi.proofs.bankplan_pattern_part.Tie as tie
 

@@ -2,8 +2,8 @@
 -- Assumes nothing.
 use mathlib.Core.Path.{refl, _∙_}
 use borrow.Author.Needs.{needs}
-use Rattle.boundary.specs.Flat.{flatColumns, flatRows, flatUsed}
-use Rattle.boundary.proofs.Passed.{told-value, told-refusal, reading-done, reading-refused, filled-read, kept-refused}
+use Rattle.capi.specs.Flat.{flatColumns, flatRows, flatUsed}
+use Rattle.capi.proofs.Passed.{told-value, told-refusal, reading-done, reading-refused, filled-read, kept-refused}
 use Rattle.capi.proofs.bankplan_read_book.Statement.{statement}
 use Rattle.capi.proofs.bankplan_read_book.Tie as tie
 

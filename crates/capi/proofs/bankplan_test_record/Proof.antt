@@ -2,7 +2,7 @@
 -- Assumes nothing.
 use borrow.Author.Needs.{needs}
 use Rattle.scope.specs.Numbers.{ofOutcome}
-use Rattle.boundary.proofs.Passed.{told-of}
+use Rattle.capi.proofs.Passed.{told-of}
 use Rattle.capi.proofs.bankplan_test_record.Statement.{statement}
 use Rattle.capi.proofs.bankplan_test_record.Tie as tie
 

@@ -17,15 +17,15 @@ use Rattle.integers.proofs.Sizes.{fitting-size}
 use Rattle.scope.specs.Plans.{Pixel, at, determinant, determinantSize, upright, normalForm}
 use Rattle.scope.specs.Numbers.{dependentTest, largeTest}
 use Rattle.scope.specs.Calls.{normal}
-use Rattle.scope.specs.Meaning.{IsPlan, Independent}
+use Rattle.scope.specs.promises.Meaning.{IsPlan, Independent}
 use Rattle.scope.specs.declared.Plan.{Plan}
 use Rattle.scope.specs.declared.Planned.{Planned}
 use Rattle.scope.specs.declared.Refusal.{Refusal}
 use Rattle.scope.proofs.PlanFacts.{pixel-handed}
-use Rattle.laws.proofs.Chains.{chain-refuses, chain-goes-on, answered-none, answered-some}
-use Rattle.laws.proofs.Booleans.{last-test, test-before}
-use Rattle.laws.proofs.Tests.{independent-iff, size-within-iff}
-use Rattle.laws.proofs.Deciding.{independent-decides, size-decides}
+use Rattle.checks.proofs.Chains.{chain-refuses, chain-goes-on, answered-none, answered-some}
+use Rattle.checks.proofs.Booleans.{last-test, test-before}
+use Rattle.checks.proofs.Tests.{independent-iff, size-within-iff}
+use Rattle.checks.proofs.Deciding.{independent-decides, size-decides}
 use Rattle.lattice.proofs.Carried.{falling-of-upright}
 use Rattle.lattice.proofs.NormalForm.{normal-form-is-plan}
 use Rattle.lattice.proofs.normal_form.Statement.{statement}

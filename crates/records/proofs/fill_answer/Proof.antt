@@ -14,8 +14,8 @@ use Rattle.scope.specs.declared.Plan.{Plan}
 use Rattle.scope.specs.declared.Refusal.{Refusal}
 use Rattle.scope.specs.declared.Counted.{Counted}
 use Rattle.scope.specs.declared.Outcome.{Outcome}
-use Rattle.laws.proofs.Chains.{chain-refuses, chain-goes-on, chain-of-one, tests-as-one, answered-none, answered-some}
-use Rattle.pictures.proofs.Answers.{number-told, refusal-told}
+use Rattle.checks.proofs.Chains.{chain-refuses, chain-goes-on, chain-of-one, tests-as-one, answered-none, answered-some}
+use Rattle.pictures.proofs.CountedAnswers.{number-told, refusal-told}
 use Rattle.records.specs.Filling.{fillAnswer}
 use Rattle.records.proofs.fill_answer.Statement.{statement}
 use Rattle.records.proofs.fill_answer.Tie as tie

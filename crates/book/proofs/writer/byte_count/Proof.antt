@@ -7,8 +7,8 @@ use mathlib.Core.Path.{_≡_, sym, _∙_, ap}
 use lib.ListN.{length}
 use borrow.Author.Needs.{needs}
 use Rattle.scope.specs.Plans.{patternAt}
-use Rattle.book.proofs.Puts.{patternsPut, length-no-pattern, length-one-more-pattern, all-patterns-put}
-use Rattle.book.proofs.Puts.{PatternFits, pattern-fits}
+use Rattle.book.proofs.PutBooks.{patternsPut, length-no-pattern, length-one-more-pattern, all-patterns-put}
+use Rattle.book.proofs.PutBooks.{PatternFits, pattern-fits}
 use Rattle.book.proofs.writer.byte_count.Statement.{statement}
 use Rattle.book.proofs.writer.byte_count.Tie as tie
 

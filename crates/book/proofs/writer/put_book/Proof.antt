@@ -10,10 +10,10 @@ use borrow.Author.Needs.{needs}
 use Rattle.scope.specs.Search.{gather}
 use Rattle.scope.specs.Plans.{patternAt}
 use Rattle.scope.specs.Books.{bookBytes}
-use Rattle.laws.proofs.BookTests.{book-legal-iff}
-use Rattle.laws.proofs.Outputs.{Put, first-put, all-put}
-use Rattle.book.proofs.Puts.{patternsPut, length-no-pattern, length-one-more-pattern, pattern-put, all-patterns-put}
-use Rattle.book.proofs.Puts.{PatternFits, pattern-fits}
+use Rattle.checks.proofs.BookTests.{book-legal-iff}
+use Rattle.checks.proofs.Outputs.{Put, first-put, all-put}
+use Rattle.book.proofs.PutBooks.{patternsPut, length-no-pattern, length-one-more-pattern, pattern-put, all-patterns-put}
+use Rattle.book.proofs.PutBooks.{PatternFits, pattern-fits}
 use Rattle.book.proofs.writer.put_book.Statement.{statement}
 use Rattle.book.proofs.writer.put_book.Tie as tie
 

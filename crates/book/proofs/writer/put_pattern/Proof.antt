@@ -13,8 +13,8 @@ use Rattle.integers.proofs.Raised.{number-handed}
 use Rattle.scope.specs.Search.{gather}
 use Rattle.scope.specs.Plans.{pixels}
 use Rattle.scope.specs.Books.{unsigned, patternBytes}
-use Rattle.laws.proofs.Outputs.{Put, first-put, all-put}
-use Rattle.book.proofs.Puts.{pixelsPut, pixel-put, all-pixels-put}
+use Rattle.checks.proofs.Outputs.{Put, first-put, all-put}
+use Rattle.book.proofs.PutBooks.{pixelsPut, pixel-put, all-pixels-put}
 use Rattle.book.proofs.writer.put_pattern.Statement.{statement}
 use Rattle.book.proofs.writer.put_pattern.Tie as tie
 

@@ -16,10 +16,10 @@ use Rattle.scope.specs.Calls.{writeBook}
 use Rattle.scope.specs.declared.Book.{Book}
 use Rattle.scope.specs.declared.Counted.{Counted}
 use Rattle.scope.specs.declared.Refusal.{Refusal}
-use Rattle.laws.proofs.Chains.{chain-refuses, chain-goes-on, Gives, value-given, refusal-given}
-use Rattle.laws.proofs.Deciding.{output-decides}
-use Rattle.laws.proofs.BookTests.{book-legal-iff}
-use Rattle.laws.proofs.Legal.{write-test-iff}
+use Rattle.checks.proofs.Chains.{chain-refuses, chain-goes-on, Gives, value-given, refusal-given}
+use Rattle.checks.proofs.Deciding.{output-decides}
+use Rattle.checks.proofs.BookTests.{book-legal-iff}
+use Rattle.checks.proofs.Legal.{write-test-iff}
 use Rattle.book.proofs.Outcomes.{record-taken, record-turned-down}
 use Rattle.book.proofs.writer.write_book.Statement.{statement}
 use Rattle.book.proofs.writer.write_book.Tie as tie

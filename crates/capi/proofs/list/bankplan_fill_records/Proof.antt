@@ -50,16 +50,16 @@ use Rattle.scope.proofs.Plan as P
 use Rattle.scope.proofs.Plan.Laws as P′
 use Rattle.scope.proofs.Outcome as O
 use Rattle.scope.proofs.Outcome.Laws as O′
-use Rattle.boundary.specs.Told.{Tells, noRow}
-use Rattle.boundary.proofs.Passed.{told-of}
+use Rattle.capi.specs.Told.{Tells, noRow}
+use Rattle.capi.proofs.Passed.{told-of}
 use Rattle.records.proofs.fill_records as filling
 use Rattle.records.proofs.fill_records.Symbol as filling-def
 use Rattle.records.proofs.fill_records.Symbol.{name as #records·fill-records}
 use Rattle.records.proofs.fill_records.Met as filling-thm
-use Rattle.boundary.proofs.tell_outcome as telling
-use Rattle.boundary.proofs.tell_outcome.Symbol as telling-def
-use Rattle.boundary.proofs.tell_outcome.Symbol.{name as #boundary·tell-outcome}
-use Rattle.boundary.proofs.tell_outcome.Met as telling-thm
+use Rattle.capi.proofs.told.tell_outcome as telling
+use Rattle.capi.proofs.told.tell_outcome.Symbol as telling-def
+use Rattle.capi.proofs.told.tell_outcome.Symbol.{name as #capi·told·tell-outcome}
+use Rattle.capi.proofs.told.tell_outcome.Met as telling-thm
 use Rattle.capi.proofs.list.bankplan_fill_records.Key.{name as #capi·bankplan-fill-records}
 use Rattle.capi.proofs.list.bankplan_fill_records as f
 use Rattle.capi.proofs.list.bankplan_fill_records.Statement as stated
@@ -154,7 +154,7 @@ module _ {M : Type 1} (𝓤 : URA M) (H : Heap 𝓤) (A : Atoms 𝓤) (W : Given
       nothing ! $ move ! (2 ∷ 0 ∷ []) $ fjoin ! $ move ! (1 ∷ 0 ∷ []) $ fjoin ! $ owned ! u32 (Is u32) (uint-makes 𝓤 H A W w32) ht (vint w32 ht ∷ []) (refl, gh) $ fjoin ! $ owned ! u32 (Is u32) (uint-makes 𝓤 H A W w32) wd (vint w32 wd ∷ []) (refl, gw) $ fjoin ! $
       owned ! u32 (Is u32) (uint-makes 𝓤 H A W w32) pd (vint w32 pd ∷ []) (refl, gd) $ fjoin ! $ owned ! u32 (Is u32) (uint-makes 𝓤 H A W w32) pb (vint w32 pb ∷ []) (refl, gb) $ fjoin ! $ owned ! u32 (Is u32) (uint-makes 𝓤 H A W w32) pa (vint w32 pa ∷ []) (refl, ga) $ fjoin ! $ done !
 
-  module _ (𝓣 : Tables 𝓤 H) (known-fills : Triple 𝓤 (𝓣 .C #records·fill-records) (Fills 𝓤 H A mem run)) (known-says : Triple 𝓤 (𝓣 .C #boundary·tell-outcome) (Says 𝓤 H A mem run)) where
+  module _ (𝓣 : Tables 𝓤 H) (known-fills : Triple 𝓤 (𝓣 .C #records·fill-records) (Fills 𝓤 H A mem run)) (known-says : Triple 𝓤 (𝓣 .C #capi·told·tell-outcome) (Says 𝓤 H A mem run)) where
     walk : ent 𝓤 (onEntry 𝓤 H A f.signature (κ₀, (κ₁, tt)) (q₀, (q₁, tt)) a vals) (WpFn 𝓤 H (𝓣 .C) (𝓣 .Λ) code.function (vint w32 pa ∷ vint w32 pb ∷ vint w32 pd ∷ vint w32 wd ∷ vint w32 ht ∷ s ∷ vptr b₁ o₁ ∷ []) Post)
     walk =
         qed W ((‵ (flft κ₀ q₀) ⊛ (‵ (flft κ₁ q₁) ⊛ ‵ ftrue)) ∷ ‵ (owns (u32 ∷ u32 ∷ u32 ∷ u32 ∷ u32 ∷ MutSlice (named 0) κ₀ R ∷ MutRef (named 1) κ₁ Four ∷ []) a vals) ∷ []) ∵
@@ -194,7 +194,7 @@ module _ {M : Type 1} (𝓤 : URA M) (H : Heap 𝓤) (A : Atoms 𝓤) (W : Given
         move ! (32 ∷ 33 ∷ []) $ free1 ! $ move ! (30 ∷ 31 ∷ []) $ free1 ! $ move ! (28 ∷ 29 ∷ []) $ free1 ! $ move ! (26 ∷ 27 ∷ []) $ free1 ! $ move ! (24 ∷ 25 ∷ []) $ free1 ! $ move ! (22 ∷ 23 ∷ []) $ free1 ! $ move ! (20 ∷ 21 ∷ []) $ free1 ! $ move ! (18 ∷ 19 ∷ []) $ free1 ! $ move ! (16 ∷ 17 ∷ []) $ free1 ! $ move ! (14 ∷ 15 ∷ []) $ free1 ! $ move ! (12 ∷ 13 ∷ []) $ free1 ! $ move ! (10 ∷ 11 ∷ []) $ free1 ! $ move ! (8 ∷ 9 ∷ []) $ free1 ! $ free0 ! $
         keep ! (4 ∷ 1 ∷ 5 ∷ 2 ∷ 0 ∷ []) $ by ! (exits m v (zs .1 .1 .1 .0) (us .1 .0) (both-say e told) l)))))))))))))))))))))))))
 
-module _ {M : Type 1} (𝓤 : URA M) (H : Heap 𝓤) (A : Atoms 𝓤) (W : Given 𝓤 H A) (mem : Memory → SProp 𝓤) (run : Routine → Fun 𝓤) (𝓣 : Tables 𝓤 H) (known-fills : Triple 𝓤 (𝓣 .C #records·fill-records) (Fills 𝓤 H A mem run)) (known-says : Triple 𝓤 (𝓣 .C #boundary·tell-outcome) (Says 𝓤 H A mem run)) where
+module _ {M : Type 1} (𝓤 : URA M) (H : Heap 𝓤) (A : Atoms 𝓤) (W : Given 𝓤 H A) (mem : Memory → SProp 𝓤) (run : Routine → Fun 𝓤) (𝓣 : Tables 𝓤 H) (known-fills : Triple 𝓤 (𝓣 .C #records·fill-records) (Fills 𝓤 H A mem run)) (known-says : Triple 𝓤 (𝓣 .C #capi·told·tell-outcome) (Says 𝓤 H A mem run)) where
   fill-walks : Walks 𝓤 H A f.ended stayed (WpFn 𝓤 H (𝓣 .C) (𝓣 .Λ) code.function) (f.clauses 𝓤 H A mem run)
   fill-walks = walked 𝓤 H A f.ended stayed (f.clauses 𝓤 H A mem run) (WpFn 𝓤 H (𝓣 .C) (𝓣 .Λ) code.function)
       (λ κs. (uint-vals w32, (uint-vals w32, (uint-vals w32, (uint-vals w32, (uint-vals w32, (slice-vals, (ptr-vals, tt)))))))) (λ κs. (uint-tells w32, (uint-tells w32, (uint-tells w32, (uint-tells w32, (uint-tells w32, (mut-slice-tells (named 0) (κs .0) R, (mut-tells (named 1) (κs .1 .0) Four, tt))))))))
@@ -217,4 +217,4 @@ bankplan-fill-records-spec 𝓤 H 𝓜 𝓖 𝓡 =
     (tables 𝓤 H 𝓜 𝓡 code.env .C) (tables 𝓤 H 𝓜 𝓡 code.env .Λ) #capi·bankplan-fill-records code.function (code.unfolded 𝓤 H 𝓜 𝓡)
     (fill-meets 𝓤 H (𝓖 .A) (givenOf 𝓤 H 𝓜 𝓖) (𝓜 .mem) (𝓡 .run) (tablesOf 𝓤 H 𝓜 (tables 𝓤 H 𝓜 𝓡 code.env))
     (cited 𝓤 H (Fills 𝓤 H (𝓖 .A) (𝓜 .mem) (𝓡 .run)) 𝓜 𝓡 code.env #records·fill-records filling-def.routine code.calls-records·fill-records (filling-thm.met 𝓤 H 𝓜 𝓖 𝓡))
-    (cited 𝓤 H (Says 𝓤 H (𝓖 .A) (𝓜 .mem) (𝓡 .run)) 𝓜 𝓡 code.env #boundary·tell-outcome telling-def.routine code.calls-boundary·tell-outcome (telling-thm.met 𝓤 H 𝓜 𝓖 𝓡)))
+    (cited 𝓤 H (Says 𝓤 H (𝓖 .A) (𝓜 .mem) (𝓡 .run)) 𝓜 𝓡 code.env #capi·told·tell-outcome telling-def.routine code.calls-capi·told·tell-outcome (telling-thm.met 𝓤 H 𝓜 𝓖 𝓡)))

@@ -6,7 +6,7 @@ use Rattle.scope.specs.Plans.{plan}
 use Rattle.scope.specs.Numbers.{ofLoaded}
 use Rattle.scope.specs.Calls.{load}
 use Rattle.scope.proofs.PlanFacts.{pixel-handed}
-use Rattle.boundary.proofs.Passed.{told-of}
+use Rattle.capi.proofs.Passed.{told-of}
 use Rattle.capi.proofs.memory.bankplan_load.Statement.{statement}
 use Rattle.capi.proofs.memory.bankplan_load.Tie as tie
 

@@ -4,9 +4,9 @@ use borrow.Author.Needs.{needs}
 use Rattle.scope.specs.Plans.{at, plan}
 use Rattle.scope.specs.Numbers.{ofCounted}
 use Rattle.scope.proofs.PlanFacts.{pixel-handed}
-use Rattle.fetches.proofs.OfBooks.{ring-fetch-by-entry}
-use Rattle.boundary.specs.Flat.{flatBook}
-use Rattle.boundary.proofs.Passed.{told-of}
+use Rattle.pictures.proofs.OfBooks.{ring-fetch-by-entry}
+use Rattle.capi.specs.Flat.{flatBook}
+use Rattle.capi.proofs.Passed.{told-of}
 use Rattle.capi.proofs.Entries.{entry-there}
 use Rattle.capi.proofs.memory.bankplan_ring_fetch.Statement.{statement}
 use Rattle.capi.proofs.memory.bankplan_ring_fetch.Tie as tie

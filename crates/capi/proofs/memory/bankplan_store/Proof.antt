@@ -4,7 +4,7 @@ use borrow.Author.Needs.{needs}
 use Rattle.scope.specs.Plans.{plan}
 use Rattle.scope.specs.Numbers.{ofOutcome}
 use Rattle.scope.proofs.PlanFacts.{pixel-handed}
-use Rattle.boundary.proofs.Passed.{told-of}
+use Rattle.capi.proofs.Passed.{told-of}
 use Rattle.capi.proofs.memory.bankplan_store.Statement.{statement}
 use Rattle.capi.proofs.memory.bankplan_store.Tie as tie
 

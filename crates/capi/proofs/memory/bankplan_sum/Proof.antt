@@ -3,7 +3,7 @@
 use borrow.Author.Needs.{needs}
 use Rattle.scope.specs.Plans.{plan}
 use Rattle.scope.specs.Numbers.{ofCounted}
-use Rattle.boundary.proofs.Passed.{told-of}
+use Rattle.capi.proofs.Passed.{told-of}
 use Rattle.capi.proofs.memory.bankplan_sum.Statement.{statement}
 use Rattle.capi.proofs.memory.bankplan_sum.Tie as tie
 

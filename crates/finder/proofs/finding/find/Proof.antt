@@ -14,9 +14,9 @@ use Rattle.scope.specs.Calls.{findTest, found, find}
 use Rattle.scope.specs.declared.Book.{Book}
 use Rattle.scope.specs.declared.Planned.{Planned}
 use Rattle.scope.specs.declared.Refusal.{Refusal}
-use Rattle.laws.proofs.Chains.{chain-refuses, chain-goes-on, answered-some}
-use Rattle.laws.proofs.Deciding.{limit-decides}
-use Rattle.laws.proofs.BookTests.{book-legal-iff}
+use Rattle.checks.proofs.Chains.{chain-refuses, chain-goes-on, answered-some}
+use Rattle.checks.proofs.Deciding.{limit-decides}
+use Rattle.checks.proofs.BookTests.{book-legal-iff}
 use Rattle.book.proofs.Outcomes.{record-taken, record-turned-down}
 use Rattle.finder.proofs.FindAnswers.{legal-find}
 use Rattle.finder.proofs.finding.find.Statement.{statement}

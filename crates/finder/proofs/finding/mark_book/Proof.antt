@@ -8,8 +8,8 @@ use mathlib.Core.Path.{_≡_, sym, _∙_, ap}
 use mathlib.Core.List.{List}
 use lib.ListN.{length, length-replicate}
 use Rattle.scope.specs.Plans.{patternAt}
-use Rattle.scope.specs.Meaning.{IsBook}
-use Rattle.laws.proofs.BookTests.{book-legal-iff}
+use Rattle.scope.specs.promises.Meaning.{IsBook}
+use Rattle.checks.proofs.BookTests.{book-legal-iff}
 use Rattle.finder.specs.Table.{markPattern, markBook}
 use Rattle.finder.proofs.Marking.{length-mark-book}
 use Rattle.finder.proofs.finding.mark_book.Statement.{statement}

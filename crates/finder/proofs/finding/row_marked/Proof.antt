@@ -2,7 +2,7 @@
 -- Assumes nothing.
 use Prim.Native.Nat.{_-_}
 use native.Mathlib.Omega.{arith}
-use Rattle.finder.proofs.Rows.{CellsPassed, no-cell-passed, cell-passed, cell-found, row-unmarked}
+use Rattle.finder.proofs.RowTests.{CellsPassed, no-cell-passed, cell-passed, cell-found, row-unmarked}
 use Rattle.finder.proofs.finding.row_marked.Statement.{statement}
 use Rattle.finder.proofs.finding.row_marked.Tie as tie
 

@@ -3,7 +3,7 @@
 use Prim.Native.Nat.{_-_}
 use native.Mathlib.Omega.{arith}
 use mathlib.Core.Path.{sym, _∙_}
-use Rattle.finder.proofs.Rows.{RowsPassed, no-row-passed, row-passed, row-passed-around, row-found, rows-unmarked, start-small}
+use Rattle.finder.proofs.RowTests.{RowsPassed, no-row-passed, row-passed, row-passed-around, row-found, rows-unmarked, start-small}
 use Rattle.finder.proofs.finding.rows_marked.Statement.{statement}
 use Rattle.finder.proofs.finding.rows_marked.Tie as tie
 

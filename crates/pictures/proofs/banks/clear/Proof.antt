@@ -14,7 +14,7 @@ use Rattle.scope.specs.declared.Plan.{Plan}
 use Rattle.scope.specs.declared.Counted.{Counted}
 use Rattle.scope.specs.declared.Outcome.{Outcome}
 use Rattle.scope.specs.declared.Refusal.{Refusal}
-use Rattle.laws.proofs.Chains.{Gives, value-given, refusal-given}
+use Rattle.checks.proofs.Chains.{Gives, value-given, refusal-given}
 use Rattle.pictures.specs.Places.{bankDepth}
 use Rattle.pictures.proofs.PictureTests.{bank-refusal-told}
 use Rattle.pictures.proofs.WholeBanks.{found-nothing, bank-below, end-at-most, end-in-memory, part-cleared}

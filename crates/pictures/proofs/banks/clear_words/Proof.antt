@@ -5,7 +5,7 @@ use native.Mathlib.Omega.{arith}
 use mathlib.Core.Path.{refl, sym, _∙_}
 use lib.ListN.{length, replicate, length-replicate, getD-replicate}
 use borrow.Author.Needs.{needs}
-use Rattle.laws.proofs.Filling.{Filled, filled-none, filled-more, filled-all, gathered}
+use Rattle.checks.proofs.FilledArrays.{Filled, filled-none, filled-more, filled-all, gathered}
 use Rattle.pictures.proofs.banks.clear_words.Statement.{statement}
 use Rattle.pictures.proofs.banks.clear_words.Tie as tie
 

@@ -13,7 +13,7 @@ use Rattle.scope.specs.Calls.{wholeBankTest, sum}
 use Rattle.scope.specs.declared.Plan.{Plan}
 use Rattle.scope.specs.declared.Counted.{Counted}
 use Rattle.scope.specs.declared.Refusal.{Refusal}
-use Rattle.laws.proofs.Chains.{answered-none, answered-some}
+use Rattle.checks.proofs.Chains.{answered-none, answered-some}
 use Rattle.pictures.specs.Places.{bankDepth}
 use Rattle.pictures.proofs.PictureTests.{bank-refusal-told}
 use Rattle.pictures.proofs.WholeBanks.{found-nothing, bank-below, end-at-most, end-in-memory, part-is-bank, part-at-most}

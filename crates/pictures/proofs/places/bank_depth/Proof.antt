@@ -13,8 +13,8 @@ use Rattle.scope.specs.Calls.{wholeBankTest}
 use Rattle.scope.specs.declared.Plan.{Plan}
 use Rattle.scope.specs.declared.Counted.{Counted}
 use Rattle.scope.specs.declared.Refusal.{Refusal}
-use Rattle.laws.proofs.Chains.{chain-refuses, chain-goes-on, chain-of-one, answered-none, answered-some}
-use Rattle.laws.proofs.Deciding.{bank-decides}
+use Rattle.checks.proofs.Chains.{chain-refuses, chain-goes-on, chain-of-one, answered-none, answered-some}
+use Rattle.checks.proofs.Deciding.{bank-decides}
 use Rattle.pictures.specs.Places.{pictureTest, pictureDepth, bankDepth}
 use Rattle.pictures.proofs.PictureTests.{picture-test-iff, picture-before-bank, picture-told, picture-refusal-told}
 use Rattle.pictures.proofs.places.bank_depth.Statement.{statement}

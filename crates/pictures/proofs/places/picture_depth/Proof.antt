@@ -12,17 +12,17 @@ use Rattle.scope.specs.Plans.{banks}
 use Rattle.scope.specs.Banks.{depthOf}
 use Rattle.scope.specs.Numbers.{planTest, sidesTest, memoryTest}
 use Rattle.scope.specs.Calls.{depth}
-use Rattle.scope.specs.Meaning.{IsPlan, IsSide}
+use Rattle.scope.specs.promises.Meaning.{IsPlan, IsSide}
 use Rattle.scope.specs.declared.Plan.{Plan}
 use Rattle.scope.specs.declared.Counted.{Counted}
 use Rattle.scope.specs.declared.Refusal.{Refusal}
-use Rattle.laws.proofs.Booleans.{last-test, test-before}
-use Rattle.laws.proofs.Chains.{chain-refuses, chain-goes-on, chain-of-one, answered-none, answered-some}
-use Rattle.laws.proofs.Deciding.{memory-decides}
-use Rattle.laws.proofs.Tests.{plan-legal-iff, sides-legal-iff}
-use Rattle.buffer.proofs.Sums.{depth-at-most}
+use Rattle.checks.proofs.Booleans.{last-test, test-before}
+use Rattle.checks.proofs.Chains.{chain-refuses, chain-goes-on, chain-of-one, answered-none, answered-some}
+use Rattle.checks.proofs.Deciding.{memory-decides}
+use Rattle.checks.proofs.Tests.{plan-legal-iff, sides-legal-iff}
+use Rattle.pictures.proofs.Sums.{depth-at-most}
 use Rattle.pictures.specs.Places.{pictureTest, pictureDepth}
-use Rattle.pictures.proofs.Answers.{number-told, refusal-told}
+use Rattle.pictures.proofs.CountedAnswers.{number-told, refusal-told}
 use Rattle.pictures.proofs.PictureTests.{depth-before-memory}
 use Rattle.pictures.proofs.places.picture_depth.Statement.{statement}
 use Rattle.pictures.proofs.places.picture_depth.Tie as tie

@@ -12,16 +12,16 @@ use Rattle.scope.specs.Plans.{Pixel, at}
 use Rattle.scope.specs.Banks.{bankOf, addressOf, wordOf}
 use Rattle.scope.specs.Numbers.{planTest, sidesTest, outsideTest}
 use Rattle.scope.specs.Calls.{bank, address, wordTest}
-use Rattle.scope.specs.Meaning.{IsPicture}
+use Rattle.scope.specs.promises.Meaning.{IsPicture}
 use Rattle.scope.specs.declared.Plan.{Plan}
 use Rattle.scope.specs.declared.Counted.{Counted}
 use Rattle.scope.specs.declared.Refusal.{Refusal}
 use Rattle.scope.proofs.PlanFacts.{pixel-handed}
-use Rattle.laws.proofs.Searches.{none-not-some}
-use Rattle.laws.proofs.Chains.{chain-refuses, chain-goes-on, answered-none, answered-some}
-use Rattle.laws.proofs.Tests.{plan-legal-iff, sides-legal-iff}
+use Rattle.checks.proofs.Searches.{none-not-some}
+use Rattle.checks.proofs.Chains.{chain-refuses, chain-goes-on, answered-none, answered-some}
+use Rattle.checks.proofs.Tests.{plan-legal-iff, sides-legal-iff}
 use Rattle.pictures.specs.Places.{pictureTest, pictureDepth, wordPlace}
-use Rattle.pictures.proofs.Answers.{number-told, refusal-told}
+use Rattle.pictures.proofs.CountedAnswers.{number-told, refusal-told}
 use Rattle.pictures.proofs.PictureTests.{picture-test-iff, picture-before-pixel, word-in-memory, picture-told, picture-refusal-told}
 use Rattle.pictures.proofs.places.word_place.Statement.{statement}
 use Rattle.pictures.proofs.places.word_place.Tie as tie

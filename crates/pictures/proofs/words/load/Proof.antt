@@ -14,7 +14,7 @@ use Rattle.scope.specs.declared.Counted.{Counted}
 use Rattle.scope.specs.declared.Loaded.{Loaded}
 use Rattle.scope.specs.declared.Refusal.{Refusal}
 use Rattle.scope.proofs.PlanFacts.{pixel-handed}
-use Rattle.laws.proofs.Chains.{answered-none, answered-some}
+use Rattle.checks.proofs.Chains.{answered-none, answered-some}
 use Rattle.pictures.specs.Places.{wordPlace}
 use Rattle.pictures.proofs.PictureTests.{place-told, place-in-memory, place-refusal-told}
 use Rattle.pictures.proofs.words.load.Statement.{statement}

@@ -15,7 +15,7 @@ use Rattle.scope.specs.declared.Counted.{Counted}
 use Rattle.scope.specs.declared.Outcome.{Outcome}
 use Rattle.scope.specs.declared.Refusal.{Refusal}
 use Rattle.scope.proofs.PlanFacts.{pixel-handed}
-use Rattle.laws.proofs.Chains.{Gives, value-given, refusal-given}
+use Rattle.checks.proofs.Chains.{Gives, value-given, refusal-given}
 use Rattle.pictures.specs.Places.{wordPlace}
 use Rattle.pictures.proofs.PictureTests.{place-told, place-in-memory, place-refusal-told}
 use Rattle.pictures.proofs.words.store.Statement.{statement}

@@ -38,11 +38,11 @@ use denote.Triple.Walked.{says, Stays, stay-slice, stay-none, walkOf, ends-at}
 use denote.Triple.Clauses.{ensured, lasts}
 use denote.Exit.{yes}
 use Rattle.scope.specs.Calls.{fillRecords}
-use Rattle.scope.specs.PicturePromises.{noRecord}
+use Rattle.scope.specs.promises.PicturePromises.{noRecord}
 use Rattle.scope.specs.declared.Plan.{Plan}
 use Rattle.scope.specs.declared.PixelRecord.{PixelRecord}
 use Rattle.scope.specs.declared.Outcome.{Outcome}
-use Rattle.laws.proofs.Chains.{Gives}
+use Rattle.checks.proofs.Chains.{Gives}
 use Rattle.records.specs.Filling.{isPlaceable, placedIf, fillAnswer}
 use Rattle.scope.proofs.PixelRecord as T
 use Rattle.scope.proofs.PixelRecord.Laws as T′

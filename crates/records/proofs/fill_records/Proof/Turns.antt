@@ -42,12 +42,12 @@ use denote.Triple.Statement.{Triple}
 use denote.Triple.Call.{calls-at}
 use denote.Triple.Clauses.{ensured}
 use Rattle.scope.specs.Search.{gather}
-use Rattle.scope.specs.PicturePromises.{noRecord}
+use Rattle.scope.specs.promises.PicturePromises.{noRecord}
 use Rattle.scope.specs.declared.PixelRecord.{PixelRecord}
 use Rattle.scope.specs.declared.Outcome.{Outcome}
-use Rattle.laws.proofs.Filling.{Filled, filled-none, filled-more, filled-all}
+use Rattle.checks.proofs.FilledArrays.{Filled, filled-none, filled-more, filled-all}
 use Rattle.records.specs.Filling.{isPlaceable, placedIf, fillAnswer}
-use Rattle.records.proofs.Lists.{one-more-placeable, none-filled, all-filled}
+use Rattle.records.proofs.RecordLists.{one-more-placeable, none-filled, all-filled}
 use Rattle.scope.proofs.PixelRecord as T
 use Rattle.scope.proofs.PixelRecord.Laws as T′
 use Rattle.scope.proofs.Outcome as O

@@ -14,12 +14,12 @@ use Rattle.scope.specs.Plans.{at, isPlan}
 use Rattle.scope.specs.Banks.{within, inside, addressOf}
 use Rattle.scope.specs.Numbers.{isSide, sidesTest, outsideTest}
 use Rattle.scope.specs.Calls.{address}
-use Rattle.scope.specs.Meaning.{Inside}
+use Rattle.scope.specs.promises.Meaning.{Inside}
 use Rattle.scope.specs.declared.Plan.{Plan}
 use Rattle.scope.specs.declared.Counted.the-variants.{Number, Refused}
 use Rattle.scope.specs.declared.Refusal.the-variants.{NotPlan, Sides, Outside}
 use Rattle.scope.proofs.PlanFacts.{plan-means, inside-means}
-use Rattle.scope.proofs.Answers.{fails, holds, no-plan, no-sides, past-sides, outside-one, inside-one}
+use Rattle.scope.proofs.MethodAnswers.{fails, holds, no-plan, no-sides, past-sides, outside-one, inside-one}
 use Rattle.scope.proofs.Plan.address.Statement.{statement}
 use Rattle.scope.proofs.Plan.address.Tie as tie
 

@@ -14,7 +14,7 @@ use Rattle.scope.specs.declared.Plan.{Plan}
 use Rattle.scope.specs.declared.Counted.the-variants.{Number, Refused}
 use Rattle.scope.specs.declared.Refusal.the-variants.{NotPlan, Sides}
 use Rattle.scope.proofs.PlanFacts.{plan-means}
-use Rattle.scope.proofs.Answers.{fails, holds, no-plan, no-sides, past-sides}
+use Rattle.scope.proofs.MethodAnswers.{fails, holds, no-plan, no-sides, past-sides}
 use Rattle.scope.proofs.Plan.depth.Statement.{statement}
 use Rattle.scope.proofs.Plan.depth.Tie as tie
 

@@ -9,8 +9,8 @@ use Rattle.scope.specs.Numbers.{isSide, sidesTest, cellTest}
 use Rattle.scope.specs.Calls.{locate}
 use Rattle.scope.specs.declared.Located.the-variants.{Refused}
 use Rattle.scope.proofs.PlanFacts.{plan-means, a-at-most}
-use Rattle.scope.proofs.Answers.{fails, holds, no-plan, no-sides}
-use Rattle.scope.proofs.Cells.{answer-lacking, answer-pixel}
+use Rattle.scope.proofs.MethodAnswers.{fails, holds, no-plan, no-sides}
+use Rattle.scope.proofs.LocateAnswers.{answer-lacking, answer-pixel}
 use Rattle.scope.proofs.Plan.locate.Statement.{statement}
 use Rattle.scope.proofs.Plan.locate.Tie as tie
 

@@ -9,8 +9,8 @@ use lib.ListN.{set, length-set}
 use borrow.Fn.Kinds.{In}
 use borrow.Fn.PlainCycle.{Measures, is, falls, and}
 use Rattle.scope.specs.Program.{decimal}
-use Rattle.text.proofs.Digits.{lastDigit, length-of-more}
-use Rattle.text.proofs.Puts.{PutTo, PutBut, none-put, front-put, room-for-last, last-put}
+use Rattle.text.proofs.DecimalDigits.{lastDigit, length-of-more}
+use Rattle.text.proofs.PutLines.{PutTo, PutBut, none-put, front-put, room-for-last, last-put}
 use Rattle.text.proofs.lines.put_decimal.Reads as reads
 use Rattle.text.proofs.lines.put_decimal.Kinds as kinds
 use Rattle.text.proofs.lines.+put_decimal.Lts-put_decimal as lts

@@ -3,7 +3,7 @@
 use native.Mathlib.Omega.{arith}
 use borrow.Author.Needs.{needs}
 use Rattle.scope.specs.Program.{planLines}
-use Rattle.text.proofs.Texts.{plan-lines-at-most, text-put}
+use Rattle.text.proofs.LineParts.{plan-lines-at-most, text-put}
 use Rattle.text.proofs.lines.plan_text.Statement.{statement}
 use Rattle.text.proofs.lines.plan_text.Tie as tie
 

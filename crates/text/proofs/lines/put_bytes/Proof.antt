@@ -6,7 +6,7 @@ use mathlib.Core.Path.{_≡_}
 use lib.ListN.{length, take}
 use lib.Seq.{take-all}
 use borrow.Author.Needs.{needs}
-use Rattle.text.proofs.Puts.{PutTo, nothing-put, next-byte-put}
+use Rattle.text.proofs.PutLines.{PutTo, nothing-put, next-byte-put}
 use Rattle.text.proofs.lines.put_bytes.Statement.{statement}
 use Rattle.text.proofs.lines.put_bytes.Tie as tie
 

@@ -6,8 +6,8 @@ use mathlib.Core.Path.{sym, ap}
 use mathlib.Core.List.{[], _∷_, _++_, append-nil}
 use borrow.Author.Needs.{needs}
 use Rattle.scope.specs.Program.{decimal}
-use Rattle.text.proofs.Puts.{RoomFor, PutTo, PutBut, withPart, first-part-fits, first-part-put}
-use Rattle.text.proofs.Puts.{part-starts, room-in-part, next-part-put, whole-put}
+use Rattle.text.proofs.PutLines.{RoomFor, PutTo, PutBut, withPart, first-part-fits, first-part-put}
+use Rattle.text.proofs.PutLines.{part-starts, room-in-part, next-part-put, whole-put}
 use Rattle.text.proofs.lines.put_number.Statement.{statement}
 use Rattle.text.proofs.lines.put_number.Tie as tie
 

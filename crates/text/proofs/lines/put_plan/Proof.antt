@@ -8,9 +8,9 @@ use borrow.Author.Needs.{needs}
 use Rattle.integers.proofs.Sizes.{product-fits-64}
 use Rattle.scope.specs.Program.{ascii, planLines}
 use Rattle.scope.specs.declared.Plan.{Plan}
-use Rattle.text.proofs.Puts.{RoomFor, PutBut, withPart, first-part-fits, first-part-put, ends-inside}
-use Rattle.text.proofs.Puts.{part-starts, room-in-part, next-part-put, room-for-last, last-put}
-use Rattle.text.proofs.Texts.{banksPart, afterBanks, afterA, afterB, afterD, plan-lines-are}
+use Rattle.text.proofs.PutLines.{RoomFor, PutBut, withPart, first-part-fits, first-part-put, ends-inside}
+use Rattle.text.proofs.PutLines.{part-starts, room-in-part, next-part-put, room-for-last, last-put}
+use Rattle.text.proofs.LineParts.{banksPart, afterBanks, afterA, afterB, afterD, plan-lines-are}
 use Rattle.text.proofs.lines.put_plan.Statement.{statement}
 use Rattle.text.proofs.lines.put_plan.Tie as tie
 

@@ -4,8 +4,8 @@ use native.Mathlib.Omega.{arith}
 use mathlib.Core.List.{[], _∷_}
 use borrow.Author.Needs.{needs}
 use Rattle.scope.specs.Program.{ascii, refusedLine}
-use Rattle.text.proofs.Puts.{RoomFor, PutBut, first-part-fits, first-part-put, room-for-last, last-put}
-use Rattle.text.proofs.Texts.{refusedPart, refused-line-is}
+use Rattle.text.proofs.PutLines.{RoomFor, PutBut, first-part-fits, first-part-put, room-for-last, last-put}
+use Rattle.text.proofs.LineParts.{refusedPart, refused-line-is}
 use Rattle.text.proofs.lines.put_refused.Statement.{statement}
 use Rattle.text.proofs.lines.put_refused.Tie as tie
 

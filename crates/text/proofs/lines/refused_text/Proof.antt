@@ -3,7 +3,7 @@
 use native.Mathlib.Omega.{arith}
 use borrow.Author.Needs.{needs}
 use Rattle.scope.specs.Program.{refusedLine}
-use Rattle.text.proofs.Texts.{refused-line-at-most, text-put}
+use Rattle.text.proofs.LineParts.{refused-line-at-most, text-put}
 use Rattle.text.proofs.lines.refused_text.Statement.{statement}
 use Rattle.text.proofs.lines.refused_text.Tie as tie
 

@@ -1,0 +1,175 @@
+-- More bytes than the longest book has, 1 + 16 × (1 + 2 × 64) = 2065: they are refused before their end, and what comes
+-- after them changes nothing.
+-- Assumes nothing.
+use Prim.Native.Nat.{ℕ, zero, suc, _+_, _*_, _≤_, _<_}
+use native.Mathlib.Omega.{arith}
+use mathlib.Core.Path.{_≡_, refl, sym, _∙_, ap, ap₂}
+use mathlib.Core.Option.{Option, none, some}
+use mathlib.Core.List.{List, [], _∷_, _++_}
+use lib.ListN.{length, length-append}
+use Rattle.integers.proofs.Comparisons.{leb-false-iff}
+use Rattle.scope.specs.Search.{first, firstOf}
+use Rattle.scope.specs.Books.{byte, start, place, pixelIn}
+use Rattle.scope.specs.Numbers.{pixelTest, countRead, pixelRead, patternRead, bytesTest}
+use Rattle.scope.specs.Calls.{readBook}
+use Rattle.scope.specs.Program.{refusedLine, programText}
+use Rattle.scope.specs.declared.Refusal.{Refusal}
+use Rattle.scope.specs.declared.Refusal.the-variants.{Extra}
+use Rattle.scope.specs.declared.Reading.{Reading}
+use Rattle.checks.proofs.Searches.{Found, first-found, first-none, first-same}
+use Rattle.checks.proofs.Chains.{answered-some}
+use Rattle.book.specs.Scan.{pixelFrom}
+use Rattle.book.proofs.Unused.{pixelTest-same}
+use Rattle.book.proofs.ProgramText.{text-of-refused}
+use Rattle.book.proofs.Reading.{FromTo, count-read-iff, pattern-read-iff, bytes-read-iff}
+use Rattle.book.proofs.Longer.{extra-decides, same-byte, same-start, same-count, same-place, same-pixel}
+use Rattle.book.proofs.Scanning.{pattern-read-from, pixel-read-from, both-there, count-decides-from}
+use Rattle.book.proofs.ReaderRefusals.{first-count-decides}
+use Rattle.book.proofs.Scanned.{pattern-decides}
+
+-- Each pattern that is read has at most 1 + 2 × 64 bytes.
+start-at-most : (s : List ℕ) (n : ℕ) → ((m : ℕ) → m < n → patternRead s m ≡ none) → start s n ≤ 1 + 129 * n
+unfolding start
+start-at-most s zero before = omega arith
+start-at-most s (suc n) before =
+    let ((_, (_, most)), _) = pattern-read-iff s n .0 (before n (omega arith)) in
+    omega (arith, start-at-most s n (λ m h. before m (omega arith)))
+
+-- A pixel whose bytes are there is tested by column, row and repetition alone.
+pixel-there : (s : List ℕ) (n e : ℕ) → place s n e + 2 ≤ length s
+    → pixelRead s n e ≡ pixelTest (place s n e) (place s n e + 1) (pixelIn s n) e
+unfolding place pixelIn pixelFrom
+pixel-there s n e h = pixel-read-from s n e ∙ both-there s (start s n + 1) e h
+
+-- Bytes s with rest after them: what looks only at places before the end of s finds the same.
+module _ (s rest : List ℕ) where
+  same-count-read : (most i : ℕ) → i < length s → countRead (s ++ rest) most i ≡ countRead s most i
+  unfolding countRead
+  same-count-read most i h =
+      let there = leb-false-iff (length s) i .1 h in
+      let still = leb-false-iff (length (s ++ rest)) i .1 (omega (arith, length-append s rest)) in
+      rw (there, still, same-byte s rest i h) refl
+
+  same-pixel-read : (n e : ℕ) → place s n e + 2 ≤ length s → pixelRead (s ++ rest) n e ≡ pixelRead s n e
+  unfolding place
+  same-pixel-read n e inside =
+      let same = same-place s rest n e (omega arith) in
+      pixel-there (s ++ rest) n e (omega (arith, same, length-append s rest))
+      ∙ ap (λ i. pixelTest i (i + 1) (pixelIn (s ++ rest) n) e) same
+      ∙ pixelTest-same (place s n e) (place s n e + 1) e (pixelIn (s ++ rest) n) (pixelIn s n)
+      (λ l before. same-pixel s rest n l (omega arith))
+      ∙ sym (pixel-there s n e inside)
+
+  -- a pattern's count is refused, or at most 64
+  module _ (n : ℕ) (inside : start s n + 129 ≤ length s) where
+    same-pattern-count : countRead (s ++ rest) 64 (start (s ++ rest) n) ≡ countRead s 64 (start s n)
+    same-pattern-count =
+        ap (countRead (s ++ rest) 64) (same-start s rest n (omega arith)) ∙ same-count-read 64 (start s n) (omega arith)
+
+    same-pixels-read :
+        byte s (start s n) ≤ 64
+        → first 0 (byte (s ++ rest) (start (s ++ rest) n)) (pixelRead (s ++ rest) n) ≡ first 0 (byte s (start s n)) (pixelRead s n)
+    unfolding place
+    same-pixels-read most =
+        ap (λ u. first 0 u (pixelRead (s ++ rest) n)) (same-count s rest n (omega arith))
+        ∙ first-same 0 (byte s (start s n)) (pixelRead (s ++ rest) n) (pixelRead s n) (λ e _ h. same-pixel-read n e (omega arith))
+
+    same-pattern-read : patternRead (s ++ rest) n ≡ patternRead s n
+    unfolding patternRead
+    same-pattern-read = by-count (countRead s 64 (start s n)) refl
+      where
+        by-count : (t : Option Refusal) → countRead s 64 (start s n) ≡ t → patternRead (s ++ rest) n ≡ patternRead s n
+        by-count none e =
+            ap₂ (λ t u. firstOf (t ∷ u ∷ [])) same-pattern-count
+            (same-pixels-read (count-read-iff s 64 (start s n) .0 e .1 .1))
+        by-count (some r) e =
+            pattern-read-from (s ++ rest) n
+            ∙ count-decides-from (s ++ rest) (start (s ++ rest) n) r (same-pattern-count ∙ e)
+            ∙ sym (pattern-read-from s n ∙ count-decides-from s (start s n) r e)
+
+-- For bytes that are refused the program writes the refusal's line.
+refused-text : (s : List ℕ) (r : Refusal) → bytesTest s ≡ some r → refusedLine r ≡ programText s
+unfolding readBook
+refused-text s r e = text-of-refused s (ap (λ (x : Reading). x .outcome) (answered-some (bytesTest s) _ _ r e))
+
+-- Bytes s, more than the longest book has, with rest after them.
+module _ (s rest : List ℕ) (long : 2065 < length s) where
+  still-long : 2065 < length (s ++ rest)
+  still-long = omega (arith, length-append s rest)
+
+  same-first-count : byte (s ++ rest) 0 ≡ byte s 0
+  same-first-count = same-byte s rest 0 (omega arith)
+
+  same-first-read : countRead (s ++ rest) 16 0 ≡ countRead s 16 0
+  same-first-read = same-count-read s rest 16 0 (omega arith)
+
+  -- with a legal pattern count, the patterns up to the first that is refused are read alike
+  module _ (counted : countRead s 16 0 ≡ none) where
+    legal : FromTo 16 (byte s 0)
+    legal = count-read-iff s 16 0 .0 counted .1
+
+    read-alike :
+        (n : ℕ) → n < byte s 0 → ((m : ℕ) → m < n → patternRead s m ≡ none) → patternRead (s ++ rest) n ≡ patternRead s n
+    read-alike n below before = same-pattern-read s rest n (omega (arith, legal, start-at-most s n before))
+
+    -- that one decides
+    pattern-refused : (r : Refusal) → Found 0 (byte s 0) (patternRead s) r → bytesTest (s ++ rest) ≡ bytesTest s
+    pattern-refused r found =
+        pattern-decides (s ++ rest) (omega (arith, still-long)) (rw same-first-count legal) n r
+        (omega (arith, same-first-count)) still-before (read-alike n below before ∙ found .here)
+        ∙ sym (pattern-decides s (omega arith) legal n r below before (found .here))
+      where
+        n : ℕ
+        n = found .where-is
+
+        below : n < byte s 0
+        below = omega (arith, found .below)
+
+        before : (m : ℕ) → m < n → patternRead s m ≡ none
+        before m h = found .before m (omega arith) h
+
+        still-before : (m : ℕ) → m < n → patternRead (s ++ rest) m ≡ none
+        still-before m h = read-alike m (omega (arith, below)) (λ l k. before l (omega arith)) ∙ before m h
+
+    -- and where all are read, the byte after the last does
+    all-read : ((n : ℕ) → n < byte s 0 → patternRead s n ≡ none) → bytesTest (s ++ rest) ≡ bytesTest s
+    all-read each =
+        extra-decides (s ++ rest) (same-first-read ∙ counted) (λ n h. still n (omega (arith, same-first-count)))
+        (omega (arith, still-long, same-end, end))
+        ∙ ap (λ i. some (Extra i)) same-end
+        ∙ sym (extra-decides s counted each (omega (arith, end)))
+      where
+        end : start s (byte s 0) ≤ 2065
+        end = omega (arith, legal, start-at-most s (byte s 0) each)
+
+        still : (n : ℕ) → n < byte s 0 → patternRead (s ++ rest) n ≡ none
+        still n below = read-alike n below (λ m h. each m (omega arith)) ∙ each n below
+
+        same-end : start (s ++ rest) (byte (s ++ rest) 0) ≡ start s (byte s 0)
+        same-end = ap (start (s ++ rest)) same-first-count ∙ same-start s rest (byte s 0) (omega (arith, end))
+
+    by-patterns : (t : Option Refusal) → first 0 (byte s 0) (patternRead s) ≡ t → bytesTest (s ++ rest) ≡ bytesTest s
+    by-patterns none e = all-read (λ n h. first-none 0 (byte s 0) (patternRead s) e n (omega arith) (omega arith))
+    by-patterns (some r) e = pattern-refused r (first-found 0 (byte s 0) (patternRead s) r e)
+
+  -- What comes after them does not count,
+  long-input-decided : bytesTest (s ++ rest) ≡ bytesTest s
+  long-input-decided = by-count (countRead s 16 0) refl
+    where
+      by-count : (t : Option Refusal) → countRead s 16 0 ≡ t → bytesTest (s ++ rest) ≡ bytesTest s
+      by-count none e = by-patterns e (first 0 (byte s 0) (patternRead s)) refl
+      by-count (some r) e = first-count-decides (s ++ rest) r (same-first-read ∙ e) ∙ sym (first-count-decides s r e)
+
+  -- they are always refused,
+  long-input-refused : bytesTest s ≡ none → ⊥
+  long-input-refused taken =
+      let ((_, (_, most)), (each, over)) = bytes-read-iff s .0 taken in
+      omega (arith, start-at-most s (byte s 0) (λ n h. pattern-read-iff s n .1 (each n h)))
+
+  -- and the program writes the same.
+  pub long-input-text : programText (s ++ rest) ≡ programText s
+  long-input-text = by-test (bytesTest s) refl
+    where
+      by-test : (t : Option Refusal) → bytesTest s ≡ t → programText (s ++ rest) ≡ programText s
+      by-test none e = absurd (long-input-refused e)
+      by-test (some r) e = sym (refused-text (s ++ rest) r (long-input-decided ∙ e)) ∙ refused-text s r e

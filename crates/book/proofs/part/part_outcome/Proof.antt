@@ -1,0 +1,91 @@
+-- `book::part::part_outcome` meets its contract: the bytes' refusal if there is one, else 17 if there is no such pattern.
+-- Assumes nothing.
+use Prim.Native.Nat.{ℕ, _≤_, _<_}
+use native.Mathlib.Omega.{arith}
+use mathlib.Core.Path.{_≡_, _∙_}
+use mathlib.Core.Option.{none}
+use mathlib.Core.List.{List}
+use borrow.Author.Needs.{needs}
+use Rattle.scope.specs.Books.{byte}
+use Rattle.scope.specs.Numbers.{bytesTest}
+use Rattle.scope.specs.Calls.{partTest, partOutcome}
+use Rattle.scope.specs.declared.Outcome.{Outcome}
+use Rattle.scope.specs.declared.Refusal.{Refusal}
+use Rattle.book.specs.Scan.{outcomeOf}
+use Rattle.book.proofs.Outcomes.{answered-by-refusal, answered-by-done, done-found-nothing, refused-found}
+use Rattle.book.proofs.Taken.{count-inside}
+use Rattle.book.proofs.Parts.{part-test-iff}
+use Rattle.book.proofs.ReaderRefusals.{part-of-refused, no-such-part}
+use Rattle.book.proofs.part.part_outcome.Statement.{statement}
+use Rattle.book.proofs.part.part_outcome.Tie as tie
+
+-- `outcome` is the answer of the bytes' tests
+module _ (s : List ℕ) (n : ℕ) {outcome : Outcome} (answer : outcome ≡ outcomeOf (bytesTest s)) where
+  refused-bytes : {r : Refusal} → outcome ≡ Outcome.Refused r → outcome ≡ partOutcome s n
+  unfolding partOutcome
+  refused-bytes {r} refused =
+      refused
+      ∙ answered-by-refusal (partTest s n) r (part-of-refused s n r (refused-found (bytesTest s) answer refused))
+
+  module _ (done : outcome ≡ Outcome.Done) where
+    taken : bytesTest s ≡ none
+    taken = done-found-nothing (bytesTest s) answer done
+
+    refused-number : byte s 0 ≤ n → Outcome.Refused Refusal.NoPattern ≡ partOutcome s n
+    unfolding partOutcome
+    refused-number h = answered-by-refusal (partTest s n) Refusal.NoPattern (no-such-part s n taken h)
+
+    done-part : n < byte s 0 → Outcome.Done ≡ partOutcome s n
+    unfolding partOutcome
+    done-part h = answered-by-done (partTest s n) (part-test-iff s n .1 (taken, h))
+
+bytes-outcome-requires : tie.Need-bytes-outcome-requires
+bytes-outcome-requires c κs = search needs
+
+enum-told : tie.Need-enum-told
+enum-told c = search needs
+
+returns : tie.Need-returns
+returns c =
+    let b = c .before .before in
+    let u = b .before .before .args in
+    refused-bytes (u .s .now) (u .n) (b .bytes-outcome .ensures) (c .enum-told .given .1)
+
+enum-told-2 : tie.Need-enum-told-2
+enum-told-2 c = search needs
+
+shared-slice-read-if1 : tie.Need-shared-slice-read-if1
+shared-slice-read-if1 c =
+    let b = c .before .before .before in
+    let u = b .before .before .args in
+    count-inside (u .s .now) (taken (u .s .now) (u .n) (b .bytes-outcome .ensures) (c .before .enum-told2 .given .1))
+
+cast-if1 : tie.Need-cast-if1
+cast-if1 c = omega (arith, c .shared-slice-known2 .given 0)
+
+returns-2 : tie.Need-returns-2
+unfolding byte
+returns-2 c =
+    let b = c .before .before .before .before in
+    let u = b .before .before .args in
+    refused-number (u .s .now) (u .n) (b .bytes-outcome .ensures) (c .before .before .enum-told2 .given .1) (c .if1 .taken)
+
+returns-3 : tie.Need-returns-3
+unfolding byte
+returns-3 c =
+    let b = c .before .before .before .before in
+    let u = b .before .before .args in
+    done-part (u .s .now) (u .n) (b .bytes-outcome .ensures) (c .before .before .enum-told2 .given .1) (c .if1 .left)
+
+pub part-outcome-spec : {M : Type 1} → statement M
+part-outcome-spec =
+    tie.close
+    (tie.spec
+    bytes-outcome-requires
+    enum-told
+    returns
+    enum-told-2
+    shared-slice-read-if1
+    cast-if1
+    returns-2
+    returns-3)

@@ -1,0 +1,139 @@
+-- `book::part::pattern_part` meets its contract: the part begins after the pixel count, at the place of the first pixel.
+-- Assumes nothing.
+use Prim.Native.Nat.{ℕ, _+_, _*_, _-_}
+use native.Mathlib.Omega.{arith}
+use mathlib.Core.Path.{_≡_, sym, _∙_, ap, ap₂}
+use mathlib.Core.List.{List, []}
+use lib.ListN.{take, drop}
+use borrow.Author.Needs.{needs}
+use Rattle.scope.specs.Books.{byte, start, place, partIn}
+use Rattle.scope.specs.Calls.{partTest, partOutcome, patternPart, partPlace}
+use Rattle.scope.specs.declared.Outcome.{Outcome}
+use Rattle.scope.specs.declared.Refusal.{Refusal}
+use Rattle.checks.proofs.Chains.{answered-none, answered-some}
+use Rattle.book.proofs.Bytes.{first-place}
+use Rattle.book.proofs.PartAnswers.{refused-part, taken-part, refused-place, start-told, taken-place, taken-inside}
+use Rattle.book.proofs.part.pattern_part.Statement.{statement}
+use Rattle.book.proofs.part.pattern_part.Tie as tie
+
+module _ (s : List ℕ) (n : ℕ) {outcome : Outcome} (answer : outcome ≡ partOutcome s n) where
+  -- a refused part is empty, and at the start
+  module _ {r : Refusal} (refused : outcome ≡ Outcome.Refused r) where
+    empty-part : [] ≡ patternPart s n
+    unfolding patternPart
+    empty-part = sym (answered-some (partTest s n) (λ r. []) (partIn s n) r (refused-part s n answer refused))
+
+    at-start : (p : ℕ × ℕ) → _≡_ {A = ℕ × ℕ} (p .0, 0 + p .1) (p .0, p .1 + partPlace s n)
+    at-start p = ap {B = ℕ × ℕ} (λ k. (p .0, k)) (omega (arith, refused-place s n answer refused))
+
+  -- else its pattern is one of a book's, and it is what stands from the first pixel's place on
+  module _ (done : outcome ≡ Outcome.Done) {at : ℕ} (is : at ≡ start s n) where
+    part-there : take (at + 1 + 2 * byte s at - (at + 1)) (drop (at + 1) s) ≡ patternPart s n
+    unfolding patternPart partIn
+    part-there =
+        let size : at + 1 + 2 * byte s at - (at + 1) ≡ 2 * byte s (start s n) = omega (arith, ap (byte s) is) in
+        let begin : at + 1 ≡ place s n 0 = omega (arith, is, first-place s n) in
+        ap₂ (λ k i. take k (drop i s)) size begin
+        ∙ sym (answered-none (partTest s n) (λ r. []) (partIn s n) (taken-part s n answer done))
+
+    at-first-pixel : (p : ℕ × ℕ) → _≡_ {A = ℕ × ℕ} (p .0, at + 1 + p .1) (p .0, p .1 + partPlace s n)
+    at-first-pixel p = ap {B = ℕ × ℕ} (λ k. (p .0, k)) (omega (arith, taken-place s n answer done is))
+
+part-outcome-requires : tie.Need-part-outcome-requires
+part-outcome-requires c κs = search needs
+
+enum-told : tie.Need-enum-told
+enum-told c = search needs
+
+sub-result : tie.Need-sub-result
+sub-result c = search needs
+
+part-result-start : tie.Need-part-result-start
+part-result-start c = search needs
+
+part-result-end : tie.Need-part-result-end
+part-result-end c = search needs
+
+returns : tie.Need-returns
+returns c =
+    let b = c .before .before .before in
+    let u = b .before .before .args in
+    let refused = c .before .enum-told .given .1 in (
+      empty-part (u .s .now) (u .n) (b .part-outcome .ensures) refused,
+      at-start (u .s .now) (u .n) (b .part-outcome .ensures) refused (u .s .ptr),
+    )
+
+enum-told-2 : tie.Need-enum-told-2
+enum-told-2 c = search needs
+
+start-of-requires : tie.Need-start-of-requires
+start-of-requires c κs =
+    let b = c .before .before in
+    let u = b .before .before .args in
+    start-told (u .s .now) (u .n) (b .part-outcome .ensures) (c .enum-told2 .given .1)
+
+add-first : tie.Need-add-first
+add-first c =
+    let b = c .before .before .before in
+    let u = b .before .before .args in
+    let done = c .before .enum-told2 .given .1 in
+    omega (arith, taken-inside (u .s .now) (u .n) (b .part-outcome .ensures) done (c .start-of .ensures))
+
+part-result-end-2 : tie.Need-part-result-end-2
+unfolding byte
+part-result-end-2 c =
+    let b = c .before .before .before .before in
+    let u = b .before .before .args in
+    let done = c .before .before .enum-told2 .given .1 in
+    taken-inside (u .s .now) (u .n) (b .part-outcome .ensures) done (c .before .start-of .ensures)
+
+shared-slice-read-end : tie.Need-shared-slice-read-end
+shared-slice-read-end c = omega (arith, part-result-end-2 c)
+
+cast-end : tie.Need-cast-end
+cast-end c = omega (arith, c .shared-slice-known2 .given (c .before .start-of .result))
+
+mul-end : tie.Need-mul-end
+mul-end c = omega (arith, c .shared-slice-known2 .given (c .before .start-of .result))
+
+add-end : tie.Need-add-end
+add-end c = omega (arith, part-result-end-2 c)
+
+sub-result-2 : tie.Need-sub-result-2
+sub-result-2 c = search needs
+
+part-result-start-2 : tie.Need-part-result-start-2
+part-result-start-2 c = search needs
+
+returns-2 : tie.Need-returns-2
+unfolding byte
+returns-2 c =
+    let b = c .before .before .before .before .before in
+    let u = b .before .before .args in
+    let done = c .before .before .before .enum-told2 .given .1 in
+    let is = c .before .before .start-of .ensures in (
+      part-there (u .s .now) (u .n) (b .part-outcome .ensures) done is,
+      at-first-pixel (u .s .now) (u .n) (b .part-outcome .ensures) done is (u .s .ptr),
+    )
+
+pub pattern-part-spec : {M : Type 1} → statement M
+pattern-part-spec =
+    tie.close
+    (tie.spec
+    part-outcome-requires
+    enum-told
+    sub-result
+    part-result-start
+    part-result-end
+    returns
+    enum-told-2
+    start-of-requires
+    add-first
+    shared-slice-read-end
+    cast-end
+    mul-end
+    add-end
+    sub-result-2
+    part-result-start-2
+    part-result-end-2
+    returns-2)

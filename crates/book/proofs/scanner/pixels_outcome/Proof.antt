@@ -1,0 +1,184 @@
+-- `book::scanner::pixels_outcome` meets its contract. The loop's invariant: the bytes of the pixels before position e are there,
+-- these pixels pass their tests, and the flags are theirs. The measure is what is left of the count.
+-- Assumes nothing.
+use Prim.Native.Nat.{ℕ, _+_, _-_, _*_, _≤_, _<_}
+use native.Mathlib.Omega.{arith}
+use mathlib.Core.Path.{_≡_, _∙_, ap₂}
+use mathlib.Core.Option.{none, some}
+use mathlib.Core.List.{List}
+use lib.IntN.{ℤ}
+use lib.ListN.{length}
+use mir.Syntax.{w8}
+use borrow.Author.Needs.{needs}
+use borrow.Author.Count.{below-none, below-more}
+use Rattle.integers.proofs.Raised.{number-handed}
+use Rattle.scope.specs.Search.{first}
+use Rattle.scope.specs.Plans.{at}
+use Rattle.scope.specs.Numbers.{pixelTest}
+use Rattle.scope.specs.declared.Refusal.{Refusal}
+use Rattle.scope.specs.declared.Outcome.{Outcome}
+use Rattle.book.specs.Scan.{cellOf, outcomeOf, pixelFrom, pixelReadFrom}
+use Rattle.book.proofs.Window.{Seen, none-seen, more-seen, cell-at-most}
+use Rattle.book.proofs.Window.{column-found, row-found, repeat-found, nothing-found}
+use Rattle.book.proofs.Outcomes.{refused-at, done-after}
+use Rattle.book.proofs.Scanning.{ends-early, both-there}
+use Rattle.book.proofs.scanner.pixels_outcome.Statement.{statement}
+use Rattle.book.proofs.scanner.pixels_outcome.Tie as tie
+
+abbrev Inv-loop : tie.InvT-loop
+Inv-loop s at count seen₀ e₀ seen e =
+    (e ≤ count)
+    × (at + 2 * e ≤ length s)
+    × ((l : ℕ) → l < e → pixelReadFrom s at l ≡ none)
+    × Seen seen (pixelFrom s at) e
+
+abbrev μ-loop : tie.MeasureT-loop
+μ-loop s at count seen₀ e₀ seen e = count - e
+
+loop-holds : tie.Need-loop-holds Inv-loop μ-loop
+loop-holds c = (omega arith, omega arith, below-none _, none-seen _)
+
+mul-i : tie.Need-mul-i Inv-loop μ-loop
+mul-i c = omega arith
+
+add-i : tie.Need-add-i Inv-loop μ-loop
+add-i c = omega arith
+
+sub-if1 : tie.Need-sub-if1 Inv-loop μ-loop
+sub-if1 c = omega arith
+
+-- in a turn, at pixel e of the bytes s
+module _ (c : tie.In-loop Inv-loop μ-loop) where
+  abbrev s : List ℕ
+  s = c .before .before .before .args .s .now
+
+  abbrev place : ℕ
+  place = c .before .before .before .args .at
+
+  abbrev e : ℕ
+  e = c .before .loop .e
+
+  refused :
+      {r : Refusal} → pixelReadFrom s place e ≡ some r
+      → Outcome.Refused r ≡ outcomeOf (first 0 (c .before .before .before .args .count) (pixelReadFrom s place))
+  refused found = refused-at (c .before .loop .inv .2) (c .loop-test .taken) found
+
+returns : tie.Need-returns Inv-loop μ-loop
+returns c = let k = c .before in refused k (ends-early (s k) (place k) (e k) (omega arith))
+
+shared-slice-read-signed-byte : tie.Need-shared-slice-read-signed-byte Inv-loop μ-loop
+shared-slice-read-signed-byte c = omega arith
+
+signed-byte-requires : tie.Need-signed-byte-requires Inv-loop μ-loop
+signed-byte-requires c κs = search needs
+
+add-signed-byte : tie.Need-add-signed-byte Inv-loop μ-loop
+add-signed-byte c = omega arith
+
+shared-slice-read-signed-byte-2 : tie.Need-shared-slice-read-signed-byte-2 Inv-loop μ-loop
+shared-slice-read-signed-byte-2 c = omega arith
+
+signed-byte-requires-2 : tie.Need-signed-byte-requires-2 Inv-loop μ-loop
+signed-byte-requires-2 c κs = search needs
+
+cell-requires : tie.Need-cell-requires Inv-loop μ-loop
+cell-requires c κs = search needs
+
+-- where the pixel's cell is known
+module _ (c : tie.After-cell Inv-loop μ-loop) where
+  abbrev turn : tie.In-loop Inv-loop μ-loop
+  turn = c .before .before .before .before .before .before
+
+  cell-is : c .cell .result ≡ cellOf (pixelFrom (s turn) (place turn) (e turn))
+  unfolding pixelFrom at
+  cell-is =
+      c .cell .ensures
+      ∙ ap₂ (λ (i j : ℤ). cellOf (at i j))
+      (number-handed w8 (c .before .before .before .signed-byte .ok) ∙ c .before .before .before .signed-byte .ensures)
+      (number-handed w8 (c .before .signed-byte2 .ok) ∙ c .before .signed-byte2 .ensures)
+
+  test-is :
+      pixelReadFrom (s turn) (place turn) (e turn)
+      ≡ pixelTest (place turn + 2 * e turn) (place turn + 2 * e turn + 1) (pixelFrom (s turn) (place turn)) (e turn)
+  test-is = both-there (s turn) (place turn) (e turn) (omega (arith, c .before .before .before .before .before .if1 .left))
+
+  seen : Seen (turn .before .loop .seen) (pixelFrom (s turn) (place turn)) (e turn)
+  seen = turn .before .loop .inv .3
+
+returns-2 : tie.Need-returns-2 Inv-loop μ-loop
+returns-2 c =
+    let k = c .before in
+    refused (turn k) (test-is k ∙ column-found (seen k) (cell-is k) _ _ (c .if2 .taken))
+
+add-t20 : tie.Need-add-t20 Inv-loop μ-loop
+add-t20 c = omega arith
+
+returns-3 : tie.Need-returns-3 Inv-loop μ-loop
+returns-3 c =
+    let k = c .before .before in
+    refused (turn k) (test-is k ∙ row-found (seen k) (cell-is k) _ _ (c .if3 .taken))
+
+-- the cell is one of the window's
+inside : (c : tie.Else3 Inv-loop μ-loop) → c .before .before .cell .result < 1024
+inside c =
+    let k = c .before .before in
+    let most = cell-at-most (pixelFrom (s (turn k)) (place (turn k)) (e (turn k))) in
+    omega (arith, cell-is k, c .before .if2 .left, c .if3 .left)
+
+array-read-if4 : tie.Need-array-read-if4 Inv-loop μ-loop
+array-read-if4 c = inside c
+
+returns-4 : tie.Need-returns-4 Inv-loop μ-loop
+returns-4 c =
+    let k = c .before .before .before in
+    refused (turn k) (test-is k ∙ repeat-found (seen k) (cell-is k) _ _ (inside (c .before)) (c .if4 .taken))
+
+array-write-seen : tie.Need-array-write-seen Inv-loop μ-loop
+array-write-seen c = inside (c .before)
+
+add-e : tie.Need-add-e Inv-loop μ-loop
+add-e c = omega arith
+
+loop-less : tie.Need-loop-less Inv-loop μ-loop
+loop-less c = omega arith
+
+loop-again : tie.Need-loop-again Inv-loop μ-loop
+loop-again c =
+    let k = c .before .before .before in
+    let found = test-is k ∙ nothing-found (seen k) (cell-is k) _ _ (inside (c .before)) (c .if4 .left) in (
+      omega arith,
+      omega (arith, k .before .before .before .before .before .if1 .left),
+      below-more _ _ (turn k .before .loop .inv .2) found,
+      more-seen (seen k) (cell-is k) (inside (c .before)),
+    )
+
+returns-5 : tie.Need-returns-5 Inv-loop μ-loop
+returns-5 c = done-after (λ l h. c .before .loop .inv .2 l (omega (arith, c .loop-test .left)))
+
+pub pixels-outcome-spec : {M : Type 1} → statement M
+pixels-outcome-spec =
+    tie.close
+    (tie.spec
+    Inv-loop
+    μ-loop
+    loop-holds
+    mul-i
+    add-i
+    sub-if1
+    returns
+    shared-slice-read-signed-byte
+    signed-byte-requires
+    add-signed-byte
+    shared-slice-read-signed-byte-2
+    signed-byte-requires-2
+    cell-requires
+    returns-2
+    add-t20
+    returns-3
+    array-read-if4
+    returns-4
+    array-write-seen
+    add-e
+    loop-less
+    loop-again
+    returns-5)

@@ -1,4 +1,0 @@
--- The files of this folder.
-pub mod Told
-pub mod Flat
-pub mod Figures

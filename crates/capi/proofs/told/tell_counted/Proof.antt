@@ -1,0 +1,37 @@
+-- `capi::told::tell_counted` meets its contract.
+-- Assumes nothing.
+use mathlib.Core.Path.{refl, ap}
+use borrow.Author.Needs.{needs}
+use Rattle.scope.specs.Numbers.{ofCounted}
+use Rattle.capi.proofs.Passed.{told-value, told-turned-down}
+use Rattle.capi.proofs.told.tell_counted.Statement.{statement}
+use Rattle.capi.proofs.told.tell_counted.Tie as tie
+
+enum-known-c : tie.Need-enum-known-c
+enum-known-c c = search needs
+
+element-write-answer : tie.Need-element-write-answer
+element-write-answer c = search needs
+
+enum-known-c-2 : tie.Need-enum-known-c-2
+enum-known-c-2 c = search needs
+
+tell-refusal-requires : tie.Need-tell-refusal-requires
+tell-refusal-requires c κs = search needs
+
+returns : tie.Need-returns
+returns c = told-value (ap ofCounted (c .before .c .given .1)) refl
+
+returns-2 : tie.Need-returns-2
+returns-2 c = told-turned-down (ap ofCounted (c .before .before .before .c2 .given .1)) (c .tell-refusal .ensures)
+
+pub tell-counted-spec : {M : Type 1} → statement M
+tell-counted-spec =
+    tie.close
+    (tie.spec
+    enum-known-c
+    element-write-answer
+    enum-known-c-2
+    tell-refusal-requires
+    returns
+    returns-2)

@@ -1,0 +1,54 @@
+-- How an answer is told to a caller in C or Rust: a number, 0 where the call was not refused, and a row of at most four
+-- numbers at the start of a lent array of four.
+-- Assumes nothing.
+use Prim.Native.Nat.{ℕ, suc}
+use mathlib.Core.Path.{_≡_}
+use mathlib.Core.Option.{Option, none, some}
+use mathlib.Core.List.{List, [], _∷_}
+use lib.IntN.{natAbs}
+use lib.ListN.{set}
+use Rattle.scope.specs.Plans.{Pixel}
+use Rattle.scope.specs.Numbers.{Answer, value, refusal}
+use Rattle.scope.specs.declared.Clash.{Clash}
+use Rattle.scope.specs.declared.Plan.{Plan}
+use Rattle.scope.specs.declared.Checked.{Checked}
+
+-- 0, or the refusal's number
+abbrev pub numberTold : {A : Type 0} → Answer A → ℕ
+numberTold (value x) = 0
+numberTold (refusal n place clash) = n
+
+abbrev pub clashRow : Option Clash → List ℕ
+clashRow none = []
+clashRow (some c) = c .pattern ∷ c .earlier ∷ c .later ∷ []
+
+-- the answer's values, or the refusal's place and, of 10, the clash's pattern and its earlier and later position
+abbrev pub rowIn : {A : Type 0} → (A → List ℕ) → Answer A → List ℕ
+rowIn f (value x) = f x
+rowIn f (refusal n place clash) = place ∷ clashRow clash
+
+-- the values of a plan, a checked plan, a number, a pixel of a picture, and of a call that has nothing to tell
+abbrev pub planRow : Plan → List ℕ
+planRow p = p .a ∷ p .b ∷ p .d ∷ []
+
+abbrev pub checkedRow : Checked → List ℕ
+checkedRow c = c .plan .a ∷ c .plan .b ∷ c .plan .d ∷ c .surplus ∷ []
+
+abbrev pub numberRow : ℕ → List ℕ
+numberRow n = n ∷ []
+
+abbrev pub pixelRow : Pixel → List ℕ
+pixelRow v = natAbs (v .column) ∷ natAbs (v .row) ∷ []
+
+abbrev pub noRow : {A : Type 0} → A → List ℕ
+noRow x = []
+
+-- xs from place k on, the rest unchanged
+abbrev pub putFrom : ℕ → List ℕ → List ℕ → List ℕ
+putFrom k [] out = out
+putFrom k (x ∷ xs) out = putFrom (suc k) xs (set out k x)
+
+-- the call answered n and put its row over what stood in the array before
+pub record Tells {A : Type 0} (row : A → List ℕ) (answer : Answer A) (before after : List ℕ) (n : ℕ) : Type 0 where
+  pub number : n ≡ numberTold answer
+  pub row-put : after ≡ putFrom 0 (rowIn row answer) before

@@ -1,0 +1,85 @@
+-- Worked values of what is told and of flat arrays, and the theorems that check them by computation.
+-- Assumes nothing.
+use Prim.Native.Nat.{ℕ}
+use mathlib.Core.Path.{_≡_, refl}
+use mathlib.Core.List.{List, [], _∷_, _++_, map, flatMap}
+use lib.IntN.{ℤ, pos, negsuc}
+use lib.ListN.{length, getD, replicate, take}
+use Rattle.scope.specs.Plans.{Pixel, at, plan, pixels, patternAt}
+use Rattle.scope.specs.Books.{bookOf}
+use Rattle.scope.specs.Numbers.{Answer, value, turnedDown, ofVerdict}
+use Rattle.scope.specs.declared.Book.{Book}
+use Rattle.scope.specs.declared.Refusal.{Refusal}
+use Rattle.scope.specs.declared.Verdict.{Verdict}
+use Rattle.capi.specs.Told.{numberTold, rowIn, planRow, checkedRow, numberRow, pixelRow, putFrom}
+use Rattle.capi.specs.Flat.{flatBook, flatColumns, flatRows, flatUsed}
+
+-- the number that an answer is told by, and an array of four nines after it
+told : {A : Type 0} → (A → List ℕ) → Answer A → List ℕ
+told row x = numberTold x ∷ putFrom 0 (rowIn row x) (9 ∷ 9 ∷ 9 ∷ 9 ∷ [])
+
+record Row (A : Type 0) : Type 0 where
+  computed : A
+  stated : A
+
+row : {A : Type 0} → A → A → Row A
+row x y = record { computed = x; stated = y }
+
+answers : List (Row (List ℕ))
+unfolding row told plan at
+answers =
+    row (told planRow (value (plan 5 2 1))) (0 ∷ 5 ∷ 2 ∷ 1 ∷ 9 ∷ [])
+    ∷ row (told numberRow (value 8)) (0 ∷ 8 ∷ 9 ∷ 9 ∷ 9 ∷ [])
+    ∷ row (told pixelRow (value (at (pos 6) (pos 3)))) (0 ∷ 6 ∷ 3 ∷ 9 ∷ 9 ∷ [])
+    ∷ row (told planRow (turnedDown Refusal.Dependent)) (8 ∷ 0 ∷ 9 ∷ 9 ∷ 9 ∷ [])
+    ∷ row (told numberRow (turnedDown (Refusal.Repeat 4))) (4 ∷ 4 ∷ 9 ∷ 9 ∷ 9 ∷ [])
+    ∷ row (told numberRow (turnedDown (Refusal.Unsuited (record { pattern = 1; earlier = 2; later = 3 }))))
+    (10 ∷ 0 ∷ 1 ∷ 2 ∷ 3 ∷ [])
+    ∷ row (told checkedRow (ofVerdict (Verdict.Suits (record { plan = plan 6 4 2; surplus = 7 }))))
+    (0 ∷ 6 ∷ 4 ∷ 2 ∷ 7 ∷ [])
+    ∷ row (told checkedRow (ofVerdict (Verdict.Clashes (record { pattern = 3; earlier = 1; later = 2 }))))
+    (10 ∷ 0 ∷ 3 ∷ 1 ∷ 2 ∷ [])
+    ∷ row (told checkedRow (ofVerdict (Verdict.Refused Refusal.Large))) (9 ∷ 0 ∷ 9 ∷ 9 ∷ 9 ∷ [])
+    ∷ []
+
+answers-hold : map (λ r. r .computed) answers ≡ map (λ r. r .stated) answers
+unfolding answers
+answers-hold = refl
+
+-- flat arrays of two patterns, the pixel (1, 2) and the pixels (3, 4) and (5, 6); the entries left out are 0
+unflattened : Book
+unfolding flatBook
+unflattened =
+    flatBook ((pos 1 ∷ replicate 63 (pos 0)) ++ (pos 3 ∷ pos 5 ∷ [])) ((pos 2 ∷ replicate 63 (pos 0)) ++ (pos 4 ∷ pos 6 ∷ []))
+    (1 ∷ 2 ∷ []) 2
+
+coordinates : List Pixel → List ℤ
+unfolding flatMap
+coordinates vs = flatMap (λ v. v .column ∷ v .row ∷ []) vs
+
+-- the record of two patterns, the pixel (-1, 2) and the pixels (3, -4) and (5, 6)
+flattened : Book
+unfolding bookOf at
+flattened =
+    bookOf ((at (negsuc 0) (pos 2) ∷ []) ∷ (at (pos 3) (negsuc 3) ∷ at (pos 5) (pos 6) ∷ []) ∷ [])
+
+-- the entries at 0, 1, 64, 65 and 66
+entriesOf : List ℤ → List ℤ
+entriesOf xs = map (λ k. getD xs k (pos 9)) (0 ∷ 1 ∷ 64 ∷ 65 ∷ 66 ∷ [])
+
+flats : List (Row (List ℤ))
+unfolding row unflattened flattened coordinates entriesOf pixels patternAt flatColumns flatRows flatUsed
+flats =
+    row (coordinates (pixels (patternAt unflattened 0))) (pos 1 ∷ pos 2 ∷ [])
+    ∷ row (coordinates (pixels (patternAt unflattened 1))) (pos 3 ∷ pos 4 ∷ pos 5 ∷ pos 6 ∷ [])
+    ∷ row (pos (unflattened .count) ∷ pos (length (unflattened .patterns)) ∷ []) (pos 2 ∷ pos 16 ∷ [])
+    ∷ row (entriesOf (flatColumns flattened)) (negsuc 0 ∷ pos 0 ∷ pos 3 ∷ pos 5 ∷ pos 0 ∷ [])
+    ∷ row (entriesOf (flatRows flattened)) (pos 2 ∷ pos 0 ∷ negsuc 3 ∷ pos 6 ∷ pos 0 ∷ [])
+    ∷ row (map pos (take 3 (flatUsed flattened))) (pos 1 ∷ pos 2 ∷ pos 0 ∷ [])
+    ∷ row (map pos (length (flatColumns flattened) ∷ length (flatRows flattened) ∷ length (flatUsed flattened) ∷ []))
+    (pos 1024 ∷ pos 1024 ∷ pos 16 ∷ [])
+    ∷ []
+
+flats-hold : map (λ r. r .computed) flats ≡ map (λ r. r .stated) flats
+unfolding flats
+flats-hold = refl

@@ -1,0 +1,113 @@
+// Answers told in numbers.
+use integers::size;
+use scope::Counted;
+use scope::Loaded;
+use scope::Located;
+use scope::Outcome;
+use scope::Planned;
+use scope::Refusal;
+use scope::Row;
+use scope::Verdict;
+use scope::row_of;
+ghost use mathlib.Core.Path.{_≡_};
+ghost use mathlib.Core.List.{_∷_};
+ghost use Rattle.scope.specs.Numbers.{numberOf, placeOf, clashOf, ofPlanned, ofCounted, ofLoaded, ofLocated, ofOutcome, ofVerdict};
+ghost use Rattle.capi.specs.Told.{Tells, clashRow, planRow, checkedRow, numberRow, pixelRow, noRow, putFrom};
+
+// A refusal's number; its place and its clash go to the array.
+fn tell_refusal(r: Refusal, answer: &mut [u64; 4]) -> u64
+    ensures { λ n. ⌜ (n ≡ numberOf r) × (now (answer .exit) ≡ putFrom 0 (placeOf r ∷ clashRow (clashOf r)) (now (answer .entry))) ⌝ }
+{
+    let Row(number, place, c) = row_of(r);
+    answer[0] = place;
+    if number == 10 {
+        answer[1] = c.pattern as u64;
+        answer[2] = c.earlier as u64;
+        answer[3] = c.later as u64;
+    }
+    number
+}
+
+// A plan's three numbers, or the refusal.
+pub fn tell_planned(p: Planned, answer: &mut [u64; 4]) -> u64
+    ensures { λ n. ⌜ Tells planRow (ofPlanned p) (now (answer .entry)) (now (answer .exit)) n ⌝ }
+{
+    match p {
+        Planned::Plan(q) => {
+            answer[0] = q.a as u64;
+            answer[1] = q.b as u64;
+            answer[2] = q.d as u64;
+            0
+        }
+        Planned::Refused(r) => tell_refusal(r, answer),
+    }
+}
+
+// A checked plan's three numbers and its surplus, or the clash as refusal 10, or the refusal.
+pub fn tell_verdict(v: Verdict, answer: &mut [u64; 4]) -> u64
+    ensures { λ n. ⌜ Tells checkedRow (ofVerdict v) (now (answer .entry)) (now (answer .exit)) n ⌝ }
+{
+    match v {
+        Verdict::Suits(c) => {
+            answer[0] = c.plan.a as u64;
+            answer[1] = c.plan.b as u64;
+            answer[2] = c.plan.d as u64;
+            answer[3] = c.surplus as u64;
+            0
+        }
+        Verdict::Clashes(c) => tell_refusal(Refusal::Unsuited(c), answer),
+        Verdict::Refused(r) => tell_refusal(r, answer),
+    }
+}
+
+// A number, or the refusal.
+pub fn tell_counted(c: Counted, answer: &mut [u64; 4]) -> u64
+    ensures { λ n. ⌜ Tells numberRow (ofCounted c) (now (answer .entry)) (now (answer .exit)) n ⌝ }
+{
+    match c {
+        Counted::Number(x) => {
+            answer[0] = x;
+            0
+        }
+        Counted::Refused(r) => tell_refusal(r, answer),
+    }
+}
+
+// A word, or the refusal.
+pub fn tell_loaded(l: Loaded, answer: &mut [u64; 4]) -> u64
+    ensures { λ n. ⌜ Tells numberRow (ofLoaded l) (now (answer .entry)) (now (answer .exit)) n ⌝ }
+{
+    match l {
+        Loaded::Word(x) => {
+            answer[0] = x as u64;
+            0
+        }
+        Loaded::Refused(r) => tell_refusal(r, answer),
+    }
+}
+
+// A pixel's column and row without their signs, or the refusal.
+pub fn tell_located(l: Located, answer: &mut [u64; 4]) -> u64
+    ensures { λ n. ⌜ Tells pixelRow (ofLocated l) (now (answer .entry)) (now (answer .exit)) n ⌝ }
+{
+    match l {
+        Located::Pixel(i, j) => {
+            let column = size(i);
+            let row = size(j);
+            answer[0] = column;
+            answer[1] = row;
+            0
+        }
+        Located::Refused(r) => tell_refusal(r, answer),
+    }
+}
+
+// Only that it was done, or the refusal.
+pub fn tell_outcome(o: Outcome, answer: &mut [u64; 4]) -> u64
+    ensures { λ n. ⌜ Tells noRow (ofOutcome o) (now (answer .entry)) (now (answer .exit)) n ⌝ }
+{
+    match o {
+        Outcome::Done => 0,
+        Outcome::Refused(r) => tell_refusal(r, answer),
+    }
+}

@@ -1,4 +1,0 @@
-// The check of a supplier's two vectors.
-mod checking;
-
-pub use checking::check;

@@ -1,0 +1,95 @@
+-- What the tests of a book record mean: they find nothing exactly where it is a book.
+-- Assumes nothing.
+use Prim.Native.Nat.{ℕ, suc, _≤_, _<_}
+use native.Mathlib.Omega.{arith}
+use mathlib.Core.Path.{_≡_, sym, _∙_, ap}
+use mathlib.Core.Logic.{_↔_, Iff·trans}
+use mathlib.Core.Bool.{Bool, true, false, _&&_}
+use mathlib.Core.Option.{none}
+use lib.Dec.{leb, leb→le, le→leb}
+use lib.IntN.{ℤ, pos, negsuc}
+use Rattle.integers.proofs.Divisions.{same-number-means}
+use Rattle.integers.proofs.Comparisons.{leb-iff, and-iff}
+use Rattle.scope.specs.Plans.{Pixel, samePixel, pixelAt, patternAt}
+use Rattle.scope.specs.Numbers.{countTest, small, repeats, pixelTest, patternTest, recordTest}
+use Rattle.scope.specs.promises.Meaning.{InRange, IsPattern, IsBook}
+use Rattle.scope.specs.declared.Pattern.{Pattern}
+use Rattle.scope.specs.declared.Book.{Book}
+use Rattle.scope.specs.declared.Refusal.the-variants.{Count, Coordinate, Repeat}
+use Rattle.checks.proofs.Searches.{true-not-false, not-true-is-false, someBelow-none, none-someBelow}
+use Rattle.checks.proofs.Patterns.{same-coordinates}
+use Rattle.checks.proofs.Booleans.{refuses-iff, demands-iff, last-test, test-before, first-iff}
+
+-- the same pixel is an equal one
+pub same-pixel-iff : (v w : Pixel) → (samePixel v w ≡ true) ↔ (v ≡ w)
+unfolding samePixel
+same-pixel-iff v w =
+    Iff·trans (and-iff _ _ (same-number-means (v .column) (w .column)) (same-number-means (v .row) (w .row))) (
+      λ t. same-coordinates (t .0) (t .1),
+      λ e. (ap (λ (u : Pixel). u .column) e, ap (λ (u : Pixel). u .row) e),
+    )
+
+-- -16 ≤ z ≤ 15
+pub small-iff : (z : ℤ) → (small z ≡ true) ↔ InRange z
+unfolding small
+small-iff (pos n) =
+    (λ e. (record { le = tt }, record { le = le→leb n 15 (leb-iff n 15 .0 e) }), λ h. leb-iff n 15 .1 (leb→le n 15 (h .1 .le)))
+small-iff (negsuc n) = (
+  λ e. let k : n ≤ 15 = omega (arith, leb-iff (suc n) 16 .0 e) in (record { le = le→leb n 15 k }, record { le = tt }),
+  λ h. leb-iff (suc n) 16 .1 (omega (arith, leb→le n 15 (h .0 .le))),
+)
+
+-- 2: a count from 1 to the most
+pub count-legal-iff : (most n i : ℕ) → (countTest most n i ≡ none) ↔ ((1 ≤ n) × (n ≤ most))
+unfolding countTest
+count-legal-iff most n i = demands-iff (leb 1 n && leb n most) (Count i) (and-iff _ _ (leb-iff 1 n) (leb-iff n most))
+
+-- 4: no earlier position has the same pixel
+pub no-repeat-iff : (pixel : ℕ → Pixel) (e : ℕ) → (repeats pixel e ≡ false) ↔ ((l : ℕ) → l < e → pixel l ≡ pixel e → ⊥)
+unfolding repeats
+no-repeat-iff pixel e = (
+  λ h l p q. true-not-false (sym (same-pixel-iff (pixel l) (pixel e) .1 q) ∙ someBelow-none e same h l p),
+  λ h. none-someBelow e same (λ l p. not-true-is-false (same l) (λ k. h l p (same-pixel-iff (pixel l) (pixel e) .0 k))),
+)
+  where
+    same : ℕ → Bool
+    same l = samePixel (pixel l) (pixel e)
+
+-- 3 and 4 at a position, whatever the places
+pub pixel-legal-iff :
+    (i j : ℕ) (pixel : ℕ → Pixel) (e : ℕ) → (pixelTest i j pixel e ≡ none)
+    ↔ (InRange (pixel e .column) × (InRange (pixel e .row) × ((l : ℕ) → l < e → pixel l ≡ pixel e → ⊥)))
+unfolding pixelTest
+pixel-legal-iff i j pixel e =
+    test-before (demands-iff _ (Coordinate i) (small-iff (pixel e .column)))
+    (test-before (demands-iff _ (Coordinate j) (small-iff (pixel e .row)))
+    (last-test (refuses-iff _ (Repeat i) (no-repeat-iff pixel e)))) .iff
+
+-- 2, 3, 4 of a pattern
+pub pattern-legal-iff : (book : Book) (n : ℕ) → (patternTest book n ≡ none) ↔ IsPattern (patternAt book n)
+unfolding patternTest
+pattern-legal-iff book n =
+    Iff·trans
+    (test-before (count-legal-iff 64 (t .used) 0)
+    (last-test (first-iff (t .used) (pixelTest 0 0 (pixelAt t)) _ (pixel-legal-iff 0 0 (pixelAt t)))) .iff) (
+      λ h. record {
+        least = h .0 .0;
+        most = h .0 .1;
+        column = λ e p. h .1 e p .0;
+        row = λ e p. h .1 e p .1 .0;
+        different = λ e l p q. h .1 l q .1 .1 e p;
+      },
+      λ h. ((h .least, h .most), λ e p. (h .column e p, (h .row e p, λ l q. h .different l e q p))),
+    )
+  where
+    t : Pattern
+    t = patternAt book n
+
+-- 2, 3, 4 of a book record
+pub book-legal-iff : (book : Book) → (recordTest book ≡ none) ↔ IsBook book
+unfolding recordTest
+book-legal-iff book =
+    Iff·trans
+    (test-before (count-legal-iff 16 (book .count) 0)
+    (last-test (first-iff (book .count) (patternTest book) _ (pattern-legal-iff book))) .iff)
+    (λ h. record { least = h .0 .0; most = h .0 .1; each = h .1 }, λ h. ((h .least, h .most), h .each))

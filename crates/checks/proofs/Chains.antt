@@ -1,0 +1,256 @@
+-- Chains of tests, and how a call is taken apart: its tests found nothing and it gives its value, or it gives the first refusal.
+-- Assumes nothing.
+use Prim.Native.Nat.{ℕ}
+use native.Mathlib.Omega.{arith}
+use mathlib.Core.Path.{_≡_, refl, sym, _∙_, ap}
+use mathlib.Core.Logic.{_↔_, _⊎_, inl, inr}
+use mathlib.Core.Option.{Option, none, some}
+use mathlib.Core.List.{List, [], _∷_, _++_, List·Memᴰ, List·Memᴰ·head, List·Memᴰ·tail, List·Memᴰ·not-nil, List·Memᴰ·cases-cons}
+use Rattle.scope.specs.Search.{firstOf}
+use Rattle.scope.specs.Numbers.{Answer, value, refusal, numberOf, placeOf, clashOf, turnedDown}
+use Rattle.scope.specs.Numbers.{recordTest, planTest, sidesTest, memoryTest, numberTest, suitsTest}
+use Rattle.scope.specs.Calls.{Result, answered, changed}
+use Rattle.scope.specs.promises.Meaning.{ChainIsFirst}
+use Rattle.scope.specs.declared.Book.{Book}
+use Rattle.scope.specs.declared.Clash.{Clash}
+use Rattle.scope.specs.declared.Plan.{Plan}
+use Rattle.scope.specs.declared.Refusal.{Refusal}
+use Rattle.checks.proofs.Searches.{none-not-some}
+
+-- A chain finds nothing exactly where its first test finds nothing and the rest finds nothing.
+pub chain-none-iff : (t : Option Refusal) (ts : List (Option Refusal)) → (firstOf (t ∷ ts) ≡ none) ↔ ((t ≡ none) × (firstOf ts ≡ none))
+unfolding firstOf
+chain-none-iff none ts = (λ e. (refl, e), λ h. h .1)
+chain-none-iff (some r) ts = (λ e. absurd (none-not-some (sym e)), λ h. absurd (none-not-some (sym (h .0))))
+
+-- What a chain finds, its first test finds, or that finds nothing and the rest does.
+pub chain-some : (t : Option Refusal) (ts : List (Option Refusal)) (r : Refusal) → firstOf (t ∷ ts) ≡ some r
+    → (t ≡ some r) ⊎ ((t ≡ none) × (firstOf ts ≡ some r))
+unfolding firstOf
+chain-some none ts r e = inr (refl, e)
+chain-some (some s) ts r e = inl e
+
+-- A first test that refuses is what it finds, and one that finds nothing leaves it to the rest.
+pub chain-refuses : (t : Option Refusal) (ts : List (Option Refusal)) (r : Refusal) → t ≡ some r → firstOf (t ∷ ts) ≡ some r
+unfolding firstOf
+chain-refuses t ts r e = rw (e, firstOf)
+
+pub chain-goes-on : (t : Option Refusal) (ts : List (Option Refusal)) → t ≡ none → firstOf (t ∷ ts) ≡ firstOf ts
+unfolding firstOf
+chain-goes-on t ts e = rw (e, firstOf)
+
+-- A chain of one test is that test.
+pub chain-of-one : (t : Option Refusal) → firstOf (t ∷ []) ≡ t
+unfolding firstOf
+chain-of-one none = refl
+chain-of-one (some r) = refl
+
+-- Tests of a chain that follow each other can stand in it as one test.
+pub tests-as-one :
+    (before these after : List (Option Refusal)) → firstOf (before ++ (these ++ after)) ≡ firstOf (before ++ (firstOf these ∷ after))
+unfolding firstOf
+tests-as-one [] [] after = refl
+tests-as-one [] (none ∷ these) after = tests-as-one [] these after
+tests-as-one [] (some r ∷ these) after = refl
+tests-as-one (none ∷ before) these after = tests-as-one before these after
+tests-as-one (some r ∷ before) these after = refl
+
+-- It finds nothing exactly where none of its tests does.
+all-none : (tests : List (Option Refusal)) → firstOf tests ≡ none → (t : Option Refusal) → List·Memᴰ t tests → t ≡ none
+all-none [] e t m = absurd (List·Memᴰ·not-nil m)
+all-none (s ∷ tests) e t m = by-place (List·Memᴰ·cases-cons m) (all-none tests (chain-none-iff s tests .0 e .1) t)
+  where
+    by-place : (t ≡ s) ⊎ List·Memᴰ t tests → (List·Memᴰ t tests → t ≡ none) → t ≡ none
+    by-place (inl d) r = d ∙ chain-none-iff s tests .0 e .0
+    by-place (inr k) r = r k
+
+none-all : (tests : List (Option Refusal)) → ((t : Option Refusal) → List·Memᴰ t tests → t ≡ none) → firstOf tests ≡ none
+unfolding firstOf
+none-all [] h = refl
+none-all (t ∷ tests) h =
+    chain-none-iff t tests .1 (h t (List·Memᴰ·head refl), none-all tests (λ s m. h s (List·Memᴰ·tail m)))
+
+-- It gives the first refusal whose test finds one.
+first-after-none :
+    (before after : List (Option Refusal)) (r : Refusal) → firstOf before ≡ none
+    → firstOf (before ++ (some r ∷ after)) ≡ some r
+unfolding firstOf
+first-after-none [] after r e = refl
+first-after-none (none ∷ before) after r e = first-after-none before after r e
+first-after-none (some s ∷ before) after r e = absurd (none-not-some (sym e))
+
+pub chain-is-first : ChainIsFirst
+chain-is-first = record { none-holds = λ tests. (all-none tests, none-all tests); first-holds = first-after-none }
+
+-- A value is no refusal, and each says what it holds.
+module _ {A : Type 0} where
+  pub value-not-refusal : {x : A} {n i : ℕ} {c : Option Clash} → value x ≡ refusal n i c → ⊥
+  value-not-refusal e = let z : _≡_ {A = ℕ} 0 1 = cc in omega arith
+
+  pub value-injective : {x y : A} → value x ≡ value y → x ≡ y
+  value-injective e = cc
+
+  pub refusal-number : {n m i j : ℕ} {c d : Option Clash} → _≡_ {A = Answer A} (refusal n i c) (refusal m j d) → n ≡ m
+  refusal-number e = cc
+
+  pub refusal-place : {n m i j : ℕ} {c d : Option Clash} → _≡_ {A = Answer A} (refusal n i c) (refusal m j d) → i ≡ j
+  refusal-place e = cc
+
+  pub refusal-clash : {n m i j : ℕ} {c d : Option Clash} → _≡_ {A = Answer A} (refusal n i c) (refusal m j d) → c ≡ d
+  refusal-clash e = cc
+
+-- A call whose tests find nothing gives its value, and one whose tests find a refusal gives that.
+module _ {X : Type 0} where
+  pub answered-none : (t : Option Refusal) (refused : Refusal → X) (x : X) → t ≡ none → answered t refused x ≡ x
+  unfolding answered
+  answered-none t refused x e = rw (e, answered)
+
+  pub answered-some :
+      (t : Option Refusal) (refused : Refusal → X) (x : X) (r : Refusal) → t ≡ some r → answered t refused x ≡ refused r
+  unfolding answered
+  answered-some t refused x r e = rw (e, answered)
+
+  -- a refusal that is not the value is what the tests found
+  pub answered-refused :
+      (t : Option Refusal) (refused : Refusal → X) (x : X) (r : Refusal) → ((s : Refusal) → refused s ≡ refused r → s ≡ r)
+      → (x ≡ refused r → ⊥) → answered t refused x ≡ refused r → t ≡ some r
+  unfolding answered
+  answered-refused none refused x r told no-refusal e = absurd (no-refusal e)
+  answered-refused (some s) refused x r told no-refusal e = ap some (told s e)
+
+-- A call gives this answer and leaves this content.
+abbrev pub Gives : {X Y : Type 0} → Result X Y → X → Y → Type 0
+Gives result answer content = (answer ≡ result .answer) × (content ≡ result .content)
+
+pub same-gives :
+    {X Y : Type 0} {R S : Result X Y} {answer : X} {content : Y} → R ≡ S → Gives R answer content → Gives S answer content
+same-gives {X} {Y} e (answer, content) = (answer ∙ ap (λ (R : Result X Y). R .answer) e, content ∙ ap (λ (R : Result X Y). R .content) e)
+
+-- A call that changes what it was lent: its answer and the content, each as of a call that gives only that.
+module _ {X Y : Type 0} (t : Option Refusal) (refused : Refusal → X) (old : Y) (x : X) (new : Y) where
+  pub changed-answer : changed t refused old x new .answer ≡ answered t refused x
+  unfolding changed answered
+  changed-answer = by-tests t
+    where
+      by-tests : (s : Option Refusal) → changed s refused old x new .answer ≡ answered s refused x
+      by-tests none = refl
+      by-tests (some r) = refl
+
+  pub changed-content : changed t refused old x new .content ≡ answered t (λ r. old) new
+  unfolding changed answered
+  changed-content = by-tests t
+    where
+      by-tests : (s : Option Refusal) → changed s refused old x new .content ≡ answered s (λ r. old) new
+      by-tests none = refl
+      by-tests (some r) = refl
+
+  -- where the tests find nothing, and where they find a refusal
+  pub changed-none-answer : t ≡ none → changed t refused old x new .answer ≡ x
+  changed-none-answer e = changed-answer ∙ answered-none t refused x e
+
+  pub changed-none-content : t ≡ none → changed t refused old x new .content ≡ new
+  changed-none-content e = changed-content ∙ answered-none t (λ r. old) new e
+
+  changed-some-answer : (r : Refusal) → t ≡ some r → changed t refused old x new .answer ≡ refused r
+  changed-some-answer r e = changed-answer ∙ answered-some t refused x r e
+
+  changed-some-content : (r : Refusal) → t ≡ some r → changed t refused old x new .content ≡ old
+  changed-some-content r e = changed-content ∙ answered-some t (λ r. old) new r e
+
+  pub value-given : t ≡ none → Gives (changed t refused old x new) x new
+  value-given e = (sym (changed-none-answer e), sym (changed-none-content e))
+
+  pub refusal-given : (r : Refusal) → t ≡ some r → Gives (changed t refused old x new) (refused r) old
+  refusal-given r e = (sym (changed-some-answer r e), sym (changed-some-content r e))
+
+-- The tests found a refusal with this number, place and clash.
+abbrev pub RefusedBy : Option Refusal → ℕ → ℕ → Option Clash → Type 0
+RefusedBy t n i c = (r : Refusal) × (t ≡ some r) × (numberOf r ≡ n) × (placeOf r ≡ i) × (clashOf r ≡ c)
+
+-- `of` reads an answer in numbers and values, and a refused call's as turned down.
+module _ {X A : Type 0} (of : X → Answer A) (t : Option Refusal) (refused : Refusal → X) where
+  -- a call that gives a value: its tests found nothing
+  pub answered-value :
+      (x : X) (v : A) → ((r : Refusal) → of (refused r) ≡ turnedDown r) → of (answered t refused x) ≡ value v
+      → (t ≡ none) × (of x ≡ value v)
+  answered-value x v reads e = by-tests t refl
+    where
+      by-tests : (s : Option Refusal) → t ≡ s → (t ≡ none) × (of x ≡ value v)
+      by-tests none h = (h, ap of (sym (answered-none t refused x h)) ∙ e)
+      by-tests (some r) h = absurd (value-not-refusal (sym e ∙ ap of (answered-some t refused x r h) ∙ reads r))
+
+  -- a call that gives a refusal: its tests found it, or they found nothing and what it goes on to give is that refusal
+  pub answered-refusal :
+      (x : X) (n i : ℕ) (c : Option Clash) → ((r : Refusal) → of (refused r) ≡ turnedDown r)
+      → of (answered t refused x) ≡ refusal n i c
+      → RefusedBy t n i c ⊎ ((t ≡ none) × (of x ≡ refusal n i c))
+  answered-refusal x n i c reads e = by-tests t refl
+    where
+      by-tests : (s : Option Refusal) → t ≡ s → RefusedBy t n i c ⊎ ((t ≡ none) × (of x ≡ refusal n i c))
+      by-tests none h = inr (h, ap of (sym (answered-none t refused x h)) ∙ e)
+      by-tests (some r) h =
+          let d : _≡_ {A = Answer A} (turnedDown r) (refusal n i c) =
+          sym (reads r) ∙ ap of (sym (answered-some t refused x r h)) ∙ e in
+          inl (r, h, refusal-number d, refusal-place d, refusal-clash d)
+
+  -- the same of a call that changes what it was lent
+  pub changed-value :
+      {Y : Type 0} (old : Y) (x : X) (new : Y) (v : A) → ((r : Refusal) → of (refused r) ≡ turnedDown r)
+      → of (changed t refused old x new .answer) ≡ value v
+      → (t ≡ none) × (of x ≡ value v)
+  changed-value old x new v reads e = answered-value x v reads (ap of (sym (changed-answer t refused old x new)) ∙ e)
+
+  pub changed-refusal :
+      {Y : Type 0} (old : Y) (x : X) (new : Y) (n i : ℕ) (c : Option Clash) → ((r : Refusal) → of (refused r) ≡ turnedDown r)
+      → of (changed t refused old x new .answer) ≡ refusal n i c
+      → RefusedBy t n i c ⊎ ((t ≡ none) × (of x ≡ refusal n i c))
+  changed-refusal old x new n i c reads e = answered-refusal x n i c reads (ap of (sym (changed-answer t refused old x new)) ∙ e)
+
+  -- a refused call leaves what it was lent as it was, if what it goes on to give is no refusal
+  pub refusal-keeps-content :
+      {Y : Type 0} (old : Y) (x : X) (new : Y) (n i : ℕ) (c : Option Clash)
+      → of (changed t refused old x new .answer) ≡ refusal n i c
+      → (of x ≡ refusal n i c → ⊥)
+      → changed t refused old x new .content ≡ old
+  refusal-keeps-content old x new n i c e no-refusal = by-tests t refl
+    where
+      by-tests : (s : Option Refusal) → t ≡ s → changed t refused old x new .content ≡ old
+      by-tests none h = absurd (no-refusal (ap of (sym (changed-none-answer t refused old x new h)) ∙ e))
+      by-tests (some r) h = changed-some-content t refused old x new r h
+
+-- What stands in a chain after a refusal does not count,
+chain-stops :
+    (before after : List (Option Refusal)) (r : Refusal) → firstOf before ≡ some r → firstOf (before ++ after) ≡ some r
+unfolding firstOf
+chain-stops [] after r e = absurd (none-not-some e)
+chain-stops (none ∷ before) after r e = chain-stops before after r e
+chain-stops (some s ∷ before) after r e = e
+
+-- so two calls with the same first tests are alike if what they look at after them, v and v′, is the same wherever these
+-- tests find nothing.
+pub changed-alike :
+    {Z X Y : Type 0} {before before′ : List (Option Refusal)} {v v′ : Z} (after : Z → List (Option Refusal)) (refused : Refusal → X)
+    (old : Y) (x : Z → X) (new : Z → Y) → before ≡ before′ → (firstOf before ≡ none → v ≡ v′)
+    → changed (firstOf (before ++ after v)) refused old (x v) (new v)
+    ≡ changed (firstOf (before′ ++ after v′)) refused old (x v′) (new v′)
+unfolding changed
+changed-alike {before} {before′} {v} {v′} after refused old x new same alike = by-tests (firstOf before) refl
+  where
+    by-tests :
+        (t : Option Refusal) → firstOf before ≡ t
+        → changed (firstOf (before ++ after v)) refused old (x v) (new v)
+        ≡ changed (firstOf (before′ ++ after v′)) refused old (x v′) (new v′)
+    by-tests none e = cc (same, alike e)
+    by-tests (some r) e =
+        rw (chain-stops before (after v) r e, chain-stops before′ (after v′) r (ap firstOf (sym same) ∙ e)) refl
+
+-- The tests of a fetch up to 10, and those after it.
+abbrev pub fetchTests : Book → Plan → ℕ → ℕ → ℕ → ℕ → List (Option Refusal) → List (Option Refusal)
+fetchTests book p W H words n ts =
+    recordTest book
+    ∷ planTest p
+    ∷ sidesTest W H
+    ∷ memoryTest p W H words
+    ∷ numberTest (book .count) n
+    ∷ suitsTest p book n
+    ∷ ts

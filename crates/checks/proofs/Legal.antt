@@ -1,0 +1,134 @@
+-- A legal call, of the test of a record, the writer or plans, is never refused, and a refused call leaves what it was lent
+-- as it was.
+-- Assumes nothing.
+use Prim.Native.Nat.{ℕ, _≤_}
+use mathlib.Core.Path.{_≡_, ap}
+use mathlib.Core.Logic.{_↔_}
+use mathlib.Core.Option.{Option, none}
+use mathlib.Core.List.{List, [], _∷_, map, List·Memᴰ·eq-of-singleton}
+use lib.ListN.{length}
+use Rattle.scope.specs.Search.{firstOf}
+use Rattle.scope.specs.Plans.{Pixel, determinantSize, normalForm}
+use Rattle.scope.specs.Banks.{bankOf, addressOf, depthOf, wordIn, afterStore, afterClear, overStart}
+use Rattle.scope.specs.Books.{bookBytes}
+use Rattle.scope.specs.Numbers.{value, refusal, ofPlanned, ofCounted, ofOutcome, recordTest, planTest, sidesTest, outsideTest}
+use Rattle.scope.specs.Numbers.{outputTest}
+use Rattle.scope.specs.Calls.{changed, recordOutcome, writeBook, normal, bank, depth, address, wordTest, store, wholeBankTest, clear}
+use Rattle.scope.specs.Calls.{moved, fetchTest, fetch, ringFetchTest, ringMoved, ringFetch, recordPixel, placed, fillRecords}
+use Rattle.scope.specs.promises.Meaning.{IsPlan, IsSide, Inside, AllInside, IsBook, Independent, LegalCallsAnswer}
+use Rattle.scope.specs.promises.PicturePromises.{RefusalsChangeNothing}
+use Rattle.scope.specs.declared.Plan.{Plan}
+use Rattle.scope.specs.declared.Book.{Book}
+use Rattle.scope.specs.declared.Clash.{Clash}
+use Rattle.scope.specs.declared.Refusal.{Refusal}
+use Rattle.scope.specs.declared.Planned.{Planned}
+use Rattle.scope.specs.declared.Counted.{Counted}
+use Rattle.scope.specs.declared.Outcome.{Outcome}
+use Rattle.checks.proofs.Chains.{value-not-refusal, answered-none, changed-none-answer, refusal-keeps-content}
+use Rattle.checks.proofs.Booleans.{last-test, test-before}
+use Rattle.checks.proofs.Tests.{independent-iff, size-within-iff, plan-legal-iff, sides-legal-iff, all-inside-iff, output-enough-iff}
+use Rattle.checks.proofs.BookTests.{book-legal-iff}
+
+-- one pixel that is inside is a list of such
+pub one-inside : (W H : ℕ) (v : Pixel) → Inside W H v → AllInside W H (v ∷ [])
+one-inside W H v h w m = rw (List·Memᴰ·eq-of-singleton m) h
+
+-- the writer's tests: a legal book, and room for its bytes
+pub write-test-iff :
+    (book : Book) (room : ℕ)
+    → (firstOf (recordTest book ∷ outputTest (length (bookBytes book)) room ∷ []) ≡ none)
+    ↔ (IsBook book × (length (bookBytes book) ≤ room))
+write-test-iff book room = test-before (book-legal-iff book) (last-test (output-enough-iff (length (bookBytes book)) room)) .iff
+
+record-answers : (book : Book) → IsBook book → ofOutcome (recordOutcome book) ≡ value tt
+unfolding recordOutcome
+record-answers book legal =
+    ap ofOutcome (answered-none (recordTest book) Outcome.Refused Outcome.Done (book-legal-iff book .1 legal))
+
+write-answers :
+    (book : Book) (out : List ℕ) → IsBook book → length (bookBytes book) ≤ length out
+    → ofCounted (writeBook book out .answer) ≡ value (length (bookBytes book))
+unfolding writeBook
+write-answers book out legal room =
+    ap ofCounted
+    (changed-none-answer _ Counted.Refused out (Counted.Number (length (bookBytes book))) (overStart (bookBytes book) out)
+    (write-test-iff book (length out) .1 (legal, room)))
+
+normal-answers : (x y : Pixel) → Independent x y → determinantSize x y ≤ 1024 → ofPlanned (normal x y) ≡ value (normalForm x y)
+unfolding normal
+normal-answers x y independent small =
+    ap ofPlanned
+    (answered-none _ Planned.Refused (Planned.Plan (normalForm x y))
+    (test-before (independent-iff x y) (last-test (size-within-iff x y)) .iff .1 (independent, small)))
+
+pub bank-answers : (p : Plan) (v : Pixel) → IsPlan p → ofCounted (bank p v) ≡ value (bankOf p v)
+unfolding bank
+bank-answers p v plan = ap ofCounted (answered-none _ Counted.Refused (Counted.Number (bankOf p v)) (plan-legal-iff p .1 plan))
+
+depth-answers : (p : Plan) (W H : ℕ) → IsPlan p → IsSide W → IsSide H → ofCounted (depth p W H) ≡ value (depthOf p W H)
+unfolding depth
+depth-answers p W H plan w h =
+    ap ofCounted
+    (answered-none _ Counted.Refused (Counted.Number (depthOf p W H))
+    (test-before (plan-legal-iff p) (last-test (sides-legal-iff W H)) .iff .1 (plan, (w, h))))
+
+address-answers :
+    (p : Plan) (W H : ℕ) (v : Pixel) → IsPlan p → IsSide W → IsSide H → Inside W H v
+    → ofCounted (address p W H v) ≡ value (addressOf p W H v)
+unfolding address
+address-answers p W H v plan w h inside =
+    ap ofCounted
+    (answered-none _ Counted.Refused (Counted.Number (addressOf p W H v))
+    (test-before (plan-legal-iff p) (test-before (sides-legal-iff W H) (last-test (all-inside-iff W H (v ∷ [])))) .iff .1
+    (plan, ((w, h), one-inside W H v inside))))
+
+-- A legal call, of the test of a record, the writer or plans, gives its value.
+pub legal-calls-answer : LegalCallsAnswer
+legal-calls-answer =
+    record {
+      record-outcome = record-answers;
+      write = write-answers;
+      normal-form = normal-answers;
+      bank-is = bank-answers;
+      depth-is = depth-answers;
+      address-is = address-answers;
+    }
+
+-- a call that counts, and one that tells only that it was done
+counted-unchanged :
+    (t : Option Refusal) (old : List ℕ) (count : ℕ) (new : List ℕ) (n i : ℕ) (c : Option Clash)
+    → ofCounted (changed t Counted.Refused old (Counted.Number count) new .answer) ≡ refusal n i c
+    → changed t Counted.Refused old (Counted.Number count) new .content ≡ old
+counted-unchanged t old count new n i c e =
+    refusal-keeps-content ofCounted t Counted.Refused old (Counted.Number count) new n i c e value-not-refusal
+
+done-unchanged :
+    {Y : Type 0} (t : Option Refusal) (old new : Y) (n i : ℕ) (c : Option Clash)
+    → ofOutcome (changed t Outcome.Refused old Outcome.Done new .answer) ≡ refusal n i c
+    → changed t Outcome.Refused old Outcome.Done new .content ≡ old
+done-unchanged t old new n i c e = refusal-keeps-content ofOutcome t Outcome.Refused old Outcome.Done new n i c e value-not-refusal
+
+-- On a refusal, buffers and lists stay unchanged.
+pub refusals-change-nothing : RefusalsChangeNothing
+unfolding writeBook store clear fetch ringFetch fillRecords
+refusals-change-nothing =
+    record {
+      writes =
+          λ book out.
+          counted-unchanged (firstOf (recordTest book ∷ outputTest (length (bookBytes book)) (length out) ∷ [])) out
+          (length (bookBytes book))
+          (overStart (bookBytes book) out);
+      stores = λ p W H mem v x. done-unchanged (wordTest p W H (length mem) v) mem (afterStore p W H mem v x);
+      clears = λ p W H mem k. done-unchanged (wholeBankTest p W H (length mem) k) mem (afterClear p W H mem k);
+      fetches =
+          λ book p W H mem n o out.
+          counted-unchanged (fetchTest book p W H (length mem) n o (length out)) out (length (moved book n o))
+          (overStart (map (wordIn p W H mem) (moved book n o)) out);
+      ring-fetches =
+          λ book p W H mem n o out.
+          counted-unchanged (ringFetchTest book p W H (length mem) n (length out)) out (length (ringMoved book W H n o))
+          (overStart (map (wordIn p W H mem) (ringMoved book W H n o)) out);
+      fills =
+          λ p W H rs.
+          done-unchanged (firstOf (planTest p ∷ sidesTest W H ∷ outsideTest W H (map recordPixel rs) ∷ [])) rs (map (placed p W H) rs);
+    }

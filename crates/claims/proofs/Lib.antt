@@ -1,0 +1,4 @@
+-- The files of this folder.
+pub mod Kept
+pub mod Example
+pub mod CodeLists

@@ -1,0 +1,126 @@
+-- `finder::clash::search` meets its contract. The loop's invariant: the positions from e on are searched. The measure is e.
+-- Assumes nothing.
+use Prim.Native.Nat.{ℕ, suc, _-_, _≤_, _<_}
+use native.Mathlib.Omega.{arith}
+use mathlib.Core.Path.{_≡_, _∙_, ap, subst}
+use mathlib.Core.Logic.{⊎-elim}
+use mathlib.Core.Bool.{true}
+use mathlib.Core.List.{List}
+use lib.IntN.{ℤ}
+use lib.ListN.{getD}
+use mir.Syntax.{w8}
+use borrow.Author.Needs.{needs}
+use Rattle.scope.specs.Plans.{at, isPlan, pixelAt}
+use Rattle.scope.specs.Banks.{bankOf}
+use Rattle.scope.specs.declared.Pattern.{Pattern}
+use Rattle.scope.proofs.PlanFacts.{entry-handed}
+use Rattle.finder.proofs.Meetings.{bankAt, place-at-most, Searched, none-searched, all-searched, clash-met, none-met}
+use Rattle.finder.proofs.clash.search.Statement.{statement}
+use Rattle.finder.proofs.clash.search.Tie as tie
+
+-- the loop's columns and rows, and the count that it starts from, as the record they came from
+abbrev pattern : List ℤ → List ℤ → ℕ → Pattern
+pattern columns rows used = record { columns = columns; rows = rows; used = used }
+
+abbrev Inv-loop : tie.InvT-loop
+Inv-loop p n columns rows next₀ met₀ e₀ next met e = (e ≤ e₀) × Searched p n (pattern columns rows e₀) next met e
+
+abbrev μ-loop : tie.MeasureT-loop
+μ-loop p n columns rows next₀ met₀ e₀ next met e = e
+
+loop-holds : tie.Need-loop-holds Inv-loop μ-loop
+loop-holds c = (omega arith, none-searched _ _ _)
+
+sub-e : tie.Need-sub-e Inv-loop μ-loop
+sub-e c = omega arith
+
+array-copy-out-bank-in : tie.Need-array-copy-out-bank-in Inv-loop μ-loop
+array-copy-out-bank-in c = omega arith
+
+array-copy-out-bank-in-2 : tie.Need-array-copy-out-bank-in-2 Inv-loop μ-loop
+array-copy-out-bank-in-2 c = omega arith
+
+bank-in-requires : tie.Need-bank-in-requires Inv-loop μ-loop
+bank-in-requires c κs = search needs
+
+-- in a turn, at position e of the pattern t, where the pixel's bank is known
+module _ (c : tie.After-bank-in Inv-loop μ-loop) where
+  abbrev head : tie.At-loop Inv-loop μ-loop
+  head = c .before .before .before .before
+
+  abbrev start : tie.Start Inv-loop μ-loop
+  start = head .before .before .before
+
+  abbrev e : ℕ
+  e = head .loop .e - 1
+
+  abbrev k : ℕ
+  k = c .bank-in .result
+
+  plan : isPlan (start .args .p) ≡ true
+  plan = start .pre .0
+
+  bank-is : k ≡ bankAt (start .args .p) (start .args .t) e
+  unfolding pixelAt at
+  bank-is =
+      c .bank-in .ensures .0
+      ∙ ap (bankOf (start .args .p))
+      (entry-handed w8 _ _ (c .before .before .bank-in-arg .given) (c .before .bank-in-arg2 .given))
+
+  bank-small : k < 1024
+  bank-small = c .bank-in .ensures .1
+
+  later-small : getD (head .loop .next) k 0 ≤ 64
+  later-small = omega (arith, place-at-most (head .loop .inv .1) (head .loop .inv .0) k bank-small, start .pre .1)
+
+  searched : Searched (start .args .p) (start .args .n) (start .args .t) (head .loop .next) (head .loop .met) (suc e)
+  searched =
+      let more : head .loop .e ≡ suc e = omega arith in
+      subst (Searched (start .args .p) (start .args .n) (start .args .t) (head .loop .next) (head .loop .met)) more
+      (head .loop .inv .1)
+
+array-read-later : tie.Need-array-read-later Inv-loop μ-loop
+array-read-later c = bank-small c
+
+cast-later : tie.Need-cast-later Inv-loop μ-loop
+cast-later c = record { fits = omega (arith, later-small c) }
+
+cast-next : tie.Need-cast-next Inv-loop μ-loop
+cast-next c = record { fits = omega arith }
+
+array-write-next : tie.Need-array-write-next Inv-loop μ-loop
+array-write-next c = bank-small (c .before)
+
+loop-less : tie.Need-loop-less Inv-loop μ-loop
+loop-less c = omega arith
+
+loop-again : tie.Need-loop-again Inv-loop μ-loop
+loop-again c =
+    let b = c .before in (
+      omega arith,
+      ⊎-elim (λ w. clash-met (plan b) (searched b) (omega arith) (bank-is b) (bank-small b) (w .0 .taken) (w .1))
+          (λ w. none-met (plan b) (searched b) (omega arith) (bank-is b) (bank-small b) (w .0 .left) (w .1))
+          (c .if1 .came),
+    )
+
+returns : tie.Need-returns Inv-loop μ-loop
+returns c = all-searched (c .before .loop .inv .1) (c .loop-test .left)
+
+pub search-spec : {M : Type 1} → statement M
+search-spec =
+    tie.close
+    (tie.spec
+    Inv-loop
+    μ-loop
+    loop-holds
+    sub-e
+    array-copy-out-bank-in
+    array-copy-out-bank-in-2
+    bank-in-requires
+    array-read-later
+    cast-later
+    cast-next
+    array-write-next
+    loop-less
+    loop-again
+    returns)

@@ -1,0 +1,71 @@
+// The clash of one pattern under a plan.
+use scope::Clash;
+use scope::Counted;
+use scope::Pattern;
+use scope::Plan;
+use scope::is_plan;
+ghost use mathlib.Core.Path.{_≡_};
+ghost use mathlib.Core.Bool.{true};
+ghost use Prim.Native.Nat.{_≤_, _<_};
+ghost use Rattle.scope.specs.Plans.{at, isPlan, pixels};
+ghost use Rattle.scope.specs.Finding.{clashIn};
+ghost use Rattle.scope.specs.Banks.{bankOf};
+ghost use Rattle.finder.specs.Clashing.{metAt, metIn};
+
+// Whether two pixels of a pattern meet in one bank, and which.
+pub enum Met {
+    At(Clash),
+    Nowhere,
+}
+
+// The bank of a pattern's pixel under a plan.
+fn bank_in(p: Plan, i: i8, j: i8) -> usize
+    requires { ⌜ isPlan p ≡ true ⌝ }
+    ensures { λ r. ⌜ (r ≡ bankOf p (at i j)) × (r < 1024) ⌝ }
+{
+    let answer = p.bank(i as i16, j as i16);
+    match answer {
+        Counted::Number(k) => k as usize,
+        Counted::Refused(_) => 0,
+    }
+}
+
+// The clash of pattern n, whose record is t. The pixels are taken from the last to the first; `next` has for each bank the
+// position of the one taken last, 0 for none: position 0 is taken last of all.
+fn search(p: Plan, n: usize, t: Pattern) -> Met
+    requires { ⌜ (isPlan p ≡ true) × (t .used ≤ 64) ⌝ }
+    ensures { λ r. ⌜ r ≡ metAt (clashIn p n (pixels t)) ⌝ }
+{
+    let columns = t.columns;
+    let rows = t.rows;
+    let mut next = [0u8; 1024];
+    let mut met = Met::Nowhere;
+    let mut e = t.used;
+    while 0 < e {
+        e -= 1;
+        let k = bank_in(p, columns[e], rows[e]);
+        let later = next[k] as usize;
+        if 0 < later {
+            met = Met::At(Clash {
+                pattern: n,
+                earlier: e,
+                later,
+            });
+        }
+        next[k] = e as u8;
+    }
+    met
+}
+
+// The clash of pattern n, whose record is t: nowhere where p is no plan, or where the record has more than 64 pixels.
+pub fn clash_in(p: Plan, n: usize, t: Pattern) -> Met
+    ensures { λ r. ⌜ r ≡ metIn p n t ⌝ }
+{
+    if !is_plan(p.a, p.b, p.d) {
+        return Met::Nowhere;
+    }
+    if 64 < t.used {
+        return Met::Nowhere;
+    }
+    search(p, n, t)
+}

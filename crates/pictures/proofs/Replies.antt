@@ -1,0 +1,89 @@
+-- In a memory where the words last stored stand in their places, each call gives what it is to give.
+-- Assumes nothing.
+use Prim.Native.Nat.{ℕ}
+use mathlib.Core.Path.{_≡_, refl, _∙_, ap, ap₂}
+use mathlib.Core.Option.{Option, none, some}
+use mathlib.Core.List.{List, [], _∷_, map, List·Memᴰ, List·Memᴰ·head, List·Memᴰ·tail}
+use lib.ListN.{length}
+use Rattle.scope.specs.Plans.{Pixel}
+use Rattle.scope.specs.Banks.{wordIn, overStart}
+use Rattle.scope.specs.Numbers.{Answer, value, turnedDown, ofCounted, ofLoaded, ofOutcome}
+use Rattle.scope.specs.Calls as Calls
+use Rattle.scope.specs.Calls.{answered, changed, moved}
+use Rattle.scope.specs.promises.Meaning.{AllInside}
+use Rattle.scope.specs.promises.Demand.{Call, store, clear, load, fetch, Setting, test, lastStored}
+use Rattle.scope.specs.promises.Demand.{stored, cleared, loaded, fetched, reply, told}
+use Rattle.scope.specs.declared.Refusal.{Refusal}
+use Rattle.scope.specs.declared.Counted.{Counted}
+use Rattle.checks.proofs.Chains.{changed-answer, changed-content}
+use Rattle.pictures.proofs.CallTests.{word-test-iff, fetch-test-iff}
+use Rattle.pictures.proofs.Runs.{Holds}
+
+-- two maps that agree on each entry give the same list
+same-map : {A B : Type 0} (f g : A → B) (xs : List A) → ((x : A) → List·Memᴰ x xs → f x ≡ g x) → map f xs ≡ map g xs
+same-map f g [] h = refl
+same-map {B} f g (x ∷ xs) h =
+    ap₂ {C = List B} _∷_ (h x (List·Memᴰ·head refl)) (same-map f g xs (λ y m. h y (List·Memᴰ·tail m)))
+
+-- the tests t and s find the same
+module _ {t s : Option Refusal} (same : t ≡ s) where
+  -- what is given where they find nothing may be told otherwise
+  same-answers : {A : Type 0} (refused : Refusal → A) {x y : A} → (s ≡ none → x ≡ y) → answered t refused x ≡ answered s refused y
+  unfolding answered
+  same-answers refused {x} {y} h = ap (λ (u : Option Refusal). answered u refused x) same ∙ by-test s h
+    where
+      by-test : (u : Option Refusal) → (u ≡ none → x ≡ y) → answered u refused x ≡ answered u refused y
+      by-test none k = k refl
+      by-test (some r) k = refl
+
+  -- and so in numbers and values
+  read-answer :
+      {X A : Type 0} (of : X → Answer A) {refused : Refusal → X} {x : X} {y : Answer A}
+      → ((r : Refusal) → of (refused r) ≡ turnedDown r) → (s ≡ none → of x ≡ y)
+      → of (answered t refused x) ≡ answered s turnedDown y
+  unfolding answered
+  read-answer of {refused} {x} reads h = by-test t ∙ same-answers turnedDown h
+    where
+      by-test : (u : Option Refusal) → of (answered u refused x) ≡ answered u turnedDown (of x)
+      by-test none = refl
+      by-test (some r) = reads r
+
+  -- of a call that changes what it was lent
+  read-changed :
+      {X A Y : Type 0} (of : X → Answer A) {refused : Refusal → X} (old new : Y) {x : X} {y : Answer A}
+      → ((r : Refusal) → of (refused r) ≡ turnedDown r) → (s ≡ none → of x ≡ y)
+      → of (changed t refused old x new .answer) ≡ answered s turnedDown y
+  read-changed of {refused} old new {x} reads h = ap of (changed-answer t refused old x new) ∙ read-answer of reads h
+
+  read-content :
+      {X Y : Type 0} (refused : Refusal → X) (old : Y) (x : X) {new expected : Y} → (s ≡ none → new ≡ expected)
+      → changed t refused old x new .content ≡ answered s (λ r. old) expected
+  read-content refused old x {new} h = changed-content t refused old x new ∙ same-answers (λ r. old) h
+
+module _
+    (g : Setting) (start : List ℕ) (past : List Call) (mem : List ℕ)
+    (h : Holds g start (lastStored g (length start) past) mem)
+  where
+    same-test : (c : Call) → test g (length mem) c ≡ test g (length start) c
+    same-test c = ap (λ (n : ℕ). test g n c) (h .as-long)
+
+    -- the words of pixels inside are those last stored
+    words-told :
+        (vs : List Pixel) → AllInside (g .W) (g .H) vs
+        → map (wordIn (g .plan) (g .W) (g .H) mem) vs ≡ map (lastStored g (length start) past) vs
+    words-told vs inside = same-map _ _ vs (λ v m. h .words v (inside v m))
+
+    -- The call's answer, and a fetch's output, are what the conditions and the words last stored tell.
+    pub reply-is-told : (c : Call) → reply g mem c ≡ told g (length start) past c
+    unfolding reply told test Calls.store Calls.clear Calls.load Calls.fetch
+    reply-is-told (store v x) = ap stored (read-changed (same-test (store v x)) ofOutcome mem _ (λ r. refl) (λ e. refl))
+    reply-is-told (clear k) = ap cleared (read-changed (same-test (clear k)) ofOutcome mem _ (λ r. refl) (λ e. refl))
+    reply-is-told (load v) =
+        ap loaded
+        (read-answer (same-test (load v)) ofLoaded (λ r. refl)
+        (λ e. ap value (h .words v (word-test-iff (g .plan) (g .W) (g .H) (length start) v .0 e .1))))
+    reply-is-told (fetch n o out) =
+        ap₂ fetched (read-changed (same-test (fetch n o out)) ofCounted out _ (λ r. refl) (λ e. refl))
+        (read-content (same-test (fetch n o out)) Counted.Refused out _ (λ e. ap (λ (xs : List ℕ). overStart xs out)
+        (words-told (moved (g .book) n o)
+        (fetch-test-iff (g .plan) (g .W) (g .H) (length start) (g .book) n o (length out) .0 e .1 .0))))

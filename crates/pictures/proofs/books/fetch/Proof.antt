@@ -1,0 +1,32 @@
+-- `pictures::books::fetch` meets its contract: it is the fetch of the pattern's entry.
+-- Assumes nothing.
+use borrow.Author.Needs.{needs}
+use Rattle.scope.proofs.PlanFacts.{pixel-handed}
+use Rattle.pictures.proofs.OfBooks.{fetch-by-entry}
+use Rattle.pictures.proofs.books.fetch.Statement.{statement}
+use Rattle.pictures.proofs.books.fetch.Tie as tie
+
+record-outcome-requires : tie.Need-record-outcome-requires
+record-outcome-requires c κs = search needs
+
+entry-for-requires : tie.Need-entry-for-requires
+entry-for-requires c κs = search needs
+
+fetch-pattern-requires : tie.Need-fetch-pattern-requires
+fetch-pattern-requires c κs = search needs
+
+same-length : tie.Need-same-length
+same-length c = search needs
+
+returns : tie.Need-returns
+returns c =
+    let f = c .before .before in
+    let e = f .before .before in
+    let s = e .before .before .before .before in
+    fetch-by-entry _ _ _ _ _ _ _ _ (e .before .record-outcome .ensures) (e .entry-for .ensures)
+    (pixel-handed (s .fits .i) (s .fits .j))
+    (f .fetch-pattern .ensures)
+
+pub fetch-spec : {M : Type 1} → statement M
+fetch-spec =
+    tie.close (tie.spec record-outcome-requires entry-for-requires fetch-pattern-requires same-length returns)

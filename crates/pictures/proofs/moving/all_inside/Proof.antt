@@ -1,0 +1,129 @@
+-- `pictures::moving::all_inside` meets its contract. The loop's invariant: the moved pixels before e are inside.
+-- Assumes nothing.
+use Prim.Native.Nat.{_-_, _≤_}
+use native.Mathlib.Omega.{arith}
+use mathlib.Core.Path.{_≡_, sym, _∙_, ap}
+use mathlib.Core.Bool.{Bool}
+use lib.IntN.{ℤ, pos, _+ℤ_}
+use lib.ListN.{getD}
+use mir.Syntax.{w8, w16}
+use mir.Val.{toZ, ofZ}
+use borrow.Author.Needs.{needs}
+use Rattle.integers.proofs.Raised.{number-handed}
+use Rattle.scope.specs.Search.{every}
+use Rattle.scope.specs.Plans.{Pixel, at}
+use Rattle.scope.specs.Banks.{within, inside}
+use Rattle.scope.proofs.MethodAnswers.{fails, holds}
+use Rattle.pictures.specs.Fetching.{movedTo}
+use Rattle.pictures.proofs.Moved.{pattern, position, position-handed, InsideBefore, none-inside, one-more-inside}
+use Rattle.pictures.proofs.Moved.{every-inside, column-outside, row-outside}
+use Rattle.pictures.proofs.moving.all_inside.Statement.{statement}
+use Rattle.pictures.proofs.moving.all_inside.Tie as tie
+
+abbrev Inv-loop : tie.InvT-loop
+Inv-loop w h i j columns rows used e₀ e = (e ≤ used) × InsideBefore w h (pattern columns rows used) (position i j) e
+
+abbrev μ-loop : tie.MeasureT-loop
+μ-loop w h i j columns rows used e₀ e = used - e
+
+loop-holds : tie.Need-loop-holds Inv-loop μ-loop
+loop-holds c = (omega arith, none-inside _ _ _ _)
+
+array-copy-out-is-within : tie.Need-array-copy-out-is-within Inv-loop μ-loop
+array-copy-out-is-within c = omega (arith, c .before .before .before .before .pre)
+
+is-within-requires : tie.Need-is-within-requires Inv-loop μ-loop
+is-within-requires c κs = search needs
+
+-- what the test of the column told
+column-told :
+    (c : tie.After-is-within Inv-loop μ-loop)
+    → let l = c .before .before .before in
+    let u = l .before .before .before .args in
+    c .is-within .result ≡ within (toZ w16 (ofZ w16 (u .i)) +ℤ getD (u .t .columns) (l .loop .e) (pos 0)) (u .w)
+column-told c =
+    let u = c .before .before .before .before .before .before .args in
+    c .is-within .ensures
+    ∙ ap (λ (x : ℤ). within (toZ w16 (ofZ w16 (u .i)) +ℤ x) (u .w))
+    (number-handed w8 (c .before .is-within-arg .given))
+
+-- and that of the row
+row-told :
+    (c : tie.After-is-within2 Inv-loop μ-loop)
+    → let l = c .before .before .before .before .before .before in
+    let u = l .before .before .before .args in
+    c .is-within2 .result ≡ within (toZ w16 (ofZ w16 (u .j)) +ℤ getD (u .t .rows) (l .loop .e) (pos 0)) (u .h)
+row-told c =
+    let u = c .before .before .before .before .before .before .before .before .before .args in
+    c .is-within2 .ensures
+    ∙ ap (λ (x : ℤ). within (toZ w16 (ofZ w16 (u .j)) +ℤ x) (u .h))
+    (number-handed w8 (c .before .is-within-arg2 .given))
+
+-- the position that the loop knows is the one handed to it
+answers :
+    {b : Bool} (s : tie.Start Inv-loop μ-loop)
+    → let u = s .args in
+    every (inside (u .w) (u .h)) (movedTo (u .t) (position (ofZ w16 (u .i)) (ofZ w16 (u .j)))) ≡ b
+    → b ≡ every (inside (u .w) (u .h)) (movedTo (u .t) (at (u .i) (u .j)))
+answers s e =
+    let u = s .args in
+    sym e ∙ ap (λ (o : Pixel). every (inside (u .w) (u .h)) (movedTo (u .t) o)) (position-handed (s .fits .i) (s .fits .j))
+
+returns : tie.Need-returns Inv-loop μ-loop
+returns c =
+    let l = c .before .before .before .before in
+    answers (l .before .before .before)
+    (column-outside _ _ _ _ (l .loop .e) (c .before .before .before .loop-test .taken) (fails (column-told (c .before)) (c .if1 .taken)))
+
+array-copy-out-is-within-2 : tie.Need-array-copy-out-is-within-2 Inv-loop μ-loop
+array-copy-out-is-within-2 c = array-copy-out-is-within (c .before .before .before)
+
+is-within-requires-2 : tie.Need-is-within-requires-2 Inv-loop μ-loop
+is-within-requires-2 c κs = search needs
+
+returns-2 : tie.Need-returns-2 Inv-loop μ-loop
+returns-2 c =
+    let i = c .before .before .before .before .before .before in
+    let l = i .before in
+    answers (l .before .before .before)
+    (row-outside _ _ _ _ (l .loop .e) (i .loop-test .taken) (fails (row-told (c .before)) (c .if2 .taken)))
+
+add-e : tie.Need-add-e Inv-loop μ-loop
+add-e c = search needs
+
+loop-less : tie.Need-loop-less Inv-loop μ-loop
+loop-less c = search needs
+
+loop-again : tie.Need-loop-again Inv-loop μ-loop
+loop-again c =
+    let one = c .before .before .before in
+    let l = one .before .before .before .before in (
+      omega arith,
+      one-more-inside _ _ _ _ (l .loop .e) (l .loop .inv .1) (holds (column-told (one .before)) (one .if1 .left))
+          (holds (row-told (c .before)) (c .if2 .left)),
+    )
+
+returns-3 : tie.Need-returns-3 Inv-loop μ-loop
+returns-3 c =
+    let l = c .before in
+    let s = l .before .before .before in
+    let done : l .loop .e ≡ s .args .t .used = omega arith in
+    answers s (every-inside _ _ _ _ (rw done at (l .loop .inv .1)))
+
+pub all-inside-spec : {M : Type 1} → statement M
+all-inside-spec =
+    tie.close
+    (tie.spec
+    Inv-loop
+    μ-loop
+    loop-holds
+    array-copy-out-is-within
+    is-within-requires
+    returns
+    array-copy-out-is-within-2
+    is-within-requires-2
+    returns-2
+    add-e
+    loop-less
+    loop-again
+    returns-3)

@@ -1,0 +1,38 @@
+-- `pictures::moving::is_within` meets its contract: the two coordinates, raised by 2^15 and 2^7, are their sum raised by 32896.
+-- Assumes nothing.
+use Prim.Native.Nat.{_+_}
+use mathlib.Core.Path.{_≡_, sym}
+use lib.IntN.{pos, _+ℤ_}
+use borrow.Author.Needs.{needs}
+use Rattle.integers.proofs.Raised.{raised-read}
+use Rattle.pictures.proofs.Moved.{raised-sum, below-outside, above-is}
+use Rattle.pictures.proofs.moving.is_within.Statement.{statement}
+use Rattle.pictures.proofs.moving.is_within.Tie as tie
+
+raised16-requires : tie.Need-raised16-requires
+raised16-requires c κs = search needs
+
+raised8-requires : tie.Need-raised8-requires
+raised8-requires c κs = search needs
+
+add-x : tie.Need-add-x
+add-x c = search needs
+
+-- the sum of the raised coordinates
+sum-is :
+    (c : tie.After-raised8)
+    → let s = c .before .before in
+    pos (c .before .raised16 .result + c .raised8 .result) ≡ s .args .z +ℤ s .args .c +ℤ pos 32896
+sum-is c =
+    let s = c .before .before in
+    raised-sum 32768 128 (s .args .z) (s .args .c) (raised-read 32768 (s .fits .z) (c .before .raised16 .ensures .0))
+    (raised-read 128 (s .fits .c) (c .raised8 .ensures .0))
+
+returns : tie.Need-returns
+returns c = sym (below-outside 32896 _ _ _ (sum-is (c .before)) (c .if1 .taken))
+
+returns-2 : tie.Need-returns-2
+returns-2 c = sym (above-is 32896 _ _ _ (sum-is (c .before)) (c .if1 .left))
+
+pub is-within-spec : {M : Type 1} → statement M
+is-within-spec = tie.close (tie.spec raised16-requires raised8-requires add-x returns returns-2)

@@ -1,0 +1,133 @@
+-- `pictures::moving::put_words` meets its contract. The loop's invariant: the words of the first e pixels were put.
+-- Assumes nothing.
+use Prim.Native.Nat.{_-_, _≤_, _<_}
+use native.Mathlib.Omega.{arith}
+use mathlib.Core.Path.{_≡_, sym, _∙_, ap, subst}
+use mathlib.Core.Option.{none}
+use lib.ListN.{length}
+use mir.Syntax.{w16}
+use mir.Val.{toZ, ofZ}
+use borrow.Author.Needs.{needs}
+use Rattle.scope.specs.Plans.{Pixel, at, plus}
+use Rattle.scope.specs.Banks.{overStart, wrapped}
+use Rattle.scope.specs.Calls.{wordTest}
+use Rattle.scope.specs.promises.Meaning.{IsPicture}
+use Rattle.checks.proofs.Outputs.{Put}
+use Rattle.pictures.specs.Fetching.{movedTo, wordsAt}
+use Rattle.pictures.proofs.Moved.{position, position-handed}
+use Rattle.pictures.proofs.PictureTests.{picture-test-iff}
+use Rattle.pictures.proofs.Wrapped.{wrapped-has-word, wrapped-handed, pixel}
+use Rattle.pictures.proofs.Wrapped.{wordsBefore, no-words, one-more-word}
+use Rattle.pictures.proofs.moving.put_words.Statement.{statement}
+use Rattle.pictures.proofs.moving.put_words.Tie as tie
+
+abbrev Inv-loop : tie.InvT-loop
+Inv-loop p w h mem i j out₀ columns rows used e₀ out e =
+    (e ≤ used) × Put (wordsBefore p w h mem columns rows (position i j) e) out₀ out
+
+abbrev μ-loop : tie.MeasureT-loop
+μ-loop p w h mem i j out₀ columns rows used e₀ out e = used - e
+
+-- in a turn
+module _ (c : tie.In-loop Inv-loop μ-loop) where
+  abbrev start : tie.Start Inv-loop μ-loop
+  start = c .before .before .before .before .before .before
+
+  picture : let u = start .args in IsPicture (u .p) (u .w) (u .h) (length (u .mem .now))
+  picture = picture-test-iff _ _ _ _ .0 (start .pre .0)
+
+  room : c .before .loop .e < length (c .before .loop .out)
+  room = omega (arith, c .before .loop .inv .1 .same-length, start .pre .2)
+
+loop-holds : tie.Need-loop-holds Inv-loop μ-loop
+loop-holds c = (omega arith, no-words _ _ _ _ _ _ _ _)
+
+array-copy-out-wrapped-to : tie.Need-array-copy-out-wrapped-to Inv-loop μ-loop
+array-copy-out-wrapped-to c = omega (arith, start c .pre .1)
+
+wrapped-to-requires : tie.Need-wrapped-to-requires Inv-loop μ-loop
+wrapped-to-requires c κs = let h = picture (c .before) in omega (arith, h .W-side, h .H-side)
+
+array-copy-out-wrapped-to-2 : tie.Need-array-copy-out-wrapped-to-2 Inv-loop μ-loop
+array-copy-out-wrapped-to-2 c = array-copy-out-wrapped-to (c .before .before)
+
+wrapped-to-requires-2 : tie.Need-wrapped-to-requires-2 Inv-loop μ-loop
+wrapped-to-requires-2 c κs = let h = picture (c .before .before .before) in omega (arith, h .W-side, h .H-side)
+
+-- where the wrapped coordinates are known
+module _ (c : tie.After-wrapped-to2 Inv-loop μ-loop) where
+  abbrev turn : tie.In-loop Inv-loop μ-loop
+  turn = c .before .before .before .before
+
+  pixel-is :
+      let u = start turn .args in
+      let e = turn .before .loop .e in
+      at (toZ w16 (ofZ w16 (c .before .before .wrapped-to .result))) (toZ w16 (ofZ w16 (c .wrapped-to2 .result)))
+      ≡ wrapped (u .w) (u .h)
+      (plus (position (ofZ w16 (u .i)) (ofZ w16 (u .j))) (pixel (u .t .columns) (u .t .rows) e))
+  pixel-is =
+      let u = start turn .args in
+      wrapped-handed (u .w) (u .h) (position (ofZ w16 (u .i)) (ofZ w16 (u .j)))
+      (record { sfits = c .before .before .before .wrapped-to-arg .given }) (record { sfits = c .before .wrapped-to-arg2 .given })
+      (record { sfits = c .before .before .wrapped-to .ok }) (record { sfits = c .wrapped-to2 .ok })
+      (c .before .before .wrapped-to .ensures) (c .wrapped-to2 .ensures)
+
+word-at-requires : tie.Need-word-at-requires Inv-loop μ-loop
+word-at-requires c κs =
+    let u = start (turn c) .args in
+    subst (λ (v : Pixel). wordTest (u .p) (u .w) (u .h) (length (u .mem .now)) v ≡ none) (sym (pixel-is c))
+    (wrapped-has-word _ _ _ _ (picture (turn c)) _)
+
+mul-out : tie.Need-mul-out Inv-loop μ-loop
+mul-out c = search needs
+
+slice-write-out : tie.Need-slice-write-out Inv-loop μ-loop
+slice-write-out c = omega (arith, room (turn (c .before)))
+
+add-e : tie.Need-add-e Inv-loop μ-loop
+add-e c = search needs
+
+loop-less : tie.Need-loop-less Inv-loop μ-loop
+loop-less c = search needs
+
+loop-again : tie.Need-loop-again Inv-loop μ-loop
+loop-again c =
+    let t = turn (c .before) in
+    let l = t .before .loop in (
+      omega arith,
+      one-more-word _ _ _ _ _ _ _ (l .e) _ (l .inv .1) (omega (arith, room t, l .inv .1 .same-length)) (c .word-at .ensures)
+          (pixel-is (c .before)),
+    )
+
+same-length : tie.Need-same-length Inv-loop μ-loop
+same-length c = c .before .loop .inv .1 .same-length
+
+returns : tie.Need-returns Inv-loop μ-loop
+returns c =
+    let l = c .before in
+    let s = l .before .before .before .before .before in
+    let u = s .args in
+    let done : l .loop .e ≡ u .t .used = omega arith in
+    (rw done at (l .loop .inv .1 .is))
+    ∙ ap (λ (o : Pixel). overStart (wordsAt (u .p) (u .w) (u .h) (u .mem .now) (movedTo (u .t) o)) (u .out .now))
+    (position-handed (s .fits .i) (s .fits .j))
+
+pub put-words-spec : {M : Type 1} → statement M
+put-words-spec =
+    tie.close
+    (tie.spec
+    Inv-loop
+    μ-loop
+    loop-holds
+    array-copy-out-wrapped-to
+    wrapped-to-requires
+    array-copy-out-wrapped-to-2
+    wrapped-to-requires-2
+    word-at-requires
+    mul-out
+    slice-write-out
+    add-e
+    loop-less
+    loop-again
+    same-length
+    returns)

@@ -1,0 +1,112 @@
+-- `pictures::moving::wrapped_to` meets its contract: the sum fits 32 bits, and its remainder 16.
+-- Assumes nothing.
+use Prim.Native.Nat.{ℕ, _+_, _-_, _≤_}
+use native.Mathlib.Omega.{arith}
+use mathlib.Core.Path.{_≡_, sym, _∙_, ap, ap₂, subst}
+use mathlib.Core.Bool.{Bool, true}
+use lib.IntN.{ℤ, pos, _+ℤ_}
+use mir.Syntax.{w8, w16, w32}
+use mir.Val.{SFits, toZ, ofZ}
+use mir.Facts.{toZ-ofZ}
+use borrow.Author.Needs.{needs}
+use Rattle.integers.specs.Division.{floorMod}
+use Rattle.integers.proofs.Raised.{widened-fits, widened-is}
+use Rattle.integers.proofs.Sizes.{small-fits, size-of-sum, fitting-size}
+use Rattle.scope.specs.Banks.{within}
+use Rattle.pictures.proofs.Moved.{own-remainder, remainder-fits}
+use Rattle.pictures.proofs.moving.wrapped_to.Statement.{statement}
+use Rattle.pictures.proofs.moving.wrapped_to.Tie as tie
+
+-- the sum that the code forms at 32 bits is that of the two coordinates
+module _ {z c : ℤ} (fz : SFits w16 z) (fc : SFits w8 c) where
+  abbrev sum : ℤ
+  sum = toZ w32 (ofZ w32 (toZ w16 (ofZ w16 z))) +ℤ toZ w32 (ofZ w32 (toZ w8 (ofZ w8 c)))
+
+  sum-is : sum ≡ z +ℤ c
+  sum-is = ap₂ _+ℤ_ (widened-is w16 w32 tt z fz) (widened-is w8 w32 tt c fc)
+
+  sum-fits : SFits w32 sum
+  sum-fits =
+      subst (SFits w32) (sym sum-is)
+      (small-fits w32 32896 (z +ℤ c) (omega (arith, size-of-sum z c, fitting-size w16 z fz, fitting-size w8 c fc)) (omega arith))
+
+  sum-read : toZ w32 (ofZ w32 sum) ≡ z +ℤ c
+  sum-read = toZ-ofZ sum-fits ∙ sum-is
+
+  -- within the side it is its own remainder
+  own : {r : Bool} (side : ℕ) → r ≡ within (toZ w16 (ofZ w16 z) +ℤ toZ w8 (ofZ w8 c)) side → r ≡ true
+      → toZ w32 (ofZ w32 sum) ≡ pos (floorMod (z +ℤ c) side)
+  own side e h =
+      sum-read
+      ∙ own-remainder (z +ℤ c) side
+      (ap₂ (λ (x y : ℤ). within (x +ℤ y) side) (sym (toZ-ofZ fz)) (sym (toZ-ofZ fc)) ∙ sym e ∙ h)
+
+  -- else the code forms the remainder
+  formed : {r : ℕ} (side : ℕ) → 1 ≤ side → r ≡ floorMod (toZ w32 (ofZ w32 sum)) (side - 1 + 1)
+      → pos r ≡ pos (floorMod (z +ℤ c) side)
+  formed side h e =
+      let d : side - 1 + 1 ≡ side = omega arith in
+      ap pos (e ∙ ap₂ floorMod sum-read d)
+
+cast-x : tie.Need-cast-x
+cast-x c = widened-fits w16 w32 tt (c .args .z) (c .fits .z)
+
+cast-x-2 : tie.Need-cast-x-2
+cast-x-2 c = widened-fits w8 w32 tt (c .args .c) (c .fits .c)
+
+add-x : tie.Need-add-x
+add-x c = sum-fits (c .fits .z) (c .fits .c)
+
+is-within-requires : tie.Need-is-within-requires
+is-within-requires c κs = search needs
+
+-- what is handed on where the sum is within the side
+within-is :
+    (c : tie.Then1)
+    → let s = c .before .before in
+    toZ w32 (ofZ w32 (sum (s .fits .z) (s .fits .c))) ≡ pos (floorMod (s .args .z +ℤ s .args .c) (s .args .side))
+within-is c =
+    let s = c .before .before in
+    own (s .fits .z) (s .fits .c) (s .args .side) (c .before .is-within .ensures) (c .if1 .taken)
+
+cast-result : tie.Need-cast-result
+cast-result c = remainder-fits _ _ (c .before .before .pre) (within-is c)
+
+returns : tie.Need-returns
+returns c = toZ-ofZ (cast-result c) ∙ within-is c
+
+sub-remainder : tie.Need-sub-remainder
+sub-remainder c = search needs
+
+remainder-requires : tie.Need-remainder-requires
+remainder-requires c κs = search needs
+
+-- and where it is not
+remainder-is :
+    (c : tie.After-remainder)
+    → let s = c .before .before .before in
+    pos (c .remainder .result) ≡ pos (floorMod (s .args .z +ℤ s .args .c) (s .args .side))
+remainder-is c =
+    let s = c .before .before .before in
+    formed (s .fits .z) (s .fits .c) (s .args .side) (s .pre .0) (c .remainder .ensures)
+
+cast-result-2 : tie.Need-cast-result-2
+cast-result-2 c = remainder-fits _ _ (c .before .before .before .pre) (remainder-is c)
+
+returns-2 : tie.Need-returns-2
+returns-2 c = toZ-ofZ (cast-result-2 c) ∙ remainder-is c
+
+pub wrapped-to-spec : {M : Type 1} → statement M
+wrapped-to-spec =
+    tie.close
+    (tie.spec
+    cast-x
+    cast-x-2
+    add-x
+    is-within-requires
+    cast-result
+    returns
+    sub-remainder
+    remainder-requires
+    cast-result-2
+    returns-2)

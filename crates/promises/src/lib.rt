@@ -1,1 +1,0 @@
-// Every promise of the definitions, kept: proofs/ has the one value. It has no code.

@@ -1,0 +1,182 @@
+-- Demand 3 over a list of calls, as document 01, "Banks and addresses", words it: "any finite list, the empty one too, of
+-- stores, clears, loads and plain fetches, under one plan that the finder gave for a book, with that book, one W and one H".
+-- The calls are those of Calls.antt, which the contracts cite.
+-- Assumes nothing.
+use Prim.Native.Nat.{ℕ, _*_, _≤_, _<_}
+use mathlib.Core.Path.{_≡_}
+use mathlib.Core.Bool.{Bool, true, false, cond}
+use mathlib.Core.Option.{Option, none, some}
+use mathlib.Core.List.{List, [], _∷_, _++_, map, List·Memᴰ}
+use lib.Dec.{eqb}
+use lib.ListN.{length, getD, take, drop, replicate}
+use Rattle.scope.specs.Plans.{Pixel, samePixel, patternAt, banks}
+use Rattle.scope.specs.Banks.{bankOf, depthOf, wordOf, wordIn, overStart}
+use Rattle.scope.specs.Numbers.{Answer, value, turnedDown, ofPlanned, ofCounted, ofLoaded, ofOutcome}
+use Rattle.scope.specs.Calls as Calls
+use Rattle.scope.specs.Calls.{answered, wordTest, wholeBankTest, fetchTest, moved, find}
+use Rattle.scope.specs.promises.Meaning.{IsSide, Inside, AllInside}
+use Rattle.scope.specs.declared.Plan.{Plan}
+use Rattle.scope.specs.declared.Book.{Book}
+use Rattle.scope.specs.declared.Refusal.{Refusal}
+
+pub data Call : Type 0 where
+  store : Pixel → (word : ℕ) → Call
+  clear : (bank : ℕ) → Call
+  load : Pixel → Call
+  fetch : (pattern : ℕ) (position : Pixel) (output : List ℕ) → Call
+
+pub record Setting : Type 0 where
+  pub book : Book
+  pub plan : Plan
+  pub W : ℕ
+  pub H : ℕ
+
+-- What a call gives beside the memory, in this paper's numbers and values. "each fetch has an output of its own", and its
+-- final content is here too
+pub data Reply : Type 0 where
+  stored : Answer Unit → Reply
+  cleared : Answer Unit → Reply
+  loaded : Answer ℕ → Reply
+  fetched : Answer ℕ → List ℕ → Reply
+
+unfoldable pub reply : Setting → List ℕ → Call → Reply
+unfolding Calls.store Calls.clear Calls.load Calls.fetch
+reply g mem (store v x) = stored (ofOutcome (Calls.store (g .plan) (g .W) (g .H) mem v x .answer))
+reply g mem (clear k) = cleared (ofOutcome (Calls.clear (g .plan) (g .W) (g .H) mem k .answer))
+reply g mem (load v) = loaded (ofLoaded (Calls.load (g .plan) (g .W) (g .H) mem v))
+reply g mem (fetch n o out) =
+    fetched (ofCounted (Calls.fetch (g .book) (g .plan) (g .W) (g .H) mem n o out .answer))
+    (Calls.fetch (g .book) (g .plan) (g .W) (g .H) mem n o out .content)
+
+-- "Each call gets the memory as the one before left it"
+unfoldable pub after : Setting → List ℕ → Call → List ℕ
+unfolding Calls.store Calls.clear
+after g mem (store v x) = Calls.store (g .plan) (g .W) (g .H) mem v x .content
+after g mem (clear k) = Calls.clear (g .plan) (g .W) (g .H) mem k .content
+after g mem (load v) = mem
+after g mem (fetch n o out) = mem
+
+unfoldable pub run : Setting → List ℕ → List Call → List ℕ
+unfolding after
+run g mem [] = mem
+run g mem (c ∷ cs) = run g (after g mem c) cs
+
+-- "Whether a call in the list is turned down, and by which number, is told by the conditions below from what it was given"
+unfoldable pub test : Setting → ℕ → Call → Option Refusal
+unfolding wordTest wholeBankTest fetchTest
+test g words (store v x) = wordTest (g .plan) (g .W) (g .H) words v
+test g words (clear k) = wholeBankTest (g .plan) (g .W) (g .H) words k
+test g words (load v) = wordTest (g .plan) (g .W) (g .H) words v
+test g words (fetch n o out) = fetchTest (g .book) (g .plan) (g .W) (g .H) words n o (length out)
+
+-- the word at pixel v after a call that is not turned down, where it was `old` before: a store there sets it, a clear of
+-- the pixel's bank makes it 0
+unfoldable pub effect : Setting → Pixel → ℕ → Call → ℕ
+unfolding samePixel bankOf
+effect g v old (store w x) = cond (samePixel w v) x old
+effect g v old (clear k) = cond (eqb k (bankOf (g .plan) v)) 0 old
+effect g v old (load w) = old
+effect g v old (fetch n o out) = old
+
+unfoldable pub storedSince : Setting → ℕ → Pixel → ℕ → List Call → ℕ
+unfolding answered test effect
+storedSince g words v old [] = old
+storedSince g words v old (c ∷ cs) =
+    storedSince g words v (answered (test g words c) (λ r. old) (effect g v old c)) cs
+
+-- "the word last stored at a pixel is that of the latest earlier store there that was not turned down. It is 0 if there is
+-- none, or if a clear of the pixel's bank, not turned down, came between."
+unfoldable pub lastStored : Setting → ℕ → List Call → Pixel → ℕ
+unfolding storedSince
+lastStored g words calls v = storedSince g words v 0 calls
+
+-- The same in plain words: `later` holds no store at v and no clear of its bank that was not turned down.
+abbrev pub Touches : Setting → ℕ → Pixel → Call → Type 0
+Touches g words v (store w x) = (test g words (store w x) ≡ none) × (w ≡ v)
+Touches g words v (clear k) = (test g words (clear k) ≡ none) × (k ≡ bankOf (g .plan) v)
+Touches g words v (load w) = ⊥
+Touches g words v (fetch n o out) = ⊥
+
+abbrev pub Untouched : Setting → ℕ → Pixel → List Call → Type 0
+Untouched g words v later = (c : Call) → List·Memᴰ c later → Touches g words v c → ⊥
+
+pub record LastStoredMeans : Type 0 where
+  pub latest :
+      (g : Setting) (words : ℕ) (v : Pixel) (past later : List Call) (x : ℕ) → test g words (store v x) ≡ none
+      → Untouched g words v later → lastStored g words (past ++ (store v x ∷ later)) v ≡ x
+  pub cleared-since :
+      (g : Setting) (words : ℕ) (v : Pixel) (past later : List Call) (k : ℕ) → test g words (clear k) ≡ none
+      → k ≡ bankOf (g .plan) v → Untouched g words v later
+      → lastStored g words (past ++ (clear k ∷ later)) v ≡ 0
+  pub never : (g : Setting) (words : ℕ) (v : Pixel) (calls : List Call) → Untouched g words v calls → lastStored g words calls v ≡ 0
+
+-- What call c is to give after the calls `past`: the refusal that the conditions tell, or what it is for, with the words last stored.
+unfoldable pub told : Setting → ℕ → List Call → Call → Reply
+unfolding answered test lastStored moved overStart
+told g words past (store v x) = stored (answered (test g words (store v x)) turnedDown (value tt))
+told g words past (clear k) = cleared (answered (test g words (clear k)) turnedDown (value tt))
+told g words past (load v) = loaded (answered (test g words (load v)) turnedDown (value (lastStored g words past v)))
+told g words past (fetch n o out) =
+    fetched
+    (answered (test g words (fetch n o out)) turnedDown (value (length (moved (g .book) n o))))
+    (answered (test g words (fetch n o out)) (λ r. out)
+    (overStart (map (lastStored g words past) (moved (g .book) n o)) out))
+
+-- What a call is given allows it: its pixel inside, its bank below N, or a pattern of the book wholly inside and room for it.
+abbrev pub Allowed : Setting → Call → Type 0
+Allowed g (store v x) = Inside (g .W) (g .H) v
+Allowed g (clear k) = k < banks (g .plan)
+Allowed g (load v) = Inside (g .W) (g .H) v
+Allowed g (fetch n o out) = (n < g .book .count) × AllInside (g .W) (g .H) (moved (g .book) n o) × (patternAt (g .book) n .used ≤ length out)
+
+-- the banks that the words of a fetch come from, in order
+unfoldable pub banksRead : Setting → Call → List ℕ
+unfolding bankOf moved
+banksRead g (store v x) = []
+banksRead g (clear k) = []
+banksRead g (load v) = []
+banksRead g (fetch n o out) = map (bankOf (g .plan)) (moved (g .book) n o)
+
+-- "that there is at most one from each bank means that these banks are all different"
+abbrev pub AllDifferent : List ℕ → Type 0
+AllDifferent xs = (e l : ℕ) → e < l → l < length xs → getD xs e 0 ≡ getD xs l 0 → ⊥
+
+-- the N × depth words of the picture
+unfoldable pub pictureWords : Setting → ℕ
+unfolding banks depthOf
+pictureWords g = banks (g .plan) * depthOf (g .plan) (g .W) (g .H)
+
+-- What holds of call c, made after the calls `past` that began on memory `mem`.
+pub record CallHolds (g : Setting) (mem : List ℕ) (past : List Call) (c : Call) : Type 0 where
+  -- "its answer agrees", and each fetched and loaded word is the one last stored
+  pub agrees : reply g (run g mem past) c ≡ told g (length mem) past c
+  -- a legal call is not turned down
+  pub taken : IsSide (g .W) → IsSide (g .H) → Allowed g c → test g (length mem) c ≡ none
+  -- and no other is taken (which number turns it down: CallsRefuse)
+  pub only-legal : test g (length mem) c ≡ none → IsSide (g .W) × IsSide (g .H) × Allowed g c
+  -- the words of a fetch that is not turned down come from banks that are all different
+  pub apart : test g (length mem) c ≡ none → AllDifferent (banksRead g c)
+
+-- What holds of the whole list.
+pub record ListHolds (g : Setting) (mem : List ℕ) (calls : List Call) : Type 0 where
+  -- of each call of it
+  pub each : (past : List Call) (c : Call) (later : List Call) → calls ≡ past ++ (c ∷ later) → CallHolds g mem past c
+  -- "After the list the word last stored at each pixel of the picture stands at its bank and address"
+  pub words : (v : Pixel) → Inside (g .W) (g .H) v → wordIn (g .plan) (g .W) (g .H) (run g mem calls) v ≡ lastStored g (length mem) calls v
+  -- "every other word of the first N × depth is 0"
+  pub others :
+      (i : ℕ) → i < pictureWords g
+      → ((v : Pixel) → Inside (g .W) (g .H) v → wordOf (g .plan) (g .W) (g .H) v ≡ i → ⊥)
+      → getD (run g mem calls) i 0 ≡ 0
+  -- "and the rest is as at the start"
+  pub rest : drop (pictureWords g) (run g mem calls) ≡ drop (pictureWords g) mem
+  pub as-long : length (run g mem calls) ≡ length mem
+
+-- "It starts from a memory of at least N × depth words, the first N × depth of them 0." Demand 3, one claim for the whole list:
+abbrev pub Demand3 : Type 0
+Demand3 =
+    (g : Setting) (limit : ℕ) (mem : List ℕ) (calls : List Call)
+    → ofPlanned (find (g .book) limit) ≡ value (g .plan)
+    → pictureWords g ≤ length mem
+    → take (pictureWords g) mem ≡ replicate (pictureWords g) 0
+    → ListHolds g mem calls

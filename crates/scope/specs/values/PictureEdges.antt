@@ -1,0 +1,211 @@
+-- Rows beyond document 01's figures for the calls on a picture, worked out from its sentences: what is lent, and
+-- inputs that break two conditions, so that the order of the checks tells. They refuse must-fail edits.
+-- Assumes nothing.
+use Prim.Native.Nat.{ℕ}
+use mathlib.Core.Path.{refl}
+use mathlib.Core.List.{List, [], _∷_, map}
+use lib.IntN.{ℤ, pos}
+use Rattle.scope.specs.Search.{gather}
+use Rattle.scope.specs.Plans.{Pixel, at, plan}
+use Rattle.scope.specs.Books.{bookOf}
+use Rattle.scope.specs.Numbers.{Answer}
+use Rattle.scope.specs.Calls.{bank, depth, address, locate, store, load, clear, sum, fetch, ringFetch, fillRecords}
+use Rattle.scope.specs.promises.Demand as Demand
+use Rattle.scope.specs.values.Rows.{Row, Hold, row, is, refused, clashes, counted, loaded, located, done, records, neg, px, one, two, finds, checks}
+use Rattle.scope.specs.declared.Plan.{Plan}
+use Rattle.scope.specs.declared.Book.{Book}
+use Rattle.scope.specs.declared.PixelRecord.{PixelRecord}
+
+-- Plan 2, 0, 1 on 2 by 2 has depth 2: (0,0), (0,1), (1,0), (1,1) are the words 0, 1, 2, 3. The memory holds 1, 2, 3, ..
+upTo : ℕ → List ℕ
+unfolding gather
+upTo n = gather 1 n λ i. i
+
+fetched : List (List Pixel) → Plan → ℕ → ℕ → ℕ → ℕ → Pixel → List ℕ → Answer (List ℤ)
+unfolding is fetch bookOf upTo
+fetched ts p W H words n o out = is (fetch (bookOf ts) p W H (upTo words) n o out .content)
+
+fetchAnswer : List (List Pixel) → Plan → ℕ → ℕ → ℕ → ℕ → Pixel → List ℕ → Answer (List ℤ)
+unfolding counted fetch bookOf upTo
+fetchAnswer ts p W H words n o out = counted (fetch (bookOf ts) p W H (upTo words) n o out .answer)
+
+ringFetched : List (List Pixel) → Plan → ℕ → ℕ → ℕ → ℕ → Pixel → List ℕ → Answer (List ℤ)
+unfolding is ringFetch bookOf upTo
+ringFetched ts p W H words n o out = is (ringFetch (bookOf ts) p W H (upTo words) n o out .content)
+
+ringAnswer : List (List Pixel) → Plan → ℕ → ℕ → ℕ → ℕ → Pixel → List ℕ → Answer (List ℤ)
+unfolding counted ringFetch bookOf upTo
+ringAnswer ts p W H words n o out = counted (ringFetch (bookOf ts) p W H (upTo words) n o out .answer)
+
+-- a book of one pattern whose record has a second one, unused
+unusedTwo : Book
+unfolding bookOf one two
+unusedTwo = record { patterns = bookOf (one ∷ two ∷ []) .patterns; count = 1 }
+
+recordAt : ℕ → ℕ → PixelRecord
+recordAt i j = record { column = pos i; row = pos j; bank = 3; address = 9 }
+
+-- two pixels in a row, whose plan of least N is 2, 0, 1, on 2 by 2
+setting : Demand.Setting
+unfolding bookOf two plan
+setting = record { book = bookOf (two ∷ []); plan = plan 2 0 1; W = 2; H = 2 }
+
+calls : List Demand.Call
+unfolding px
+calls =
+    Demand.store (px 1 0) 5 ∷ Demand.store (px 1 1) 6 ∷ Demand.store (px 2 0) 7 ∷ Demand.clear 2 ∷ Demand.store (px 0 1) 8
+    ∷ Demand.fetch 0 (px 0 1) [] ∷ Demand.clear 1 ∷ Demand.store (px 1 1) 9 ∷ []
+
+-- Store, load, clear and sum.
+storing : List Row
+unfolding row is refused done counted loaded store load clear sum plan px upTo
+storing =
+    row (is (store (plan 2 0 1) 2 2 (upTo 5) (px 1 0) 9 .content)) (is (1 ∷ 2 ∷ 9 ∷ 4 ∷ 5 ∷ []))
+    ∷ row (done (store (plan 2 0 1) 2 2 (upTo 5) (px 1 0) 9 .answer)) (is [])
+    ∷ row (is (store (plan 2 0 1) 2 2 (upTo 5) (px 2 0) 9 .content)) (is (1 ∷ 2 ∷ 3 ∷ 4 ∷ 5 ∷ []))
+    ∷ row (loaded (load (plan 2 0 1) 2 2 (upTo 4) (px 1 0))) (is (3 ∷ []))
+    ∷ row (is (clear (plan 2 0 1) 2 2 (upTo 5) 1 .content)) (is (1 ∷ 2 ∷ 0 ∷ 0 ∷ 5 ∷ []))
+    ∷ row (is (clear (plan 2 0 1) 2 2 (upTo 5) 2 .content)) (is (1 ∷ 2 ∷ 3 ∷ 4 ∷ 5 ∷ []))
+    ∷ row (done (clear (plan 2 0 1) 2 2 (upTo 5) 2 .answer)) (refused 15 0)
+    ∷ row (counted (sum (plan 2 0 1) 2 2 (upTo 5) 1)) (is (7 ∷ []))
+    ∷ row (counted (sum (plan 1 0 1) 3 1 (upTo 4) 0)) (is (6 ∷ []))
+    ∷ row (counted (sum (plan 2 0 1) 2 2 (upTo 6) 2)) (refused 15 0)
+    ∷ row (loaded (load (plan 2 0 1) 2 2 (upTo 4) (px 2 0))) (refused 14 0)
+    ∷ []
+
+storing-hold : Hold storing
+unfolding storing
+storing-hold = refl
+
+-- Fetch: another pattern, a plan with a surplus, too little room, 10 for its own pattern only.
+fetching : List Row
+unfolding row is clashes plan one two px fetched fetchAnswer
+fetching =
+    row (fetched (two ∷ []) (plan 2 0 1) 2 2 4 0 (px 0 1) (8 ∷ 8 ∷ 8 ∷ [])) (is (2 ∷ 4 ∷ 8 ∷ []))
+    ∷ row (fetched (one ∷ two ∷ []) (plan 2 0 1) 2 2 4 1 (px 0 1) (8 ∷ 8 ∷ [])) (is (2 ∷ 4 ∷ []))
+    ∷ row (fetchAnswer (one ∷ two ∷ []) (plan 2 0 1) 2 2 4 1 (px 0 1) (8 ∷ 8 ∷ [])) (is (2 ∷ []))
+    ∷ row (fetched (two ∷ []) (plan 3 0 1) 2 2 6 0 (px 0 1) (8 ∷ 8 ∷ 8 ∷ [])) (is (2 ∷ 4 ∷ 8 ∷ []))
+    ∷ row (fetched (two ∷ []) (plan 2 0 1) 2 2 4 0 (px 0 1) (8 ∷ [])) (is (8 ∷ []))
+    ∷ row (fetched (two ∷ one ∷ []) (plan 1 0 1) 2 2 4 1 (px 1 1) (8 ∷ [])) (is (4 ∷ []))
+    ∷ row (fetchAnswer (two ∷ one ∷ []) (plan 1 0 1) 2 2 4 0 (px 0 0) (8 ∷ 8 ∷ [])) (clashes 0 0 1)
+    ∷ row (fetchAnswer (one ∷ two ∷ []) (plan 1 0 1) 2 2 4 1 (px 0 0) (8 ∷ 8 ∷ [])) (clashes 1 0 1)
+    ∷ row (fetched ((px 0 0 ∷ px 0 1 ∷ []) ∷ []) (plan 1 0 2) 2 2 4 0 (px 1 0) (8 ∷ 8 ∷ [])) (is (2 ∷ 4 ∷ []))
+    ∷ []
+
+fetching-hold : Hold fetching
+unfolding fetching
+fetching-hold = refl
+
+-- Ring fetch: past the edges on either side, W and H that differ, one side no multiple.
+ringFetching : List Row
+unfolding row is refused plan two px at neg ringFetched ringAnswer
+ringFetching =
+    row (ringFetched (two ∷ []) (plan 2 0 1) 2 2 4 0 (at (neg 1) (neg 1)) (8 ∷ 8 ∷ 8 ∷ [])) (is (4 ∷ 2 ∷ 8 ∷ []))
+    ∷ row (ringFetched (two ∷ []) (plan 2 0 1) 2 4 8 0 (px 1 6) (8 ∷ 8 ∷ [])) (is (7 ∷ 3 ∷ []))
+    ∷ row (ringAnswer (two ∷ []) (plan 2 0 1) 2 4 8 0 (px 1 6) (8 ∷ 8 ∷ [])) (is (2 ∷ []))
+    ∷ row (ringAnswer (two ∷ []) (plan 2 0 1) 2 3 8 0 (px 0 0) (8 ∷ 8 ∷ [])) (refused 18 0)
+    ∷ row (ringAnswer (two ∷ []) (plan 2 0 1) 2 2 4 0 (px 0 0) (8 ∷ [])) (refused 16 0)
+    ∷ row (ringFetched (two ∷ []) (plan 2 0 1) 2 3 8 0 (px 0 0) (8 ∷ 8 ∷ [])) (is (8 ∷ 8 ∷ []))
+    ∷ []
+
+ringFetching-hold : Hold ringFetching
+unfolding ringFetching
+ringFetching-hold = refl
+
+-- The record list: filled whole, or not at all.
+filling : List Row
+unfolding row is refused done records fillRecords plan recordAt
+filling =
+    row (records (fillRecords (plan 5 2 1) 7 4 (recordAt 6 3 ∷ recordAt 1 0 ∷ recordAt 5 1 ∷ []) .content)) (is (6 ∷ 3 ∷ 0 ∷ 7 ∷ 1 ∷ 0 ∷ 1 ∷ 0 ∷ 5 ∷ 1 ∷ 3 ∷ 3 ∷ []))
+    ∷ row (records (fillRecords (plan 5 2 1) 7 4 (recordAt 6 3 ∷ recordAt 1 0 ∷ recordAt 5 1 ∷ recordAt 0 2 ∷ recordAt 4 3 ∷ []) .content)) (is (6 ∷ 3 ∷ 0 ∷ 7 ∷ 1 ∷ 0 ∷ 1 ∷ 0 ∷ 5 ∷ 1 ∷ 3 ∷ 3 ∷ 0 ∷ 2 ∷ 1 ∷ 4 ∷ 4 ∷ 3 ∷ 3 ∷ 6 ∷ []))
+    ∷ row (records (fillRecords (plan 5 2 1) 7 4 (recordAt 6 3 ∷ recordAt 7 3 ∷ []) .content)) (is (6 ∷ 3 ∷ 3 ∷ 9 ∷ 7 ∷ 3 ∷ 3 ∷ 9 ∷ []))
+    ∷ row (done (fillRecords (plan 5 2 1) 7 4 (recordAt 6 3 ∷ recordAt 7 3 ∷ []) .answer)) (refused 14 0)
+    ∷ []
+
+filling-hold : Hold filling
+unfolding filling
+filling-hold = refl
+
+-- Demand 3's list: what the memory holds after the calls, and the words last stored.
+lists : List Row
+unfolding row is px setting calls Demand.run Demand.lastStored
+lists =
+    row (is (Demand.run setting (0 ∷ 0 ∷ 0 ∷ 0 ∷ 4 ∷ []) calls)) (is (0 ∷ 8 ∷ 0 ∷ 9 ∷ 4 ∷ []))
+    ∷ row (is (map (Demand.lastStored setting 5 calls) (px 1 0 ∷ px 0 1 ∷ px 1 1 ∷ px 2 0 ∷ []))) (is (0 ∷ 8 ∷ 9 ∷ 0 ∷ []))
+    ∷ []
+
+lists-hold : Hold lists
+unfolding lists
+lists-hold = refl
+
+-- Two conditions at once: the one that document 01 tests first is told. 5000 is no side, and needs more memory than there is.
+orders : List Row
+unfolding row refused finds checks done counted loaded located depth address locate load clear fillRecords plan px upTo recordAt store sum
+orders =
+    row (counted (depth (plan 0 0 1) 0 0)) (refused 11 0)
+    ∷ row (counted (address (plan 0 0 1) 0 0 (px 0 0))) (refused 11 0)
+    ∷ row (counted (address (plan 5 2 1) 0 4 (px 9 9))) (refused 12 0)
+    ∷ row (located (locate (plan 0 0 1) 0 0 0 0)) (refused 11 0)
+    ∷ row (located (locate (plan 5 2 1) 0 4 9 9)) (refused 12 0)
+    ∷ row (loaded (load (plan 0 0 1) 0 0 [] (px 0 0))) (refused 11 0)
+    ∷ row (loaded (load (plan 1 0 1) 5000 1 [] (px 0 0))) (refused 12 0)
+    ∷ row (loaded (load (plan 2 0 1) 2 2 (upTo 3) (px 2 0))) (refused 13 0)
+    ∷ row (done (clear (plan 0 0 1) 0 0 [] 9 .answer)) (refused 11 0)
+    ∷ row (done (clear (plan 1 0 1) 5000 1 [] 9 .answer)) (refused 12 0)
+    ∷ row (done (clear (plan 2 0 1) 2 2 (upTo 3) 2 .answer)) (refused 13 0)
+    ∷ row (done (fillRecords (plan 0 0 1) 0 0 (recordAt 9 9 ∷ []) .answer)) (refused 11 0)
+    ∷ row (done (fillRecords (plan 5 2 1) 0 4 (recordAt 9 9 ∷ []) .answer)) (refused 12 0)
+    ∷ row (done (store (plan 0 0 1) 0 0 [] (px 0 0) 9 .answer)) (refused 11 0)
+    ∷ row (done (store (plan 1 0 1) 5000 1 [] (px 0 0) 9 .answer)) (refused 12 0)
+    ∷ row (done (store (plan 2 0 1) 2 2 (upTo 3) (px 9 9) 9 .answer)) (refused 13 0)
+    ∷ row (counted (sum (plan 0 0 1) 0 0 [] 9)) (refused 11 0)
+    ∷ row (counted (sum (plan 1 0 1) 5000 1 [] 9)) (refused 12 0)
+    ∷ row (counted (sum (plan 2 0 1) 2 2 (upTo 3) 2)) (refused 13 0)
+    ∷ []
+
+orders-hold : Hold orders
+unfolding orders
+orders-hold = refl
+
+-- The same for a fetch.
+fetchOrders : List Row
+unfolding row refused clashes plan one two px fetchAnswer fetch unusedTwo counted
+fetchOrders =
+    row (fetchAnswer [] (plan 0 0 1) 0 0 0 0 (px 0 0) []) (refused 2 0)
+    ∷ row (fetchAnswer (one ∷ []) (plan 0 0 1) 0 0 0 0 (px 0 0) []) (refused 11 0)
+    ∷ row (fetchAnswer (one ∷ []) (plan 1 0 1) 5000 1 0 0 (px 0 0) []) (refused 12 0)
+    ∷ row (fetchAnswer (one ∷ []) (plan 2 0 1) 2 2 3 1 (px 0 0) []) (refused 13 0)
+    ∷ row (fetchAnswer (two ∷ []) (plan 1 0 1) 2 2 4 0 (px 9 9) []) (clashes 0 0 1)
+    ∷ row (fetchAnswer (two ∷ []) (plan 2 0 1) 2 2 4 0 (px 1 1) []) (refused 14 0)
+    ∷ row (fetchAnswer (two ∷ []) (plan 1 1 1) 2 2 4 0 (px 9 9) []) (refused 11 0)
+    ∷ row (fetchAnswer (two ∷ []) (plan 1 0 1) 0 1 0 0 (px 0 0) []) (refused 12 0)
+    ∷ row (fetchAnswer (two ∷ []) (plan 1 0 1) 2 2 3 0 (px 9 9) []) (refused 13 0)
+    ∷ row (counted (fetch unusedTwo (plan 1 0 1) 2 2 (upTo 4) 1 (px 9 9) [] .answer)) (refused 17 0)
+    ∷ []
+
+fetchOrders-hold : Hold fetchOrders
+unfolding fetchOrders
+fetchOrders-hold = refl
+
+-- And for a ring fetch.
+ringOrders : List Row
+unfolding row refused clashes plan one two px ringAnswer ringFetch unusedTwo counted
+ringOrders =
+    row (ringAnswer [] (plan 0 0 1) 0 0 0 0 (px 0 0) []) (refused 2 0)
+    ∷ row (ringAnswer (one ∷ []) (plan 0 0 1) 0 0 0 0 (px 0 0) []) (refused 11 0)
+    ∷ row (ringAnswer (one ∷ []) (plan 1 0 1) 5000 1 0 0 (px 0 0) []) (refused 12 0)
+    ∷ row (ringAnswer (one ∷ []) (plan 2 0 1) 2 2 3 1 (px 0 0) []) (refused 13 0)
+    ∷ row (ringAnswer ((px 0 0 ∷ px 2 0 ∷ []) ∷ []) (plan 2 0 1) 3 2 9 0 (px 0 0) []) (clashes 0 0 1)
+    ∷ row (ringAnswer (two ∷ []) (plan 2 0 1) 3 2 9 0 (px 0 0) []) (refused 18 0)
+    ∷ row (ringAnswer (two ∷ []) (plan 1 1 1) 2 2 4 0 (px 0 0) []) (refused 11 0)
+    ∷ row (ringAnswer (two ∷ []) (plan 1 0 1) 0 1 0 0 (px 0 0) []) (refused 12 0)
+    ∷ row (ringAnswer (one ∷ []) (plan 2 0 1) 4097 1 0 0 (px 0 0) []) (refused 12 0)
+    ∷ row (ringAnswer (two ∷ []) (plan 1 0 1) 2 2 3 0 (px 0 0) []) (refused 13 0)
+    ∷ row (ringAnswer (one ∷ []) (plan 2 0 1) 3 2 0 0 (px 0 0) []) (refused 13 0)
+    ∷ row (counted (ringFetch unusedTwo (plan 1 0 1) 2 2 (upTo 4) 1 (px 0 0) [] .answer)) (refused 17 0)
+    ∷ row (counted (ringFetch unusedTwo (plan 2 0 1) 3 2 (upTo 9) 1 (px 0 0) [] .answer)) (refused 17 0)
+    ∷ []
+
+ringOrders-hold : Hold ringOrders
+unfolding ringOrders
+ringOrders-hold = refl
