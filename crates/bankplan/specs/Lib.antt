@@ -1,2 +1,2 @@
--- The files of this folder.
-pub mod Input
+-- What the program answers.
+pub mod Input  -- an input of which the first bytes were read

@@ -36,8 +36,8 @@ module _ (s : List ℕ) (n : ℕ) {outcome : Outcome} (answer : outcome ≡ part
     part-in-book = part-test-iff s n .0 taken-part
 
     -- what `start_of` requires
-    pub start-told : (bytesTest s ≡ none) × (n ≤ byte s 0)
-    start-told = (part-in-book .0, omega (arith, part-in-book .1))
+    pub start-shows : (bytesTest s ≡ none) × (n ≤ byte s 0)
+    start-shows = (part-in-book .0, omega (arith, part-in-book .1))
 
     -- the part begins after the pixel count, at the place of the first pixel, and is inside
     module _ {at : ℕ} (is : at ≡ start s n) where

@@ -1,4 +1,4 @@
--- The files of this folder.
-pub mod Passed
-pub mod Flattened
-pub mod Entries
+-- What is told, and flat arrays.
+pub mod Passed  -- an answer told as the one that it equals
+pub mod Flattened  -- flat arrays and the record, both ways
+pub mod Entries  -- one entry taken from flat arrays

@@ -18,8 +18,8 @@ use Rattle.lattice.proofs.Formulas.{patterns-are, formulas-are}
 use Rattle.lattice.proofs.TestMeanings.{tests-mean}
 use Rattle.book.proofs.Unused.{reader-sets-zero}
 use Rattle.book.proofs.UnusedCalls.{unused-dont-count}
-use Rattle.book.proofs.Decimal.{decimal-means}
-use Rattle.book.proofs.ProgramText.{program-writes}
+use Rattle.text.proofs.Decimal.{decimal-means}
+use Rattle.text.proofs.ProgramText.{program-writes}
 use Rattle.book.proofs.Bytes.{twos-complement}
 use Rattle.book.proofs.ReadWrite.{bytes-mean, read-after-write, write-after-read}
 use Rattle.book.proofs.Parts.{parts-are}
@@ -30,7 +30,7 @@ use Rattle.finder.proofs.Bounds.{finder-stays-within, limit-is-enough}
 use Rattle.finder.proofs.Clashes.{clash-is-first}
 use Rattle.finder.proofs.Checks.{check-decides, surplus-is-excess}
 use Rattle.pictures.proofs.Pictures.{picture-calls}
-use Rattle.pictures.proofs.Refusals.{calls-refuse}
+use Rattle.claims.proofs.CallRefusals.{calls-refuse}
 use Rattle.pictures.proofs.LastStored.{last-stored-means}
 use Rattle.pictures.proofs.DemandHolds.{demand-3}
 

@@ -1,4 +1,5 @@
--- The files of this folder.
-pub mod Kept
-pub mod Example
-pub mod CodeLists
+-- The promises kept, and demand 3 about the code.
+pub mod CallRefusals  -- which number each call gives
+pub mod Kept  -- every promise in one value
+pub mod Example  -- demand 3's premises are met, and what it says there
+pub mod CodeLists  -- a list that the code made is one of demand 3

@@ -9,7 +9,7 @@ use Rattle.scope.specs.Plans.{at}
 use Rattle.scope.specs.Numbers.{value, ofPlanned, ofCounted, ofLoaded, ofOutcome}
 use Rattle.scope.specs.Calls.{find, fetch}
 use Rattle.scope.specs.promises.Demand as Demand
-use Rattle.scope.specs.promises.Demand.{Setting, after, run, told, pictureWords, ListHolds}
+use Rattle.scope.specs.promises.Demand.{Setting, after, run, replyDue, pictureWords, ListHolds}
 use Rattle.scope.specs.declared.Plan.{Plan}
 use Rattle.scope.specs.declared.Book.{Book}
 use Rattle.claims.specs.declared.Call.{Call}
@@ -61,7 +61,7 @@ pub record MadeHolds (g : Setting) (mem : List ℕ) (calls : List Demand.Call) (
       (past : List Demand.Call) (c : Demand.Call) (later : List Demand.Call)
       (before : List Demand.Reply) (r : Demand.Reply) (rest : List Demand.Reply)
       → calls ≡ past ++ (c ∷ later) → replies ≡ before ++ (r ∷ rest) → length before ≡ length past
-      → r ≡ told g (length mem) past c
+      → r ≡ replyDue g (length mem) past c
   pub as-many : length replies ≡ length calls
   pub memory : end ≡ run g mem calls
   pub holds : ListHolds g mem calls

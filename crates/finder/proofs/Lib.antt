@@ -1,19 +1,19 @@
--- The files of this folder.
-pub mod PlanSearch
-pub mod FindAnswers
-pub mod Least
-pub mod Pigeonhole
-pub mod Boxes
-pub mod Bounds
-pub mod ClashSearch
-pub mod Checks
-pub mod Clashes
-pub mod Marking
-pub mod RowTests
-pub mod Marks
-pub mod Hits
-pub mod Tables
-pub mod TableSearch
-pub mod MetAnswers
-pub mod Meetings
-pub mod Verdicts
+-- The least plan, the clash and the check.
+pub mod PlanSearch  -- what the search of plans gives
+pub mod FindAnswers  -- what the call `find` answers by its search
+pub mod Least  -- the count is least among all pairs of vectors; 7 exactly above the limit
+pub mod Pigeonhole  -- m different numbers below n: m is at most n
+pub mod Boxes  -- the box of the differences, whose plan suits
+pub mod Bounds  -- the count lies between pixel count and box
+pub mod ClashSearch  -- what the searches for a clash find
+pub mod Clashes  -- the clash of a refusal by 10 is the first one
+pub mod Checks  -- the verdict and the surplus
+pub mod Marking  -- the cell of a vector in the table
+pub mod RowTests  -- the tests of a row and of the rows
+pub mod Marks  -- a cell is marked exactly if its vector is a difference
+pub mod Hits  -- the marked cells of a plan's lattice
+pub mod Tables  -- a plan suits exactly if the table's searches find nothing
+pub mod TableSearch  -- the loops of the code as searches of the definition
+pub mod MetAnswers  -- what the answer about a clash shows
+pub mod Meetings  -- the clash from the last position to the first
+pub mod Verdicts  -- the clash of a book by those of its patterns

@@ -1,3 +1,3 @@
--- The files of this folder.
-pub mod Table
-pub mod Clashing
+-- What the finder's code goes by.
+pub mod Table  -- the table of differences, and the cells of a plan's lattice
+pub mod Clashing  -- a clash as the code's answer

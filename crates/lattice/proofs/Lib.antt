@@ -1,14 +1,14 @@
--- The files of this folder.
-pub mod Membership
-pub mod Bases
-pub mod Euclid
-pub mod Carried
-pub mod NormalForm
-pub mod SameBank
-pub mod Words
-pub mod Reverse
-pub mod Rings
-pub mod Suits
-pub mod TestMeanings
-pub mod Apart
-pub mod Formulas
+-- Lattices, banks and words.
+pub mod Membership  -- combinations of two vectors, and the test of a plan's lattice
+pub mod Bases  -- pairs of vectors with the same lattice
+pub mod Euclid  -- falling remainders on rows lead to a basis
+pub mod Carried  -- the same with columns carried along modulo a
+pub mod NormalForm  -- the normal form generates the lattice, and no other plan does
+pub mod SameBank  -- same bank exactly if the difference is in the lattice
+pub mod Words  -- each pixel has a word of its own
+pub mod Reverse  -- the reverse map
+pub mod Rings  -- wrapping around a picture keeps the bank
+pub mod Suits  -- what it means that a plan suits
+pub mod TestMeanings  -- the test for 10, and the meaning of all tests together
+pub mod Apart  -- the banks that a fetch reads are all different
+pub mod Formulas  -- pixels and patterns entry by entry; the formulas by division

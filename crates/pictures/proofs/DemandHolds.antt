@@ -22,7 +22,7 @@ use Rattle.finder.proofs.FindAnswers.{find-value-iff}
 use Rattle.finder.proofs.Least.{finder-is-least}
 use Rattle.pictures.proofs.CallTests.{word-test-iff, bank-test-iff, fetch-test-iff}
 use Rattle.pictures.proofs.Runs.{Holds, word-inside-picture, run-holds}
-use Rattle.pictures.proofs.Replies.{reply-is-told}
+use Rattle.pictures.proofs.Replies.{reply-is-due}
 
 none-different : AllDifferent []
 none-different e l h k = absurd (omega arith)
@@ -105,7 +105,7 @@ demand-3 g limit mem calls e enough zeros =
     record {
       each =
           λ past c later _. record {
-            agrees = reply-is-told g mem past (run g mem past) (since past) c;
+            agrees = reply-is-due g mem past (run g mem past) (since past) c;
             taken = λ w h allowed. legal-call-taken g legal-book least (length mem) enough w h c allowed;
             only-legal = taken-call-legal g (length mem) c;
             apart = banks-apart g (length mem) c;

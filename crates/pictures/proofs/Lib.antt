@@ -1,19 +1,17 @@
--- The files of this folder.
-pub mod Memory
-pub mod LastStored
-pub mod CallTests
-pub mod Sums
-pub mod Fetches
-pub mod Pictures
-pub mod Runs
-pub mod Replies
-pub mod DemandHolds
-pub mod Refusals
-pub mod CountedAnswers
-pub mod PictureTests
-pub mod WholeBanks
-pub mod Deliveries
-pub mod Moved
-pub mod OfBooks
-pub mod Starts
-pub mod Wrapped
+-- Pictures in a lent memory, and demand 3 over the definitions.
+pub mod Memory  -- what a store and a clear do to the words
+pub mod LastStored  -- the word last stored, call by call
+pub mod CallTests  -- the tests of each call as one condition
+pub mod Sums  -- the sum of a bank, below 2^64
+pub mod Fetches  -- what a legal fetch gives
+pub mod Pictures  -- a legal call on a picture gives what it is for
+pub mod Runs  -- a run of calls keeps the words last stored in place
+pub mod Replies  -- so each call gives what it is to give
+pub mod DemandHolds  -- demand 3
+pub mod PictureTests  -- the tests 11, 12, 13, and what depth and place show
+pub mod WholeBanks  -- what the depth of a bank shows; its part of the memory
+pub mod Deliveries  -- what both fetches answer and leave in the output
+pub mod Moved  -- a pattern's pixels moved to a position
+pub mod OfBooks  -- a fetch of a book is one of an entry
+pub mod Starts  -- the tests that both fetches begin with
+pub mod Wrapped  -- the words at wrapped pixels, put to an output

@@ -20,7 +20,7 @@ use Rattle.checks.proofs.Chains.{tests-as-one}
 use Rattle.lattice.proofs.Words.{pixels-have-words}
 use Rattle.pictures.proofs.CallTests as calls
 use Rattle.pictures.specs.Places.{pictureTest, pictureDepth, wordPlace, bankDepth}
-use Rattle.pictures.proofs.CountedAnswers.{number-told, refusal-told}
+use Rattle.checks.proofs.CountedAnswers.{number-shows, refusal-shows}
 
 module _ (p : Plan) (W H words : ℕ) where
   -- They find nothing exactly where there is a plan, a picture and a memory that is long enough.
@@ -53,33 +53,33 @@ module _ (p : Plan) (W H words : ℕ) where
 
   -- What the answer of `picture_depth` tells,
   module _ {answer : Counted} (is : answer ≡ pictureDepth p W H words) where
-    pub picture-told : {n : ℕ} → answer ≡ Counted.Number n → (pictureTest p W H words ≡ none) × (depthOf p W H ≡ n)
+    pub picture-shows : {n : ℕ} → answer ≡ Counted.Number n → (pictureTest p W H words ≡ none) × (depthOf p W H ≡ n)
     unfolding pictureDepth
-    picture-told = number-told (pictureTest p W H words) (depthOf p W H) is
+    picture-shows = number-shows (pictureTest p W H words) (depthOf p W H) is
 
-    pub picture-refusal-told : {r : Refusal} → answer ≡ Counted.Refused r → pictureTest p W H words ≡ some r
+    pub picture-refusal-shows : {r : Refusal} → answer ≡ Counted.Refused r → pictureTest p W H words ≡ some r
     unfolding pictureDepth
-    picture-refusal-told = refusal-told (pictureTest p W H words) (depthOf p W H) is
+    picture-refusal-shows = refusal-shows (pictureTest p W H words) (depthOf p W H) is
 
   -- that of `word_place`,
   module _ (v : Pixel) {answer : Counted} (is : answer ≡ wordPlace p W H words v) where
-    pub place-told : {n : ℕ} → answer ≡ Counted.Number n → (wordTest p W H words v ≡ none) × (wordOf p W H v ≡ n)
+    pub place-shows : {n : ℕ} → answer ≡ Counted.Number n → (wordTest p W H words v ≡ none) × (wordOf p W H v ≡ n)
     unfolding wordPlace
-    place-told = number-told (wordTest p W H words v) (wordOf p W H v) is
+    place-shows = number-shows (wordTest p W H words v) (wordOf p W H v) is
 
     pub place-in-memory : {n : ℕ} → answer ≡ Counted.Number n → n < words
-    place-in-memory e = let (passed, same) = place-told e in rw same at (word-in-memory v passed)
+    place-in-memory e = let (passed, same) = place-shows e in rw same at (word-in-memory v passed)
 
-    pub place-refusal-told : {r : Refusal} → answer ≡ Counted.Refused r → wordTest p W H words v ≡ some r
+    pub place-refusal-shows : {r : Refusal} → answer ≡ Counted.Refused r → wordTest p W H words v ≡ some r
     unfolding wordPlace
-    place-refusal-told = refusal-told (wordTest p W H words v) (wordOf p W H v) is
+    place-refusal-shows = refusal-shows (wordTest p W H words v) (wordOf p W H v) is
 
   -- and that of `bank_depth`.
   module _ (k : ℕ) {answer : Counted} (is : answer ≡ bankDepth p W H words k) where
-    pub bank-told : {n : ℕ} → answer ≡ Counted.Number n → (wholeBankTest p W H words k ≡ none) × (depthOf p W H ≡ n)
+    pub bank-shows : {n : ℕ} → answer ≡ Counted.Number n → (wholeBankTest p W H words k ≡ none) × (depthOf p W H ≡ n)
     unfolding bankDepth
-    bank-told = number-told (wholeBankTest p W H words k) (depthOf p W H) is
+    bank-shows = number-shows (wholeBankTest p W H words k) (depthOf p W H) is
 
-    pub bank-refusal-told : {r : Refusal} → answer ≡ Counted.Refused r → wholeBankTest p W H words k ≡ some r
+    pub bank-refusal-shows : {r : Refusal} → answer ≡ Counted.Refused r → wholeBankTest p W H words k ≡ some r
     unfolding bankDepth
-    bank-refusal-told = refusal-told (wholeBankTest p W H words k) (depthOf p W H) is
+    bank-refusal-shows = refusal-shows (wholeBankTest p W H words k) (depthOf p W H) is

@@ -12,7 +12,7 @@ use Rattle.scope.specs.Calls as Calls
 use Rattle.scope.specs.Calls.{answered, changed, moved}
 use Rattle.scope.specs.promises.Meaning.{AllInside}
 use Rattle.scope.specs.promises.Demand.{Call, store, clear, load, fetch, Setting, test, lastStored}
-use Rattle.scope.specs.promises.Demand.{stored, cleared, loaded, fetched, reply, told}
+use Rattle.scope.specs.promises.Demand.{stored, cleared, loaded, fetched, reply, replyDue}
 use Rattle.scope.specs.declared.Refusal.{Refusal}
 use Rattle.scope.specs.declared.Counted.{Counted}
 use Rattle.checks.proofs.Chains.{changed-answer, changed-content}
@@ -68,22 +68,22 @@ module _
     same-test c = ap (λ (n : ℕ). test g n c) (h .as-long)
 
     -- the words of pixels inside are those last stored
-    words-told :
+    words-due :
         (vs : List Pixel) → AllInside (g .W) (g .H) vs
         → map (wordIn (g .plan) (g .W) (g .H) mem) vs ≡ map (lastStored g (length start) past) vs
-    words-told vs inside = same-map _ _ vs (λ v m. h .words v (inside v m))
+    words-due vs inside = same-map _ _ vs (λ v m. h .words v (inside v m))
 
     -- The call's answer, and a fetch's output, are what the conditions and the words last stored tell.
-    pub reply-is-told : (c : Call) → reply g mem c ≡ told g (length start) past c
-    unfolding reply told test Calls.store Calls.clear Calls.load Calls.fetch
-    reply-is-told (store v x) = ap stored (read-changed (same-test (store v x)) ofOutcome mem _ (λ r. refl) (λ e. refl))
-    reply-is-told (clear k) = ap cleared (read-changed (same-test (clear k)) ofOutcome mem _ (λ r. refl) (λ e. refl))
-    reply-is-told (load v) =
+    pub reply-is-due : (c : Call) → reply g mem c ≡ replyDue g (length start) past c
+    unfolding reply replyDue test Calls.store Calls.clear Calls.load Calls.fetch
+    reply-is-due (store v x) = ap stored (read-changed (same-test (store v x)) ofOutcome mem _ (λ r. refl) (λ e. refl))
+    reply-is-due (clear k) = ap cleared (read-changed (same-test (clear k)) ofOutcome mem _ (λ r. refl) (λ e. refl))
+    reply-is-due (load v) =
         ap loaded
         (read-answer (same-test (load v)) ofLoaded (λ r. refl)
         (λ e. ap value (h .words v (word-test-iff (g .plan) (g .W) (g .H) (length start) v .0 e .1))))
-    reply-is-told (fetch n o out) =
+    reply-is-due (fetch n o out) =
         ap₂ fetched (read-changed (same-test (fetch n o out)) ofCounted out _ (λ r. refl) (λ e. refl))
         (read-content (same-test (fetch n o out)) Counted.Refused out _ (λ e. ap (λ (xs : List ℕ). overStart xs out)
-        (words-told (moved (g .book) n o)
+        (words-due (moved (g .book) n o)
         (fetch-test-iff (g .plan) (g .W) (g .H) (length start) (g .book) n o (length out) .0 e .1 .0))))

@@ -19,14 +19,14 @@ use Rattle.pictures.proofs.CallTests.{bank-test-iff}
 use Rattle.pictures.proofs.Memory.{bank-in-picture}
 use Rattle.pictures.proofs.Sums.{depth-at-most}
 use Rattle.pictures.specs.Places.{bankDepth}
-use Rattle.pictures.proofs.PictureTests.{bank-told}
+use Rattle.pictures.proofs.PictureTests.{bank-shows}
 
 module _ (p : Plan) (W H words k : ℕ) {deep : ℕ} (told : bankDepth p W H words k ≡ Counted.Number deep) where
   pub found-nothing : wholeBankTest p W H words k ≡ none
-  found-nothing = bank-told p W H words k refl told .0
+  found-nothing = bank-shows p W H words k refl told .0
 
   pub depth-is : depthOf p W H ≡ deep
-  depth-is = bank-told p W H words k refl told .1
+  depth-is = bank-shows p W H words k refl told .1
 
   legal : IsPicture p W H words × (k < banks p)
   legal = bank-test-iff p W H words k .0 found-nothing

@@ -1,3 +1,3 @@
--- The files of this folder.
-pub mod RecordLists
-pub mod Placing
+-- Lists of pixel records.
+pub mod RecordLists  -- a whole list by its records
+pub mod Placing  -- one record by its pixel's address and bank

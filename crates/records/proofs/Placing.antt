@@ -27,7 +27,7 @@ use Rattle.lattice.proofs.SameBank.{bank-below-count}
 use Rattle.lattice.proofs.Words.{address-below-depth}
 use Rattle.pictures.proofs.Sums.{depth-at-most}
 use Rattle.pictures.proofs.CallTests.{fill-test-iff}
-use Rattle.pictures.proofs.CountedAnswers.{number-told, refusal-told}
+use Rattle.checks.proofs.CountedAnswers.{number-shows, refusal-shows}
 use Rattle.records.specs.Filling.{isNumber, isPlaceable, placedIf}
 
 -- a record's pixel handed to a callee is its pixel
@@ -67,18 +67,18 @@ module _ (p : Plan) (W H : ℕ) (r : PixelRecord) where
     kept e = sym (rw (no-address e, placedIf))
 
     module _ {u : ℕ} (u-is : A ≡ Counted.Number u) where
-      address-told : (tests ≡ none) × (addressOf p W H v ≡ u)
+      address-shows : (tests ≡ none) × (addressOf p W H v ≡ u)
       unfolding address
-      address-told = number-told tests (addressOf p W H v) A-is u-is
+      address-shows = number-shows tests (addressOf p W H v) A-is u-is
 
       legal : IsPlan p × ((IsSide W × IsSide H) × AllInside W H (v ∷ []))
-      legal = fill-test-iff p W H (v ∷ []) .0 (address-told .0)
+      legal = fill-test-iff p W H (v ∷ []) .0 (address-shows .0)
 
       pub address-small : u < 4294967296
       address-small =
           omega (
             arith,
-            rw (address-told .1) at
+            rw (address-shows .1) at
                 (address-below-depth p (legal .0) (legal .1 .1 v (List·Memᴰ·head refl))),
             depth-at-most p W H (legal .0) (legal .1 .0 .0) (legal .1 .0 .1),
           )
@@ -87,17 +87,17 @@ module _ (p : Plan) (W H : ℕ) (r : PixelRecord) where
       module _ {B : Counted} (B-is : B ≡ bank p v) where
         pub no-bank : {q : Refusal} → B ≡ Counted.Refused q → ⊥
         unfolding bank
-        no-bank e = none-not-some (sym (plan-legal-iff p .1 (legal .0)) ∙ refusal-told (planTest p) (bankOf p v) B-is e)
+        no-bank e = none-not-some (sym (plan-legal-iff p .1 (legal .0)) ∙ refusal-shows (planTest p) (bankOf p v) B-is e)
 
         module _ {k : ℕ} (k-is : B ≡ Counted.Number k) where
-          bank-told : bankOf p v ≡ k
+          bank-shows : bankOf p v ≡ k
           unfolding bank
-          bank-told = number-told (planTest p) (bankOf p v) B-is k-is .1
+          bank-shows = number-shows (planTest p) (bankOf p v) B-is k-is .1
 
           pub bank-small : k < 4294967296
           unfolding banks
-          bank-small = omega (arith, rw bank-told at (bank-below-count p (legal .0) v), legal .0 .most)
+          bank-small = omega (arith, rw bank-shows at (bank-below-count p (legal .0) v), legal .0 .most)
 
           pub is-placed : record { column = r .column; row = r .row; bank = k; address = u } ≡ placedIf p W H r
           unfolding placedIf placed
-          is-placed = sym (rw (has-address u-is, placedIf, bank-told, address-told .1))
+          is-placed = sym (rw (has-address u-is, placedIf, bank-shows, address-shows .1))

@@ -1,2 +1,2 @@
--- The files of this folder.
-pub mod Filling
+-- What filling a record list asks.
+pub mod Filling  -- of one record, and the answer for the list

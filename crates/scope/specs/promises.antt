@@ -1,8 +1,8 @@
--- The files of this folder.
-pub mod Meaning
-pub mod Demand
-pub mod PlanPromises
-pub mod PicturePromises
-pub mod BookPromises
-pub mod RefusalPromises
-pub mod Promises
+-- What is promised of the definitions, in the order to read it.
+pub mod Meaning  -- lists and tests in plain numbers; a legal call is never refused
+pub mod Demand  -- demand 3: a list of calls and the claim over it
+pub mod PlanPromises  -- normal form, finder and check
+pub mod PicturePromises  -- banks, addresses and the calls on a picture
+pub mod BookPromises  -- reading, writing, parts, the program's text
+pub mod RefusalPromises  -- which number a call gives, and its place
+pub mod Promises  -- all of them in one record

@@ -1,5 +1,6 @@
--- The files of this folder.
-pub mod Rows
-pub mod Figures
-pub mod BookEdges
-pub mod PictureEdges
+-- Worked values of the definitions.
+pub mod Rows  -- what a row is, and the patterns that the figures speak of
+pub mod Figures  -- document 01's figures and examples, and the one theorem over them
+pub mod BookEdges  -- further rows on books, plans and the program
+pub mod PictureEdges  -- further rows on the calls on a picture
+pub mod DemandExample  -- demand 3 read off in three small pictures

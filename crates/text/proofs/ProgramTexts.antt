@@ -16,8 +16,8 @@ use Rattle.scope.specs.declared.Planned.{Planned}
 use Rattle.scope.specs.declared.Outcome.{Outcome}
 use Rattle.scope.proofs.PlanFacts.{a-at-most, d-at-most}
 use Rattle.checks.proofs.Outputs.{over-start-length}
-use Rattle.book.proofs.ProgramText.{text-of-read, text-of-refused}
-use Rattle.book.proofs.LongInput.{long-input-text}
+use Rattle.text.proofs.ProgramText.{text-of-read, text-of-refused}
+use Rattle.text.proofs.LongInput.{long-input-text}
 use Rattle.finder.proofs.PlanSearch.{least-plan-some, suiting-is-plan}
 use Rattle.finder.proofs.FindAnswers.{find-value-iff}
 use Rattle.text.specs.Texts.{textOf, AlsoOfLonger}

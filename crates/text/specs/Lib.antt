@@ -1,2 +1,2 @@
--- The files of this folder.
-pub mod Texts
+-- The program's text as the code's struct.
+pub mod Texts  -- a text, and when it is that of a longer input too

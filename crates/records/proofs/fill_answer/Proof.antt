@@ -15,7 +15,7 @@ use Rattle.scope.specs.declared.Refusal.{Refusal}
 use Rattle.scope.specs.declared.Counted.{Counted}
 use Rattle.scope.specs.declared.Outcome.{Outcome}
 use Rattle.checks.proofs.Chains.{chain-refuses, chain-goes-on, chain-of-one, tests-as-one, answered-none, answered-some}
-use Rattle.pictures.proofs.CountedAnswers.{number-told, refusal-told}
+use Rattle.checks.proofs.CountedAnswers.{number-shows, refusal-shows}
 use Rattle.records.specs.Filling.{fillAnswer}
 use Rattle.records.proofs.fill_answer.Statement.{statement}
 use Rattle.records.proofs.fill_answer.Tie as tie
@@ -46,14 +46,14 @@ module _ (p : Plan) (W H : ℕ) (inside : Bool) where
   module _ {D : Counted} (D-is : D ≡ depth p W H) where
     no-depth : (r : Refusal) → D ≡ Counted.Refused r → Outcome.Refused r ≡ fillAnswer p W H inside
     unfolding depth
-    no-depth r e = refused r (depth-first ∙ chain-refuses depthTest (last ∷ []) r (refusal-told depthTest (depthOf p W H) D-is e))
+    no-depth r e = refused r (depth-first ∙ chain-refuses depthTest (last ∷ []) r (refusal-shows depthTest (depthOf p W H) D-is e))
 
     module _ {n : ℕ} (n-is : D ≡ Counted.Number n) where
       past-depth : tests ≡ last
       unfolding depth
       past-depth =
           depth-first
-          ∙ chain-goes-on depthTest (last ∷ []) (number-told depthTest (depthOf p W H) D-is n-is .0)
+          ∙ chain-goes-on depthTest (last ∷ []) (number-shows depthTest (depthOf p W H) D-is n-is .0)
           ∙ chain-of-one last
 
       all-inside : inside ≡ true → Outcome.Done ≡ fillAnswer p W H inside

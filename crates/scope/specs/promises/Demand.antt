@@ -111,12 +111,12 @@ pub record LastStoredMeans : Type 0 where
   pub never : (g : Setting) (words : ℕ) (v : Pixel) (calls : List Call) → Untouched g words v calls → lastStored g words calls v ≡ 0
 
 -- What call c is to give after the calls `past`: the refusal that the conditions tell, or what it is for, with the words last stored.
-unfoldable pub told : Setting → ℕ → List Call → Call → Reply
+unfoldable pub replyDue : Setting → ℕ → List Call → Call → Reply
 unfolding answered test lastStored moved overStart
-told g words past (store v x) = stored (answered (test g words (store v x)) turnedDown (value tt))
-told g words past (clear k) = cleared (answered (test g words (clear k)) turnedDown (value tt))
-told g words past (load v) = loaded (answered (test g words (load v)) turnedDown (value (lastStored g words past v)))
-told g words past (fetch n o out) =
+replyDue g words past (store v x) = stored (answered (test g words (store v x)) turnedDown (value tt))
+replyDue g words past (clear k) = cleared (answered (test g words (clear k)) turnedDown (value tt))
+replyDue g words past (load v) = loaded (answered (test g words (load v)) turnedDown (value (lastStored g words past v)))
+replyDue g words past (fetch n o out) =
     fetched
     (answered (test g words (fetch n o out)) turnedDown (value (length (moved (g .book) n o))))
     (answered (test g words (fetch n o out)) (λ r. out)
@@ -149,7 +149,7 @@ pictureWords g = banks (g .plan) * depthOf (g .plan) (g .W) (g .H)
 -- What holds of call c, made after the calls `past` that began on memory `mem`.
 pub record CallHolds (g : Setting) (mem : List ℕ) (past : List Call) (c : Call) : Type 0 where
   -- "its answer agrees", and each fetched and loaded word is the one last stored
-  pub agrees : reply g (run g mem past) c ≡ told g (length mem) past c
+  pub agrees : reply g (run g mem past) c ≡ replyDue g (length mem) past c
   -- a legal call is not turned down
   pub taken : IsSide (g .W) → IsSide (g .H) → Allowed g c → test g (length mem) c ≡ none
   -- and no other is taken (which number turns it down: CallsRefuse)

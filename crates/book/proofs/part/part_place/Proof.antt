@@ -2,7 +2,7 @@
 -- Assumes nothing.
 use native.Mathlib.Omega.{arith}
 use borrow.Author.Needs.{needs}
-use Rattle.book.proofs.PartAnswers.{refused-place, start-told, taken-place, taken-inside}
+use Rattle.book.proofs.PartAnswers.{refused-place, start-shows, taken-place, taken-inside}
 use Rattle.book.proofs.part.part_place.Statement.{statement}
 use Rattle.book.proofs.part.part_place.Tie as tie
 
@@ -25,7 +25,7 @@ start-of-requires : tie.Need-start-of-requires
 start-of-requires c κs =
     let b = c .before .before in
     let u = b .before .before .args in
-    start-told (u .s .now) (u .n) (b .part-outcome .ensures) (c .enum-told2 .given .1)
+    start-shows (u .s .now) (u .n) (b .part-outcome .ensures) (c .enum-told2 .given .1)
 
 add-result : tie.Need-add-result
 add-result c =

@@ -12,7 +12,7 @@ use Rattle.scope.specs.declared.Outcome.{Outcome}
 use Rattle.scope.specs.declared.Refusal.{Refusal}
 use Rattle.checks.proofs.Chains.{answered-none, answered-some}
 use Rattle.book.proofs.Bytes.{first-place}
-use Rattle.book.proofs.PartAnswers.{refused-part, taken-part, refused-place, start-told, taken-place, taken-inside}
+use Rattle.book.proofs.PartAnswers.{refused-part, taken-part, refused-place, start-shows, taken-place, taken-inside}
 use Rattle.book.proofs.part.pattern_part.Statement.{statement}
 use Rattle.book.proofs.part.pattern_part.Tie as tie
 
@@ -70,7 +70,7 @@ start-of-requires : tie.Need-start-of-requires
 start-of-requires c κs =
     let b = c .before .before in
     let u = b .before .before .args in
-    start-told (u .s .now) (u .n) (b .part-outcome .ensures) (c .enum-told2 .given .1)
+    start-shows (u .s .now) (u .n) (b .part-outcome .ensures) (c .enum-told2 .given .1)
 
 add-first : tie.Need-add-first
 add-first c =

@@ -26,18 +26,18 @@ use Rattle.finder.proofs.checking.check.Tie as tie
 
 -- what the answer of a call that gives a plan tells of its tests
 module _ (form : Plan) where
-  plan-told :
+  plan-shows :
       {p : Plan} (t : Option Refusal) → answered t Planned.Refused (Planned.Plan form) ≡ Planned.Plan p
       → (t ≡ none) × (form ≡ p)
   unfolding answered
-  plan-told none e = (refl, cc)
-  plan-told (some q) e = absurd (value-not-refusal (ap ofPlanned (sym e)))
+  plan-shows none e = (refl, cc)
+  plan-shows (some q) e = absurd (value-not-refusal (ap ofPlanned (sym e)))
 
-  refusal-told :
+  refusal-shows :
       {r : Refusal} (t : Option Refusal) → answered t Planned.Refused (Planned.Plan form) ≡ Planned.Refused r → t ≡ some r
   unfolding answered
-  refusal-told none e = absurd (value-not-refusal (ap ofPlanned e))
-  refusal-told (some q) e = cc
+  refusal-shows none e = absurd (value-not-refusal (ap ofPlanned e))
+  refusal-shows (some q) e = cc
 
 module _ (x y : Pixel) where
   abbrev formTests : List (Option Refusal)
@@ -47,7 +47,7 @@ module _ (x y : Pixel) where
   form-is-plan : (p : Plan) → normal x y ≡ Planned.Plan p → isPlan p ≡ true
   unfolding normal
   form-is-plan p e =
-      let (passed, is) = plan-told (normalForm x y) (firstOf formTests) e in
+      let (passed, is) = plan-shows (normalForm x y) (firstOf formTests) e in
       let (independent, within) = test-before (independent-iff x y) (last-test (size-within-iff x y)) .iff .0 passed in
       is-plan-iff p .1 (rw is at (normal-form-is-plan x y independent within))
 
@@ -70,12 +70,12 @@ module _ (x y : Pixel) where
       unfolding check normal
       form-refused r e =
           answered-some (checkTest book x y) Verdict.Refused verdict r
-          (past-record ∙ refusal-told (normalForm x y) (firstOf formTests) e)
+          (past-record ∙ refusal-shows (normalForm x y) (firstOf formTests) e)
 
       form-judged : (p : Plan) → normal x y ≡ Planned.Plan p → check book x y ≡ judged (patterns book) p
       unfolding check normal
       form-judged p e =
-          let (passed, is) = plan-told (normalForm x y) (firstOf formTests) e in
+          let (passed, is) = plan-shows (normalForm x y) (firstOf formTests) e in
           answered-none (checkTest book x y) Verdict.Refused verdict (past-record ∙ passed) ∙ ap (judged (patterns book)) is
 
 record-outcome-requires : tie.Need-record-outcome-requires

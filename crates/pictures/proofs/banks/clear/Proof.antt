@@ -16,7 +16,7 @@ use Rattle.scope.specs.declared.Outcome.{Outcome}
 use Rattle.scope.specs.declared.Refusal.{Refusal}
 use Rattle.checks.proofs.Chains.{Gives, value-given, refusal-given}
 use Rattle.pictures.specs.Places.{bankDepth}
-use Rattle.pictures.proofs.PictureTests.{bank-refusal-told}
+use Rattle.pictures.proofs.PictureTests.{bank-refusal-shows}
 use Rattle.pictures.proofs.WholeBanks.{found-nothing, bank-below, end-at-most, end-in-memory, part-cleared}
 use Rattle.pictures.proofs.banks.clear.Statement.{statement}
 use Rattle.pictures.proofs.banks.clear.Tie as tie
@@ -42,7 +42,7 @@ module _ (p : Plan) (W H : ℕ) (mem : List ℕ) (k : ℕ) where
       → Gives (clear p W H mem k) (Outcome.Refused r) mem
   unfolding clear
   refused {r} is told =
-      refusal-given tests Outcome.Refused mem Outcome.Done zeroed r (bank-refusal-told p W H (length mem) k is told)
+      refusal-given tests Outcome.Refused mem Outcome.Done zeroed r (bank-refusal-shows p W H (length mem) k is told)
 
 bank-depth-requires : tie.Need-bank-depth-requires
 bank-depth-requires c κs = search needs

@@ -15,7 +15,7 @@ use Rattle.scope.specs.declared.Counted.{Counted}
 use Rattle.scope.specs.declared.Refusal.{Refusal}
 use Rattle.checks.proofs.Chains.{answered-none, answered-some}
 use Rattle.pictures.specs.Places.{bankDepth}
-use Rattle.pictures.proofs.PictureTests.{bank-refusal-told}
+use Rattle.pictures.proofs.PictureTests.{bank-refusal-shows}
 use Rattle.pictures.proofs.WholeBanks.{found-nothing, bank-below, end-at-most, end-in-memory, part-is-bank, part-at-most}
 use Rattle.pictures.proofs.banks.sum.Statement.{statement}
 use Rattle.pictures.proofs.banks.sum.Tie as tie
@@ -42,7 +42,7 @@ module _ (p : Plan) (W H : ℕ) (mem : List ℕ) (k : ℕ) where
       → Counted.Refused r ≡ sum p W H mem k
   unfolding sum
   refused {r} is told =
-      sym (answered-some tests Counted.Refused total r (bank-refusal-told p W H (length mem) k is told))
+      sym (answered-some tests Counted.Refused total r (bank-refusal-shows p W H (length mem) k is told))
 
 bank-depth-requires : tie.Need-bank-depth-requires
 bank-depth-requires c κs = search needs

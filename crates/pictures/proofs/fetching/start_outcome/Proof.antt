@@ -11,7 +11,7 @@ use Rattle.scope.proofs.PlanFacts.{is-plan-iff}
 use Rattle.finder.specs.Clashing.{metAt}
 use Rattle.finder.proofs.MetAnswers.{met-of-plan, at-found, nowhere-found}
 use Rattle.pictures.specs.Places.{pictureTest}
-use Rattle.pictures.proofs.PictureTests.{picture-test-iff, picture-told, picture-refusal-told}
+use Rattle.pictures.proofs.PictureTests.{picture-test-iff, picture-shows, picture-refusal-shows}
 use Rattle.pictures.specs.Fetching.{foundBy}
 use Rattle.pictures.proofs.Starts.{refused-by-tested, refused-by-picture, refused-by-number, refused-by-size}
 use Rattle.pictures.proofs.Starts.{refused-by-clash, all-passed}
@@ -43,7 +43,7 @@ returns-2 : tie.Need-returns-2
 returns-2 c =
     let d = c .before .before .before in
     refused-by-picture _ _ _ _ _ _ _ _ (legal (d .before))
-    (picture-refusal-told _ _ _ _ (d .picture-depth .ensures) (c .before .depth .given .1))
+    (picture-refusal-shows _ _ _ _ (d .picture-depth .ensures) (c .before .depth .given .1))
 
 enum-told-3 : tie.Need-enum-told-3
 enum-told-3 c = search needs
@@ -57,7 +57,7 @@ module _ (c : tie.After-enum-told3) where
   passed = legal (c .before .before .before)
 
   is-picture : pictureTest (start .args .p) (start .args .w) (start .args .h) (start .args .words) ≡ none
-  is-picture = picture-told _ _ _ _ (c .before .before .picture-depth .ensures) (c .enum-told3 .given .1) .0
+  is-picture = picture-shows _ _ _ _ (c .before .before .picture-depth .ensures) (c .enum-told3 .given .1) .0
 
 returns-3 : tie.Need-returns-3
 returns-3 c =

@@ -36,24 +36,24 @@ is-within-requires : tie.Need-is-within-requires Inv-loop μ-loop
 is-within-requires c κs = search needs
 
 -- what the test of the column told
-column-told :
+column-shows :
     (c : tie.After-is-within Inv-loop μ-loop)
     → let l = c .before .before .before in
     let u = l .before .before .before .args in
     c .is-within .result ≡ within (toZ w16 (ofZ w16 (u .i)) +ℤ getD (u .t .columns) (l .loop .e) (pos 0)) (u .w)
-column-told c =
+column-shows c =
     let u = c .before .before .before .before .before .before .args in
     c .is-within .ensures
     ∙ ap (λ (x : ℤ). within (toZ w16 (ofZ w16 (u .i)) +ℤ x) (u .w))
     (number-handed w8 (c .before .is-within-arg .given))
 
 -- and that of the row
-row-told :
+row-shows :
     (c : tie.After-is-within2 Inv-loop μ-loop)
     → let l = c .before .before .before .before .before .before in
     let u = l .before .before .before .args in
     c .is-within2 .result ≡ within (toZ w16 (ofZ w16 (u .j)) +ℤ getD (u .t .rows) (l .loop .e) (pos 0)) (u .h)
-row-told c =
+row-shows c =
     let u = c .before .before .before .before .before .before .before .before .before .args in
     c .is-within2 .ensures
     ∙ ap (λ (x : ℤ). within (toZ w16 (ofZ w16 (u .j)) +ℤ x) (u .h))
@@ -73,7 +73,7 @@ returns : tie.Need-returns Inv-loop μ-loop
 returns c =
     let l = c .before .before .before .before in
     answers (l .before .before .before)
-    (column-outside _ _ _ _ (l .loop .e) (c .before .before .before .loop-test .taken) (fails (column-told (c .before)) (c .if1 .taken)))
+    (column-outside _ _ _ _ (l .loop .e) (c .before .before .before .loop-test .taken) (fails (column-shows (c .before)) (c .if1 .taken)))
 
 array-copy-out-is-within-2 : tie.Need-array-copy-out-is-within-2 Inv-loop μ-loop
 array-copy-out-is-within-2 c = array-copy-out-is-within (c .before .before .before)
@@ -86,7 +86,7 @@ returns-2 c =
     let i = c .before .before .before .before .before .before in
     let l = i .before in
     answers (l .before .before .before)
-    (row-outside _ _ _ _ (l .loop .e) (i .loop-test .taken) (fails (row-told (c .before)) (c .if2 .taken)))
+    (row-outside _ _ _ _ (l .loop .e) (i .loop-test .taken) (fails (row-shows (c .before)) (c .if2 .taken)))
 
 add-e : tie.Need-add-e Inv-loop μ-loop
 add-e c = search needs
@@ -99,8 +99,8 @@ loop-again c =
     let one = c .before .before .before in
     let l = one .before .before .before .before in (
       omega arith,
-      one-more-inside _ _ _ _ (l .loop .e) (l .loop .inv .1) (holds (column-told (one .before)) (one .if1 .left))
-          (holds (row-told (c .before)) (c .if2 .left)),
+      one-more-inside _ _ _ _ (l .loop .e) (l .loop .inv .1) (holds (column-shows (one .before)) (one .if1 .left))
+          (holds (row-shows (c .before)) (c .if2 .left)),
     )
 
 returns-3 : tie.Need-returns-3 Inv-loop μ-loop

@@ -16,7 +16,7 @@ use Rattle.scope.specs.declared.Refusal.{Refusal}
 use Rattle.checks.proofs.Chains.{chain-refuses, chain-goes-on, chain-of-one, answered-none, answered-some}
 use Rattle.checks.proofs.Deciding.{bank-decides}
 use Rattle.pictures.specs.Places.{pictureTest, pictureDepth, bankDepth}
-use Rattle.pictures.proofs.PictureTests.{picture-test-iff, picture-before-bank, picture-told, picture-refusal-told}
+use Rattle.pictures.proofs.PictureTests.{picture-test-iff, picture-before-bank, picture-shows, picture-refusal-shows}
 use Rattle.pictures.proofs.places.bank_depth.Statement.{statement}
 use Rattle.pictures.proofs.places.bank_depth.Tie as tie
 
@@ -38,16 +38,16 @@ module _ (p : Plan) (W H words k : ℕ) where
         ∙ sym
         (refused r
         (picture-before-bank p W H words k
-        ∙ chain-refuses (pictureTest p W H words) (bankTest p k ∷ []) r (picture-refusal-told p W H words is e)))
+        ∙ chain-refuses (pictureTest p W H words) (bankTest p k ∷ []) r (picture-refusal-shows p W H words is e)))
 
     module _ {n : ℕ} (e : answer ≡ Counted.Number n) where
       count-at-most : p .a * p .d ≤ 1024
-      count-at-most = picture-test-iff p W H words .0 (picture-told p W H words is e .0) .plan .most
+      count-at-most = picture-test-iff p W H words .0 (picture-shows p W H words is e .0) .plan .most
 
       past-picture : wholeBankTest p W H words k ≡ bankTest p k
       past-picture =
           picture-before-bank p W H words k
-          ∙ chain-goes-on (pictureTest p W H words) (bankTest p k ∷ []) (picture-told p W H words is e .0)
+          ∙ chain-goes-on (pictureTest p W H words) (bankTest p k ∷ []) (picture-shows p W H words is e .0)
           ∙ chain-of-one (bankTest p k)
 
       no-such-bank : p .a * p .d ≤ k → Counted.Refused Refusal.Cell ≡ bankDepth p W H words k
@@ -57,7 +57,7 @@ module _ (p : Plan) (W H words k : ℕ) where
       bank-there : k < p .a * p .d → answer ≡ bankDepth p W H words k
       unfolding banks
       bank-there h =
-          e ∙ ap Counted.Number (sym (picture-told p W H words is e .1)) ∙ sym (given (past-picture ∙ bank-decides p k .passes h))
+          e ∙ ap Counted.Number (sym (picture-shows p W H words is e .1)) ∙ sym (given (past-picture ∙ bank-decides p k .passes h))
 
 picture-depth-requires : tie.Need-picture-depth-requires
 picture-depth-requires c κs = search needs

@@ -22,7 +22,7 @@ use Rattle.checks.proofs.Deciding.{memory-decides}
 use Rattle.checks.proofs.Tests.{plan-legal-iff, sides-legal-iff}
 use Rattle.pictures.proofs.Sums.{depth-at-most}
 use Rattle.pictures.specs.Places.{pictureTest, pictureDepth}
-use Rattle.pictures.proofs.CountedAnswers.{number-told, refusal-told}
+use Rattle.checks.proofs.CountedAnswers.{number-shows, refusal-shows}
 use Rattle.pictures.proofs.PictureTests.{depth-before-memory}
 use Rattle.pictures.proofs.places.picture_depth.Statement.{statement}
 use Rattle.pictures.proofs.places.picture_depth.Tie as tie
@@ -52,36 +52,36 @@ module _ (p : Plan) (W H words : ℕ) where
         ∙ sym
         (refused r
         (depth-before-memory p W H words
-        ∙ chain-refuses depthTest (room ∷ []) r (refusal-told depthTest (depthOf p W H) is e)))
+        ∙ chain-refuses depthTest (room ∷ []) r (refusal-shows depthTest (depthOf p W H) is e)))
 
     module _ {n : ℕ} (e : answer ≡ Counted.Number n) where
-      depth-told : (depthTest ≡ none) × (depthOf p W H ≡ n)
+      depth-shows : (depthTest ≡ none) × (depthOf p W H ≡ n)
       unfolding depth
-      depth-told = number-told depthTest (depthOf p W H) is e
+      depth-shows = number-shows depthTest (depthOf p W H) is e
 
       past-depth : pictureTest p W H words ≡ room
       past-depth =
-          depth-before-memory p W H words ∙ chain-goes-on depthTest (room ∷ []) (depth-told .0) ∙ chain-of-one room
+          depth-before-memory p W H words ∙ chain-goes-on depthTest (room ∷ []) (depth-shows .0) ∙ chain-of-one room
 
       legal : IsPlan p × (IsSide W × IsSide H)
-      legal = test-before (plan-legal-iff p) (last-test (sides-legal-iff W H)) .iff .0 (depth-told .0)
+      legal = test-before (plan-legal-iff p) (last-test (sides-legal-iff W H)) .iff .0 (depth-shows .0)
 
       words-at-most : p .a * p .d * n ≤ 1024 * (4096 * 4096)
       words-at-most =
-          mul-le-mul (legal .0 .most) (rw (depth-told .1) at (depth-at-most p W H (legal .0) (legal .1 .0) (legal .1 .1)))
+          mul-le-mul (legal .0 .most) (rw (depth-shows .1) at (depth-at-most p W H (legal .0) (legal .1 .0) (legal .1 .1)))
 
       memory-short : words < p .a * p .d * n → Counted.Refused Refusal.Memory ≡ pictureDepth p W H words
       unfolding banks
       memory-short h =
           sym
           (refused Refusal.Memory
-          (past-depth ∙ memory-decides p W H words .refuses (λ l. omega (arith, rw (depth-told .1) at l))))
+          (past-depth ∙ memory-decides p W H words .refuses (λ l. omega (arith, rw (depth-shows .1) at l))))
 
       memory-enough : p .a * p .d * n ≤ words → Counted.Number n ≡ pictureDepth p W H words
       unfolding banks
       memory-enough h =
-          ap Counted.Number (sym (depth-told .1))
-          ∙ sym (given (past-depth ∙ memory-decides p W H words .passes (rw (depth-told .1) h)))
+          ap Counted.Number (sym (depth-shows .1))
+          ∙ sym (given (past-depth ∙ memory-decides p W H words .passes (rw (depth-shows .1) h)))
 
 depth-requires : tie.Need-depth-requires
 depth-requires c κs = search needs

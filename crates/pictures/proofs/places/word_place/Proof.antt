@@ -21,8 +21,8 @@ use Rattle.checks.proofs.Searches.{none-not-some}
 use Rattle.checks.proofs.Chains.{chain-refuses, chain-goes-on, answered-none, answered-some}
 use Rattle.checks.proofs.Tests.{plan-legal-iff, sides-legal-iff}
 use Rattle.pictures.specs.Places.{pictureTest, pictureDepth, wordPlace}
-use Rattle.pictures.proofs.CountedAnswers.{number-told, refusal-told}
-use Rattle.pictures.proofs.PictureTests.{picture-test-iff, picture-before-pixel, word-in-memory, picture-told, picture-refusal-told}
+use Rattle.checks.proofs.CountedAnswers.{number-shows, refusal-shows}
+use Rattle.pictures.proofs.PictureTests.{picture-test-iff, picture-before-pixel, word-in-memory, picture-shows, picture-refusal-shows}
 use Rattle.pictures.proofs.places.word_place.Statement.{statement}
 use Rattle.pictures.proofs.places.word_place.Tie as tie
 
@@ -50,11 +50,11 @@ module _ (p : Plan) (W H words : ℕ) (v : Pixel) where
         ∙ sym
         (refused r
         (picture-before-pixel p W H words v
-        ∙ chain-refuses (pictureTest p W H words) (outside ∷ []) r (picture-refusal-told p W H words D-is e)))
+        ∙ chain-refuses (pictureTest p W H words) (outside ∷ []) r (picture-refusal-shows p W H words D-is e)))
 
     module _ {n : ℕ} (n-is : D ≡ Counted.Number n) where
       found-none : pictureTest p W H words ≡ none
-      found-none = picture-told p W H words D-is n-is .0
+      found-none = picture-shows p W H words D-is n-is .0
 
       picture : IsPicture p W H words
       picture = picture-test-iff p W H words .0 found-none
@@ -75,26 +75,26 @@ module _ (p : Plan) (W H words : ℕ) (v : Pixel) where
       module _ {A : Counted} (A-is : A ≡ address p W H v) where
         no-address : (r : Refusal) → A ≡ Counted.Refused r → A ≡ wordPlace p W H words v
         unfolding address
-        no-address r e = e ∙ sym (refused r (same-tests ∙ refusal-told addressTest (addressOf p W H v) A-is e))
+        no-address r e = e ∙ sym (refused r (same-tests ∙ refusal-shows addressTest (addressOf p W H v) A-is e))
 
         -- and the bank, which a plan always has
         module _ {B : Counted} (B-is : B ≡ bank p v) where
           no-bank : (r : Refusal) → B ≡ Counted.Refused r → ⊥
           unfolding bank
-          no-bank r e = none-not-some (sym planned ∙ refusal-told (planTest p) (bankOf p v) B-is e)
+          no-bank r e = none-not-some (sym planned ∙ refusal-shows (planTest p) (bankOf p v) B-is e)
 
           module _ {u k : ℕ} (u-is : A ≡ Counted.Number u) (k-is : B ≡ Counted.Number k) where
             passed : wordTest p W H words v ≡ none
             unfolding address
-            passed = same-tests ∙ number-told addressTest (addressOf p W H v) A-is u-is .0
+            passed = same-tests ∙ number-shows addressTest (addressOf p W H v) A-is u-is .0
 
             place-is : wordOf p W H v ≡ k * n + u
             unfolding wordOf bank address
             place-is =
                 rw (
-                  number-told (planTest p) (bankOf p v) B-is k-is .1,
-                  picture-told p W H words D-is n-is .1,
-                  number-told addressTest (addressOf p W H v) A-is u-is .1,
+                  number-shows (planTest p) (bankOf p v) B-is k-is .1,
+                  picture-shows p W H words D-is n-is .1,
+                  number-shows addressTest (addressOf p W H v) A-is u-is .1,
                 )
 
             answer-is : Counted.Number (k * n + u) ≡ wordPlace p W H words v

@@ -16,7 +16,7 @@ use Rattle.scope.specs.declared.Refusal.{Refusal}
 use Rattle.scope.proofs.PlanFacts.{pixel-handed}
 use Rattle.checks.proofs.Chains.{answered-none, answered-some}
 use Rattle.pictures.specs.Places.{wordPlace}
-use Rattle.pictures.proofs.PictureTests.{place-told, place-in-memory, place-refusal-told}
+use Rattle.pictures.proofs.PictureTests.{place-shows, place-in-memory, place-refusal-shows}
 use Rattle.pictures.proofs.words.load.Statement.{statement}
 use Rattle.pictures.proofs.words.load.Tie as tie
 
@@ -25,7 +25,7 @@ module _ (p : Plan) (W H : ℕ) (mem : List ℕ) (v : Pixel) {place : Counted} (
   loaded : {n : ℕ} → place ≡ Counted.Number n → Loaded.Word (getD mem n 0) ≡ load p W H mem v
   unfolding load wordIn
   loaded e =
-      let (passed, same) = place-told p W H (length mem) v is e in
+      let (passed, same) = place-shows p W H (length mem) v is e in
       ap (λ (n : ℕ). Loaded.Word (getD mem n 0)) (sym same)
       ∙ sym (answered-none (wordTest p W H (length mem) v) Loaded.Refused (Loaded.Word (wordIn p W H mem v)) passed)
 
@@ -34,7 +34,7 @@ module _ (p : Plan) (W H : ℕ) (mem : List ℕ) (v : Pixel) {place : Counted} (
   refused {r} e =
       sym
       (answered-some (wordTest p W H (length mem) v) Loaded.Refused (Loaded.Word (wordIn p W H mem v)) r
-      (place-refusal-told p W H (length mem) v is e))
+      (place-refusal-shows p W H (length mem) v is e))
 
 word-place-requires : tie.Need-word-place-requires
 word-place-requires c κs = search needs

@@ -17,7 +17,7 @@ use Rattle.scope.specs.declared.Refusal.{Refusal}
 use Rattle.scope.proofs.PlanFacts.{pixel-handed}
 use Rattle.checks.proofs.Chains.{Gives, value-given, refusal-given}
 use Rattle.pictures.specs.Places.{wordPlace}
-use Rattle.pictures.proofs.PictureTests.{place-told, place-in-memory, place-refusal-told}
+use Rattle.pictures.proofs.PictureTests.{place-shows, place-in-memory, place-refusal-shows}
 use Rattle.pictures.proofs.words.store.Statement.{statement}
 use Rattle.pictures.proofs.words.store.Tie as tie
 
@@ -33,14 +33,14 @@ module _ (p : Plan) (W H : ℕ) (mem : List ℕ) (v : Pixel) (x : ℕ) where
     stored : {n : ℕ} → place ≡ Counted.Number n → Gives (store p W H mem v x) Outcome.Done (set mem n x)
     unfolding store afterStore
     stored e =
-        let (passed, same) = place-told p W H (length mem) v is e in
+        let (passed, same) = place-shows p W H (length mem) v is e in
         let (done, put) = value-given tests Outcome.Refused mem Outcome.Done after passed in
         (done, ap (λ (n : ℕ). set mem n x) (sym same) ∙ put)
 
     refused : {r : Refusal} → place ≡ Counted.Refused r → Gives (store p W H mem v x) (Outcome.Refused r) mem
     unfolding store
     refused {r} e =
-        refusal-given tests Outcome.Refused mem Outcome.Done after r (place-refusal-told p W H (length mem) v is e)
+        refusal-given tests Outcome.Refused mem Outcome.Done after r (place-refusal-shows p W H (length mem) v is e)
 
 word-place-requires : tie.Need-word-place-requires
 word-place-requires c κs = search needs

@@ -151,13 +151,13 @@ module _ {M : Type 1} (𝓤 : URA M) (H : Heap 𝓤) (A : Atoms 𝓤) (W : Given
       -- local k at 5 + k
       calls-at ! (fmOf 𝓤 H (W .laws) 𝓣) (Answered 𝓤 H A mem run) known-answered (to-answered 𝓤 H A mem run g z) (and-then ! (load ! (from ! (stop !)) (look ! 6 refl)) (and-then ! (load ! (from ! (stop !)) (look ! 7 refl)) (and-then ! (load ! (from ! (stop !)) (look ! 8 refl)) (and-then ! literal (no-more !))))) (λ v.
       use1 W (later (some (λ (y : Outcome). (‵ ftrue ⊛ ‵ (O.the-row .own y (v ∷ []))) ⊛ raw (ensured 𝓤 H A answered.ended (answered.clauses 𝓤 H A mem run) tt (g .pl, (g .wd, (g .ht, (z, tt)))) tt y)))) (id⊢ 𝓤 _) $ await ! tt $ pick ! (λ y.
-      split ! $ move ! (1 ∷ []) $ use1 W (raw (fact 𝓤 (y ≡ fillAnswer (g .pl) (g .wd) (g .ht) z))) (answered-of 𝓤 H A mem run (g .pl) (g .wd) (g .ht) z y) $ heard ! (y ≡ fillAnswer (g .pl) (g .wd) (g .ht) z) (λ told. split ! $ drop ! $
+      split ! $ move ! (1 ∷ []) $ use1 W (raw (fact 𝓤 (y ≡ fillAnswer (g .pl) (g .wd) (g .ht) z))) (answered-of 𝓤 H A mem run (g .pl) (g .wd) (g .ht) z y) $ heard ! (y ≡ fillAnswer (g .pl) (g .wd) (g .ht) z) (λ said. split ! $ drop ! $
       facts ! O.the-row (Is O.the-row) (shows 𝓤 H A O.the-row) y (v ∷ []) (λ is.
       -- local k at 4 + k
       land ! (from ! (stop !)) (init ! 4 refl (EL.lawful O.the-type O′.the-laws 𝓤 H A W tt .typed y (v ∷ []) is .0)) $
       closes-slice ! tt R (g .ys) cs l (g .b) (g .o) $
       -- local k at 3 + k
-      returns-within ! (Post 𝓤 H A mem run g) stops (look ! 3 refl) $ forget ! 3 refl $ forget ! 4 refl $ forget ! 5 refl $ forget ! 6 refl $ forget ! 7 refl $ forget ! 8 refl $ freed y v is cs (gives y told) l))))
+      returns-within ! (Post 𝓤 H A mem run g) stops (look ! 3 refl) $ forget ! 3 refl $ forget ! 4 refl $ forget ! 5 refl $ forget ! 6 refl $ forget ! 7 refl $ forget ! 8 refl $ freed y v is cs (gives y said) l))))
 
   -- ---- the second loop: a record is filled in
   fills : (t : Done g) → T (ltb (t .0) (n g)) → Sq W (At₂ t) (runs C Λ En mir.turn-2 (anyQ (Turned₂ t)))
@@ -216,7 +216,7 @@ module _ {M : Type 1} (𝓤 : URA M) (H : Heap 𝓤) (A : Atoms 𝓤) (W : Given
       assigns ! (bin ! (load ! (from ! (stop !)) (look ! 9 refl)) (load ! (from ! (stop !)) (look ! 17 refl)) tt) (from ! (stop !)) (init ! 18 refl (tt, tt)) $
       rewrite ! 18 (λ (z : Bool). ‵ (fat fullShare tyBool l₁₄ 0 (vbool z))) (is-false (ltb (t .0) (n g)) over) refl $ leaves-loop ! (load ! (from ! (stop !)) (look ! 18 refl)) $
       exec ! C Λ En mir.t-5 (atRet En (Post 𝓤 H A mem run g)) $ forget ! 17 refl $ forget ! 18 refl $
-      ends true (t .1) (t .0) (t .3 .size) (λ y told. (told ∙ given .0, filled-all (t .3) (nltb→le (t .0) (n g) over) ∙ given .1)) opdTrue (atRet En (Post 𝓤 H A mem run g)) refl (true-lit !)
+      ends true (t .1) (t .0) (t .3 .size) (λ y said. (said ∙ given .0, filled-all (t .3) (nltb→le (t .0) (n g) over) ∙ given .1)) opdTrue (atRet En (Post 𝓤 H A mem run g)) refl (true-lit !)
     where
       given : Told g (fillAnswer (g .pl) (g .wd) (g .ht) true) (gather 0 (n g) (entry g))
       given = all-filled (g .pl) (g .wd) (g .ht) (g .ys) each
@@ -250,7 +250,7 @@ module _ {M : Type 1} (𝓤 : URA M) (H : Heap 𝓤) (A : Atoms 𝓤) (W : Given
       assigns ! (un ! (load ! (from ! (stop !)) (look ! 13 refl)) tt) (from ! (stop !)) (init ! 16 refl (tt, tt)) $
       first ! $ branches ! (load ! (from ! (stop !)) (look ! 16 refl))
       (λ out. forget ! 10 refl $ forget ! 12 refl $ forget ! 13 refl $ forget ! 14 refl $ forget ! 15 refl $ forget ! 16 refl $
-      ends false (g .ys) i refl (λ y told. (told ∙ bad (sym e ∙ is-false r out) .0, bad (sym e ∙ is-false r out) .1)) opdFalse _ refl (false-lit !))
+      ends false (g .ys) i refl (λ y said. (said ∙ bad (sym e ∙ is-false r out) .0, bad (sym e ∙ is-false r out) .1)) opdFalse _ refl (false-lit !))
       (λ inn. skips ! $ exec ! C Λ En more (anyQ (Turned₁ t)) $
       assigns-last ! (bin ! (load ! (from ! (stop !)) (look ! 9 refl)) (lit ! tt) (record { fits = step-fits g i lt })) (from ! (stop !)) (store ! 9 refl (tt, record { fits = step-fits g i lt })) $
       forget ! 10 refl $ forget ! 12 refl $ forget ! 13 refl $ forget ! 14 refl $ forget ! 15 refl $ forget ! 16 refl $ again ! (Nearer g) At₁ t (next (sym e ∙ not-not r inn)) (add-one-dec (n g) i lt)))))))

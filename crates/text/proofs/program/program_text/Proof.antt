@@ -7,7 +7,7 @@ use borrow.Author.Needs.{needs}
 use Rattle.scope.specs.Calls.{readBook}
 use Rattle.scope.specs.Program.{planText}
 use Rattle.scope.specs.declared.Outcome.{Outcome}
-use Rattle.book.proofs.ProgramText.{text-of-read, text-of-refused}
+use Rattle.text.proofs.ProgramText.{text-of-read, text-of-refused}
 use Rattle.text.specs.Texts.{textOf}
 use Rattle.text.proofs.ProgramTexts.{also-of-longer}
 use Rattle.text.proofs.program.program_text.Statement.{statement}

@@ -18,14 +18,14 @@ use Rattle.scope.specs.declared.Refusal.the-variants.{Extra}
 use Rattle.scope.specs.declared.Reading.{Reading}
 use Rattle.checks.proofs.Searches.{Found, first-found, first-none, first-same}
 use Rattle.checks.proofs.Chains.{answered-some}
 use Rattle.book.specs.Scan.{pixelFrom}
 use Rattle.book.proofs.Unused.{pixelTest-same}
-use Rattle.book.proofs.ProgramText.{text-of-refused}
+use Rattle.text.proofs.ProgramText.{text-of-refused}
 use Rattle.book.proofs.Reading.{FromTo, count-read-iff, pattern-read-iff, bytes-read-iff}
 use Rattle.book.proofs.Longer.{extra-decides, same-byte, same-start, same-count, same-place, same-pixel}
 use Rattle.book.proofs.Scanning.{pattern-read-from, pixel-read-from, both-there, count-decides-from}
 use Rattle.book.proofs.ReaderRefusals.{first-count-decides}
 use Rattle.book.proofs.Scanned.{pattern-decides}
 
 -- Each pattern that is read has at most 1 + 2 × 64 bytes.
 start-at-most : (s : List ℕ) (n : ℕ) → ((m : ℕ) → m < n → patternRead s m ≡ none) → start s n ≤ 1 + 129 * n
