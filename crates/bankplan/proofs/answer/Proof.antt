@@ -32,13 +32,10 @@ slice-aggregate-program-text : tie.Need-slice-aggregate-program-text
 slice-aggregate-program-text c =
     let s = c .before .before in sym (length-take-le (s .args .count) (s .args .buf .now) (s .pre .0))
 
-program-text-requires : tie.Need-program-text-requires
-program-text-requires c κs = search needs
-
 returns : tie.Need-returns
 returns c =
     let s = c .before .before .before in
     input-answered (s .args .buf .now) (s .args .count) _ (s .pre .0) (s .pre .1) (c .program-text .ensures)
 
 pub answer-spec : {M : Type 1} → statement M
-answer-spec = tie.close (tie.spec slice-aggregate-program-text program-text-requires returns)
+answer-spec = tie.close (tie.spec slice-aggregate-program-text (λ c κs. search needs) returns)

@@ -10,12 +10,6 @@ use Rattle.capi.proofs.Passed.{told-of}
 use Rattle.capi.proofs.bankplan_address.Statement.{statement}
 use Rattle.capi.proofs.bankplan_address.Tie as tie
 
-address-requires : tie.Need-address-requires
-address-requires c κs = search needs
-
-tell-counted-requires : tie.Need-tell-counted-requires
-tell-counted-requires c κs = search needs
-
 returns : tie.Need-returns
 unfolding plan
 returns c =
@@ -27,6 +21,5 @@ pub bankplan-address-spec : {M : Type 1} → statement M
 bankplan-address-spec =
     tie.close
     (tie.spec
-    address-requires
-    tell-counted-requires
+    (λ c κs. search needs) (λ c κs. search needs)
     returns)

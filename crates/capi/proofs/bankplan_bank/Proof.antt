@@ -10,12 +10,6 @@ use Rattle.capi.proofs.Passed.{told-of}
 use Rattle.capi.proofs.bankplan_bank.Statement.{statement}
 use Rattle.capi.proofs.bankplan_bank.Tie as tie
 
-bank-requires : tie.Need-bank-requires
-bank-requires c κs = search needs
-
-tell-counted-requires : tie.Need-tell-counted-requires
-tell-counted-requires c κs = search needs
-
 returns : tie.Need-returns
 unfolding plan
 returns c =
@@ -27,6 +21,5 @@ pub bankplan-bank-spec : {M : Type 1} → statement M
 bankplan-bank-spec =
     tie.close
     (tie.spec
-    bank-requires
-    tell-counted-requires
+    (λ c κs. search needs) (λ c κs. search needs)
     returns)

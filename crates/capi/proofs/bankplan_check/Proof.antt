@@ -9,15 +9,6 @@ use Rattle.capi.proofs.Passed.{told-of}
 use Rattle.capi.proofs.bankplan_check.Statement.{statement}
 use Rattle.capi.proofs.bankplan_check.Tie as tie
 
-book-of-requires : tie.Need-book-of-requires
-book-of-requires c κs = search needs
-
-check-requires : tie.Need-check-requires
-check-requires c κs = search needs
-
-tell-verdict-requires : tie.Need-tell-verdict-requires
-tell-verdict-requires c κs = search needs
-
 returns : tie.Need-returns
 returns c =
     let r = c .before .before in
@@ -31,7 +22,5 @@ pub bankplan-check-spec : {M : Type 1} → statement M
 bankplan-check-spec =
     tie.close
     (tie.spec
-    book-of-requires
-    check-requires
-    tell-verdict-requires
+    (λ c κs. search needs) (λ c κs. search needs) (λ c κs. search needs)
     returns)

@@ -7,12 +7,6 @@ use Rattle.capi.proofs.Passed.{told-of}
 use Rattle.capi.proofs.bankplan_depth.Statement.{statement}
 use Rattle.capi.proofs.bankplan_depth.Tie as tie
 
-depth-requires : tie.Need-depth-requires
-depth-requires c κs = search needs
-
-tell-counted-requires : tie.Need-tell-counted-requires
-tell-counted-requires c κs = search needs
-
 returns : tie.Need-returns
 unfolding plan
 returns c = told-of ofCounted (c .before .before .depth .ensures) (c .tell-counted .ensures)
@@ -21,6 +15,5 @@ pub bankplan-depth-spec : {M : Type 1} → statement M
 bankplan-depth-spec =
     tie.close
     (tie.spec
-    depth-requires
-    tell-counted-requires
+    (λ c κs. search needs) (λ c κs. search needs)
     returns)

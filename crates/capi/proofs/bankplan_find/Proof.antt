@@ -6,15 +6,6 @@ use Rattle.capi.proofs.Passed.{told-of}
 use Rattle.capi.proofs.bankplan_find.Statement.{statement}
 use Rattle.capi.proofs.bankplan_find.Tie as tie
 
-book-of-requires : tie.Need-book-of-requires
-book-of-requires c κs = search needs
-
-find-requires : tie.Need-find-requires
-find-requires c κs = search needs
-
-tell-planned-requires : tie.Need-tell-planned-requires
-tell-planned-requires c κs = search needs
-
 returns : tie.Need-returns
 returns c =
     let r = c .before .before in
@@ -24,7 +15,5 @@ pub bankplan-find-spec : {M : Type 1} → statement M
 bankplan-find-spec =
     tie.close
     (tie.spec
-    book-of-requires
-    find-requires
-    tell-planned-requires
+    (λ c κs. search needs) (λ c κs. search needs) (λ c κs. search needs)
     returns)

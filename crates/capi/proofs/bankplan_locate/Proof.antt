@@ -7,12 +7,6 @@ use Rattle.capi.proofs.Passed.{told-of}
 use Rattle.capi.proofs.bankplan_locate.Statement.{statement}
 use Rattle.capi.proofs.bankplan_locate.Tie as tie
 
-locate-requires : tie.Need-locate-requires
-locate-requires c κs = search needs
-
-tell-located-requires : tie.Need-tell-located-requires
-tell-located-requires c κs = search needs
-
 returns : tie.Need-returns
 unfolding plan
 returns c = told-of ofLocated (c .before .before .locate .ensures) (c .tell-located .ensures)
@@ -21,6 +15,5 @@ pub bankplan-locate-spec : {M : Type 1} → statement M
 bankplan-locate-spec =
     tie.close
     (tie.spec
-    locate-requires
-    tell-located-requires
+    (λ c κs. search needs) (λ c κs. search needs)
     returns)

@@ -9,12 +9,6 @@ use Rattle.capi.proofs.Passed.{told-of}
 use Rattle.capi.proofs.bankplan_normal_form.Statement.{statement}
 use Rattle.capi.proofs.bankplan_normal_form.Tie as tie
 
-normal-form-requires : tie.Need-normal-form-requires
-normal-form-requires c κs = search needs
-
-tell-planned-requires : tie.Need-tell-planned-requires
-tell-planned-requires c κs = search needs
-
 returns : tie.Need-returns
 returns c =
     let b = c .before .before in
@@ -27,6 +21,5 @@ pub bankplan-normal-form-spec : {M : Type 1} → statement M
 bankplan-normal-form-spec =
     tie.close
     (tie.spec
-    normal-form-requires
-    tell-planned-requires
+    (λ c κs. search needs) (λ c κs. search needs)
     returns)

@@ -7,15 +7,6 @@ use Rattle.capi.proofs.Passed.{told-value, told-refusal, reading-done, 
 use Rattle.capi.proofs.bankplan_read_book.Statement.{statement}
 use Rattle.capi.proofs.bankplan_read_book.Tie as tie
 
-read-book-requires : tie.Need-read-book-requires
-read-book-requires c κs = search needs
-
-enum-told : tie.Need-enum-told
-enum-told c = search needs
-
-tell-outcome-requires : tie.Need-tell-outcome-requires
-tell-outcome-requires c κs = search needs
-
 returns : tie.Need-returns
 returns c =
     let told = c .before .before .enum-told .given .1 in
@@ -23,18 +14,6 @@ returns c =
       told-refusal told (reading-refused _ refused) (c .tell-outcome .ensures),
       (kept-refused _ flatColumns _ refused, (kept-refused _ flatRows _ refused, kept-refused _ flatUsed _ refused)),
     )
-
-enum-told-2 : tie.Need-enum-told-2
-enum-told-2 c = search needs
-
-put-pixels-requires : tie.Need-put-pixels-requires
-put-pixels-requires c κs = search needs
-
-put-used-requires : tie.Need-put-used-requires
-put-used-requires c κs = search needs
-
-element-write-answer : tie.Need-element-write-answer
-element-write-answer c = search needs
 
 returns-2 : tie.Need-returns-2
 returns-2 c =
@@ -55,12 +34,7 @@ pub bankplan-read-book-spec : {M : Type 1} → statement M
 bankplan-read-book-spec =
     tie.close
     (tie.spec
-    read-book-requires
-    enum-told
-    tell-outcome-requires
+    (λ c κs. search needs) (λ c. search needs) (λ c κs. search needs)
     returns
-    enum-told-2
-    put-pixels-requires
-    put-used-requires
-    element-write-answer
+    (λ c. search needs) (λ c κs. search needs) (λ c κs. search needs) (λ c. search needs)
     returns-2)

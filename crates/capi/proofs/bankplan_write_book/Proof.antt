@@ -6,18 +6,6 @@ use Rattle.capi.proofs.Passed.{told-of}
 use Rattle.capi.proofs.bankplan_write_book.Statement.{statement}
 use Rattle.capi.proofs.bankplan_write_book.Tie as tie
 
-book-of-requires : tie.Need-book-of-requires
-book-of-requires c κs = search needs
-
-write-book-requires : tie.Need-write-book-requires
-write-book-requires c κs = search needs
-
-tell-counted-requires : tie.Need-tell-counted-requires
-tell-counted-requires c κs = search needs
-
-same-length : tie.Need-same-length
-same-length c = search needs
-
 returns : tie.Need-returns
 returns c =
     let w = c .before .before .before .before in
@@ -28,8 +16,5 @@ pub bankplan-write-book-spec : {M : Type 1} → statement M
 bankplan-write-book-spec =
     tie.close
     (tie.spec
-    book-of-requires
-    write-book-requires
-    tell-counted-requires
-    same-length
+    (λ c κs. search needs) (λ c κs. search needs) (λ c κs. search needs) (λ c. search needs)
     returns)

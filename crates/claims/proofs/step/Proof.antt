@@ -74,58 +74,19 @@ module _ (book : Book) (p : Plan) (W H : ℕ) (mem out : List ℕ) where
       let (answer, content) = same-gives (ap (λ v. Calls.fetch book p W H mem n v out) (entry-handed w16 i j f g)) gives in
       rw e (record { replied = ap₂ (λ c xs. Demand.fetched (ofCounted c) xs) answer content; left = refl }, content)
 
-enum-known-call : tie.Need-enum-known-call
-enum-known-call c = search needs
-
-store-requires : tie.Need-store-requires
-store-requires c κs = search needs
-
-enum-known-call-2 : tie.Need-enum-known-call-2
-enum-known-call-2 c = search needs
-
-clear-requires : tie.Need-clear-requires
-clear-requires c κs = search needs
-
-enum-known-call-3 : tie.Need-enum-known-call-3
-enum-known-call-3 c = search needs
-
-load-requires : tie.Need-load-requires
-load-requires c κs = search needs
-
-enum-known-call-4 : tie.Need-enum-known-call-4
-enum-known-call-4 c = search needs
-
-fetch-requires : tie.Need-fetch-requires
-fetch-requires c κs = search needs
-
-same-length : tie.Need-same-length
-same-length c = search needs
-
 returns : tie.Need-returns
 returns c =
     let t = c .before .before .before .before in
     let v = t .before .call .given in
     store-steps _ _ _ _ _ _ (v .1) (t .known-told .given .0 .1) (t .known-told .given .1 .0 .1) (c .before .before .store .ensures)
 
-same-length-2 : tie.Need-same-length-2
-same-length-2 c = search needs
-
 returns-2 : tie.Need-returns-2
 returns-2 c = clear-steps _ _ _ _ _ _ (c .before .before .before .before .before .call2 .given .1) (c .before .before .clear .ensures)
-
-same-length-3 : tie.Need-same-length-3
-same-length-3 c = search needs
 
 returns-3 : tie.Need-returns-3
 returns-3 c =
     let t = c .before .before in
     load-steps _ _ _ _ _ _ (t .before .call3 .given .1) (t .known-told3 .given .0 .1) (t .known-told3 .given .1 .0 .1) (c .load .ensures)
-
-same-length-4 : tie.Need-same-length-4
-same-length-4 c = search needs
-
-same-length-5 : tie.Need-same-length-5
-same-length-5 c = search needs
 
 returns-4 : tie.Need-returns-4
 returns-4 c =
@@ -136,20 +97,12 @@ pub step-spec : {M : Type 1} → statement M
 step-spec =
     tie.close
     (tie.spec
-    enum-known-call
-    store-requires
-    enum-known-call-2
-    clear-requires
-    enum-known-call-3
-    load-requires
-    enum-known-call-4
-    fetch-requires
-    same-length
+    (λ c. search needs) (λ c κs. search needs) (λ c. search needs) (λ c κs. search needs) (λ c. search needs)
+    (λ c κs. search needs) (λ c. search needs) (λ c κs. search needs) (λ c. search needs)
     returns
-    same-length-2
+    (λ c. search needs)
     returns-2
-    same-length-3
+    (λ c. search needs)
     returns-3
-    same-length-4
-    same-length-5
+    (λ c. search needs) (λ c. search needs)
     returns-4)

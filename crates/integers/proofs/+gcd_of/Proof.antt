@@ -31,9 +31,6 @@ step a (suc b) h = euclids-rule .step a b
 returns : (t : ℕ) → lts.Need-returns (below t, reads.Post) (at t) reads.Post
 returns t c = rw (c .if1 .taken) (sym (euclids-rule .stop (c .before .args .a)))
 
-rem-gcd-of : (t : ℕ) → lts.Need-rem-gcd-of (below t, reads.Post) (at t) reads.Post
-rem-gcd-of t c = search needs
-
 gcd-of-requires : (t : ℕ) → lts.Need-gcd-of-requires (below t, reads.Post) (at t) reads.Post
 gcd-of-requires t c κs =
     (omega (arith, c .before .pre .0, mod-lt (c .before .args .a) {m = c .before .args .b} (omega arith)), tt)
@@ -51,6 +48,6 @@ pub +gcd-of-spec : {M : Type 1} → statement M
     (at t)
     reads.Post
     (returns t)
-    (rem-gcd-of t)
+    (λ c. search needs)
     (gcd-of-requires t)
     (returns-2 t)

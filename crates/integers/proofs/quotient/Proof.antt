@@ -16,21 +16,6 @@ use Rattle.integers.proofs.Sizes.{small-fits, size-of-sum, size-of-quot
 use Rattle.integers.proofs.quotient.Statement.{statement}
 use Rattle.integers.proofs.quotient.Tie as tie
 
-raised32-requires : tie.Need-raised32-requires
-raised32-requires c κs = search needs
-
-mul-result : tie.Need-mul-result
-mul-result c = search needs
-
-add-result : tie.Need-add-result
-add-result c = search needs
-
-add-result-2 : tie.Need-add-result-2
-add-result-2 c = search needs
-
-div-result : tie.Need-div-result
-div-result c = search needs
-
 -- r is z raised by 2^31, so n, the quotient that the code forms, is z's raised by 2^31: both fit 64 bits
 module _ (r : ℕ) (z : ℤ) (top : ℕ) (f : SFits w32 z) (e : pos r ≡ toZ w32 (ofZ w32 z) +ℤ pos 2147483648) where
   abbrev n : ℕ
@@ -77,11 +62,7 @@ pub quotient-spec : {M : Type 1} → statement M
 quotient-spec =
     tie.close
     (tie.spec
-    raised32-requires
-    mul-result
-    add-result
-    add-result-2
-    div-result
+    (λ c κs. search needs) (λ c. search needs) (λ c. search needs) (λ c. search needs) (λ c. search needs)
     cast-result
     sub-result
     returns)

@@ -5,21 +5,6 @@ use Rattle.integers.proofs.Raised.{raised-read, raised-remainder}
 use Rattle.integers.proofs.remainder.Statement.{statement}
 use Rattle.integers.proofs.remainder.Tie as tie
 
-raised32-requires : tie.Need-raised32-requires
-raised32-requires c κs = search needs
-
-mul-result : tie.Need-mul-result
-mul-result c = search needs
-
-add-result : tie.Need-add-result
-add-result c = search needs
-
-add-result-2 : tie.Need-add-result-2
-add-result-2 c = search needs
-
-rem-result : tie.Need-rem-result
-rem-result c = search needs
-
 returns : tie.Need-returns
 returns c =
     raised-remainder 2147483648 (c .raised32 .result) (c .before .args .z)
@@ -28,4 +13,5 @@ returns c =
 
 pub remainder-spec : {M : Type 1} → statement M
 remainder-spec =
-    tie.close (tie.spec raised32-requires mul-result add-result add-result-2 rem-result returns)
+    tie.close
+    (tie.spec (λ c κs. search needs) (λ c. search needs) (λ c. search needs) (λ c. search needs) (λ c. search needs) returns)

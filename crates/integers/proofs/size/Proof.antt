@@ -6,12 +6,6 @@ use Rattle.integers.proofs.Raised.{raised-read, lowered-size, negative-
 use Rattle.integers.proofs.size.Statement.{statement}
 use Rattle.integers.proofs.size.Tie as tie
 
-raised16-requires : tie.Need-raised16-requires
-raised16-requires c κs = search needs
-
-sub-result : tie.Need-sub-result
-sub-result c = search needs
-
 returns : tie.Need-returns
 returns c =
     sym
@@ -27,4 +21,4 @@ returns-2 c =
     (c .if1 .left))
 
 pub size-spec : {M : Type 1} → statement M
-size-spec = tie.close (tie.spec raised16-requires sub-result returns returns-2)
+size-spec = tie.close (tie.spec (λ c κs. search needs) (λ c. search needs) returns returns-2)

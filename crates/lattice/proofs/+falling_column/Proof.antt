@@ -34,12 +34,6 @@ returns t c =
     let a = c .before .args in
     rw (c .if1 .taken) (sym (column-stops (a .a) (omega arith) (a .x) (a .p) (a .y) (omega arith)))
 
-div-falling-column : (t : ℕ) → lts.Need-div-falling-column (below t, reads.Post) (at t) reads.Post
-div-falling-column t c = search needs
-
-sub-falling-column : (t : ℕ) → lts.Need-sub-falling-column (below t, reads.Post) (at t) reads.Post
-sub-falling-column t c = search needs
-
 add-falling-column : (t : ℕ) → lts.Need-add-falling-column (below t, reads.Post) (at t) reads.Post
 add-falling-column t c =
     let a = c .before .args in
@@ -47,12 +41,6 @@ add-falling-column t c =
 
 mul-falling-column : (t : ℕ) → lts.Need-mul-falling-column (below t, reads.Post) (at t) reads.Post
 mul-falling-column t c = omega (arith, add-falling-column t c)
-
-rem-falling-column : (t : ℕ) → lts.Need-rem-falling-column (below t, reads.Post) (at t) reads.Post
-rem-falling-column t c = search needs
-
-rem-falling-column-2 : (t : ℕ) → lts.Need-rem-falling-column-2 (below t, reads.Post) (at t) reads.Post
-rem-falling-column-2 t c = search needs
 
 falling-column-requires : (t : ℕ) → lts.Need-falling-column-requires (below t, reads.Post) (at t) reads.Post
 falling-column-requires t c κs =
@@ -78,11 +66,9 @@ pub +falling-column-spec : {M : Type 1} → statement M
     (at t)
     reads.Post
     (returns t)
-    (div-falling-column t)
-    (sub-falling-column t)
+    (λ c. search needs) (λ c. search needs)
     (mul-falling-column t)
     (add-falling-column t)
-    (rem-falling-column t)
-    (rem-falling-column-2 t)
+    (λ c. search needs) (λ c. search needs)
     (falling-column-requires t)
     (returns-2 t)

@@ -13,18 +13,6 @@ use Rattle.scope.specs.Plans.{at, determinant, determinantSize}
 use Rattle.lattice.proofs.determinant_size.Statement.{statement}
 use Rattle.lattice.proofs.determinant_size.Tie as tie
 
-raised16-requires : tie.Need-raised16-requires
-raised16-requires c κs = search needs
-
-raised16-requires-2 : tie.Need-raised16-requires-2
-raised16-requires-2 c κs = search needs
-
-raised16-requires-3 : tie.Need-raised16-requires-3
-raised16-requires-3 c κs = search needs
-
-raised16-requires-4 : tie.Need-raised16-requires-4
-raised16-requires-4 c κs = search needs
-
 -- p, q, s, t are the coordinates raised: the determinant is a difference of two numbers that are not negative
 raised-determinant :
     (x1 x2 y1 y2 : ℤ) (p q s t : ℕ)
@@ -73,29 +61,14 @@ module _ (c : tie.After-raised164) where
 mul-more : tie.Need-mul-more
 mul-more c = omega (arith, products-small c)
 
-add-more : tie.Need-add-more
-add-more c = search needs
-
-mul-more-2 : tie.Need-mul-more-2
-mul-more-2 c = search needs
-
 add-more-2 : tie.Need-add-more-2
 add-more-2 c = omega (arith, products-small c)
 
 mul-less : tie.Need-mul-less
 mul-less c = omega (arith, products-small c)
 
-add-less : tie.Need-add-less
-add-less c = search needs
-
-mul-less-2 : tie.Need-mul-less-2
-mul-less-2 c = search needs
-
 add-less-2 : tie.Need-add-less-2
 add-less-2 c = omega (arith, products-small c)
-
-sub-result : tie.Need-sub-result
-sub-result c = search needs
 
 returns : tie.Need-returns
 unfolding determinantSize
@@ -109,18 +82,13 @@ pub determinant-size-spec : {M : Type 1} → statement M
 determinant-size-spec =
     tie.close
     (tie.spec
-    raised16-requires
-    raised16-requires-2
-    raised16-requires-3
-    raised16-requires-4
+    (λ c κs. search needs) (λ c κs. search needs) (λ c κs. search needs) (λ c κs. search needs)
     mul-more
-    add-more
-    mul-more-2
+    (λ c. search needs) (λ c. search needs)
     add-more-2
     mul-less
-    add-less
-    mul-less-2
+    (λ c. search needs) (λ c. search needs)
     add-less-2
-    sub-result
+    (λ c. search needs)
     returns
     returns-2)

@@ -74,9 +74,6 @@ module _ (c : tie.After-determinant-size) where
       let f = c .before .fits in
       c .determinant-size .ensures ∙ ap₂ determinantSize (pixel-handed (f .x1) (f .x2)) (pixel-handed (f .y1) (f .y2))
 
-determinant-size-requires : tie.Need-determinant-size-requires
-determinant-size-requires c κs = search needs
-
 returns : tie.Need-returns
 returns c =
     sym (dependent-answer (x (c .before)) (y (c .before)) (sym (determinant-size-is (c .before)) ∙ c .if1 .taken))
@@ -89,15 +86,6 @@ returns-2 c =
     sym
     (large-answer (x (c .before .before)) (y (c .before .before)) (independent (c .before))
     (omega (arith, determinant-size-is (c .before .before))))
-
-size-requires : tie.Need-size-requires
-size-requires c κs = search needs
-
-size-requires-2 : tie.Need-size-requires-2
-size-requires-2 c κs = search needs
-
-gcd-of-requires : tie.Need-gcd-of-requires
-gcd-of-requires c κs = search needs
 
 -- the normal form is a plan, and the code's d and a are its own
 module _ (c : tie.After-gcd-of) where
@@ -210,12 +198,10 @@ pub normal-form-spec : {M : Type 1} → statement M
 normal-form-spec =
     tie.close
     (tie.spec
-    determinant-size-requires
+    (λ c κs. search needs)
     returns
     returns-2
-    size-requires
-    size-requires-2
-    gcd-of-requires
+    (λ c κs. search needs) (λ c κs. search needs) (λ c κs. search needs)
     div-a
     upright-column-requires
     upright-column-requires-2

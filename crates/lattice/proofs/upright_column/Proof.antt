@@ -41,29 +41,14 @@ module _ (z : ℤ) (f : SFits w16 z) where
 row-raised : (c : tie.After-raised16) → pos (c .raised16 .result) ≡ c .before .args .x2 +ℤ pos 32768
 row-raised c = raised-read 32768 (c .before .fits .x2) (c .raised16 .ensures .0)
 
-sub-top : tie.Need-sub-top
-sub-top c = search needs
-
-cast-top : tie.Need-cast-top
-cast-top c = search needs
-
-raised16-requires : tie.Need-raised16-requires
-raised16-requires c κs = search needs
-
 cast-remainder : tie.Need-cast-remainder
 cast-remainder c = widened-fits w16 w32 tt (c .before .before .args .x1) (c .before .before .fits .x1)
 
 sub-remainder : tie.Need-sub-remainder
 sub-remainder c = turned-fits (c .before .before .args .x1) (c .before .before .fits .x1)
 
-remainder-requires : tie.Need-remainder-requires
-remainder-requires c κs = search needs
-
 cast-remainder-2 : tie.Need-cast-remainder-2
 cast-remainder-2 c = widened-fits w16 w32 tt (c .before .before .args .x1) (c .before .before .fits .x1)
-
-remainder-requires-2 : tie.Need-remainder-requires-2
-remainder-requires-2 c κs = search needs
 
 returns : tie.Need-returns
 returns c =
@@ -87,13 +72,11 @@ pub upright-column-spec : {M : Type 1} → statement M
 upright-column-spec =
     tie.close
     (tie.spec
-    sub-top
-    cast-top
-    raised16-requires
+    (λ c. search needs) (λ c. search needs) (λ c κs. search needs)
     cast-remainder
     sub-remainder
-    remainder-requires
+    (λ c κs. search needs)
     cast-remainder-2
-    remainder-requires-2
+    (λ c κs. search needs)
     returns
     returns-2)

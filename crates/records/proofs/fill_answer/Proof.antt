@@ -64,17 +64,8 @@ module _ (p : Plan) (W H : ℕ) (inside : Bool) where
       unfolding whenever
       one-outside e = refused Refusal.Outside (past-depth ∙ ap (λ (b : Bool). whenever (not b) Refusal.Outside) e)
 
-depth-requires : tie.Need-depth-requires
-depth-requires c κs = search needs
-
-enum-known-r : tie.Need-enum-known-r
-enum-known-r c = search needs
-
 returns : tie.Need-returns
 returns c = no-depth _ _ _ _ (c .before .before .before .depth .ensures) _ (c .before .r .given .1)
-
-enum-told : tie.Need-enum-told
-enum-told c = search needs
 
 returns-2 : tie.Need-returns-2
 returns-2 c = all-inside _ _ _ _ (c .before .before .before .depth .ensures) (c .before .enum-told .given .1) (c .if1 .taken)
@@ -83,4 +74,4 @@ returns-3 : tie.Need-returns-3
 returns-3 c = one-outside _ _ _ _ (c .before .before .before .depth .ensures) (c .before .enum-told .given .1) (c .if1 .left)
 
 pub fill-answer-spec : {M : Type 1} → statement M
-fill-answer-spec = tie.close (tie.spec depth-requires enum-known-r returns enum-told returns-2 returns-3)
+fill-answer-spec = tie.close (tie.spec (λ c κs. search needs) (λ c. search needs) returns (λ c. search needs) returns-2 returns-3)

@@ -8,15 +8,6 @@ use Rattle.records.proofs.Placing.{record-pixel-handed, no-address, has
 use Rattle.records.proofs.is_placeable.Statement.{statement}
 use Rattle.records.proofs.is_placeable.Tie as tie
 
-address-requires : tie.Need-address-requires
-address-requires c κs = search needs
-
-enum-told : tie.Need-enum-told
-enum-told c = search needs
-
-enum-told-2 : tie.Need-enum-told-2
-enum-told-2 c = search needs
-
 module _ (c : tie.After-address) where
   abbrev start : tie.Start
   start = c .before .before .before
@@ -36,4 +27,4 @@ returns-2 : tie.Need-returns-2
 returns-2 c = sym (no-address _ _ _ _ (address-given (c .before .before)) (c .enum-told2 .given .1))
 
 pub is-placeable-spec : {M : Type 1} → statement M
-is-placeable-spec = tie.close (tie.spec address-requires enum-told enum-told-2 returns returns-2)
+is-placeable-spec = tie.close (tie.spec (λ c κs. search needs) (λ c. search needs) (λ c. search needs) returns returns-2)

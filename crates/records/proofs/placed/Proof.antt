@@ -14,24 +14,6 @@ use Rattle.records.proofs.Placing.{record-pixel-handed, record-put, kep
 use Rattle.records.proofs.placed.Statement.{statement}
 use Rattle.records.proofs.placed.Tie as tie
 
-address-requires : tie.Need-address-requires
-address-requires c κs = search needs
-
-enum-known-address : tie.Need-enum-known-address
-enum-known-address c = search needs
-
-enum-told : tie.Need-enum-told
-enum-told c = search needs
-
-bank-requires : tie.Need-bank-requires
-bank-requires c κs = search needs
-
-enum-known-bank : tie.Need-enum-known-bank
-enum-known-bank c = search needs
-
-enum-told-2 : tie.Need-enum-told-2
-enum-told-2 c = search needs
-
 -- the pixel's address was asked for
 module _ (c : tie.After-address) where
   abbrev start : tie.Start
@@ -102,13 +84,9 @@ pub placed-spec : {M : Type 1} → statement M
 placed-spec =
     tie.close
     (tie.spec
-    address-requires
-    enum-known-address
-    enum-told
+    (λ c κs. search needs) (λ c. search needs) (λ c. search needs)
     returns
-    bank-requires
-    enum-known-bank
-    enum-told-2
+    (λ c κs. search needs) (λ c. search needs) (λ c. search needs)
     returns-2
     cast-t11
     cast-t12

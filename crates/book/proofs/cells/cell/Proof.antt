@@ -57,12 +57,6 @@ module _ (c : tie.After-raised82) where
       let b = between-inside y j row s t in
       omega (arith, cell-inside (at i j) a b, offset-of-raised x i column a, offset-of-raised y j row b)
 
-raised8-requires : tie.Need-raised8-requires
-raised8-requires c κs = search needs
-
-raised8-requires-2 : tie.Need-raised8-requires-2
-raised8-requires-2 c κs = search needs
-
 returns : tie.Need-returns
 returns c = column-low (c .before) (c .if1 .taken)
 
@@ -77,12 +71,6 @@ returns-4 c =
     row-high (c .before .before .before .before) (c .before .before .before .if1 .left) (c .before .before .if2 .left)
     (c .if4 .taken)
 
-mul-result : tie.Need-mul-result
-mul-result c = search needs
-
-add-result : tie.Need-add-result
-add-result c = search needs
-
 returns-5 : tie.Need-returns-5
 returns-5 c =
     both-inside (c .before .before .before .before) (c .before .before .before .if1 .left) (c .before .before .if2 .left)
@@ -92,12 +80,10 @@ pub cell-spec : {M : Type 1} → statement M
 cell-spec =
     tie.close
     (tie.spec
-    raised8-requires
-    raised8-requires-2
+    (λ c κs. search needs) (λ c κs. search needs)
     returns
     returns-2
     returns-3
     returns-4
-    mul-result
-    add-result
+    (λ c. search needs) (λ c. search needs)
     returns-5)

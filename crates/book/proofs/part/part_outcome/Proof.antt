@@ -39,20 +39,11 @@ module _ (s : List ℕ) (n : ℕ) {outcome : Outcome} (answer : outcome ≡ outc
     unfolding partOutcome
     done-part h = answered-by-done (partTest s n) (part-test-iff s n .1 (taken, h))
 
-bytes-outcome-requires : tie.Need-bytes-outcome-requires
-bytes-outcome-requires c κs = search needs
-
-enum-told : tie.Need-enum-told
-enum-told c = search needs
-
 returns : tie.Need-returns
 returns c =
     let b = c .before .before in
     let u = b .before .before .args in
     refused-bytes (u .s .now) (u .n) (b .bytes-outcome .ensures) (c .enum-told .given .1)
-
-enum-told-2 : tie.Need-enum-told-2
-enum-told-2 c = search needs
 
 shared-slice-read-if1 : tie.Need-shared-slice-read-if1
 shared-slice-read-if1 c =
@@ -81,10 +72,9 @@ pub part-outcome-spec : {M : Type 1} → statement M
 part-outcome-spec =
     tie.close
     (tie.spec
-    bytes-outcome-requires
-    enum-told
+    (λ c κs. search needs) (λ c. search needs)
     returns
-    enum-told-2
+    (λ c. search needs)
     shared-slice-read-if1
     cast-if1
     returns-2

@@ -6,20 +6,11 @@ use Rattle.book.proofs.PartAnswers.{refused-place, start-shows, taken-p
 use Rattle.book.proofs.part.part_place.Statement.{statement}
 use Rattle.book.proofs.part.part_place.Tie as tie
 
-part-outcome-requires : tie.Need-part-outcome-requires
-part-outcome-requires c κs = search needs
-
-enum-told : tie.Need-enum-told
-enum-told c = search needs
-
 returns : tie.Need-returns
 returns c =
     let b = c .before .before in
     let u = b .before .before .args in
     refused-place (u .s .now) (u .n) (b .part-outcome .ensures) (c .enum-told .given .1)
-
-enum-told-2 : tie.Need-enum-told-2
-enum-told-2 c = search needs
 
 start-of-requires : tie.Need-start-of-requires
 start-of-requires c κs =
@@ -43,4 +34,4 @@ returns-2 c =
 pub part-place-spec : {M : Type 1} → statement M
 part-place-spec =
     tie.close
-    (tie.spec part-outcome-requires enum-told returns enum-told-2 start-of-requires add-result returns-2)
+    (tie.spec (λ c κs. search needs) (λ c. search needs) returns (λ c. search needs) start-of-requires add-result returns-2)

@@ -39,21 +39,6 @@ module _ (s : List ℕ) (n : ℕ) {outcome : Outcome} (answer : outcome ≡ part
     at-first-pixel : (p : ℕ × ℕ) → _≡_ {A = ℕ × ℕ} (p .0, at + 1 + p .1) (p .0, p .1 + partPlace s n)
     at-first-pixel p = ap {B = ℕ × ℕ} (λ k. (p .0, k)) (omega (arith, taken-place s n answer done is))
 
-part-outcome-requires : tie.Need-part-outcome-requires
-part-outcome-requires c κs = search needs
-
-enum-told : tie.Need-enum-told
-enum-told c = search needs
-
-sub-result : tie.Need-sub-result
-sub-result c = search needs
-
-part-result-start : tie.Need-part-result-start
-part-result-start c = search needs
-
-part-result-end : tie.Need-part-result-end
-part-result-end c = search needs
-
 returns : tie.Need-returns
 returns c =
     let b = c .before .before .before in
@@ -62,9 +47,6 @@ returns c =
       empty-part (u .s .now) (u .n) (b .part-outcome .ensures) refused,
       at-start (u .s .now) (u .n) (b .part-outcome .ensures) refused (u .s .ptr),
     )
-
-enum-told-2 : tie.Need-enum-told-2
-enum-told-2 c = search needs
 
 start-of-requires : tie.Need-start-of-requires
 start-of-requires c κs =
@@ -99,12 +81,6 @@ mul-end c = omega (arith, c .shared-slice-known2 .given (c .before .start-of .re
 add-end : tie.Need-add-end
 add-end c = omega (arith, part-result-end-2 c)
 
-sub-result-2 : tie.Need-sub-result-2
-sub-result-2 c = search needs
-
-part-result-start-2 : tie.Need-part-result-start-2
-part-result-start-2 c = search needs
-
 returns-2 : tie.Need-returns-2
 unfolding byte
 returns-2 c =
@@ -120,20 +96,15 @@ pub pattern-part-spec : {M : Type 1} → statement M
 pattern-part-spec =
     tie.close
     (tie.spec
-    part-outcome-requires
-    enum-told
-    sub-result
-    part-result-start
-    part-result-end
+    (λ c κs. search needs) (λ c. search needs) (λ c. search needs) (λ c. search needs) (λ c. search needs)
     returns
-    enum-told-2
+    (λ c. search needs)
     start-of-requires
     add-first
     shared-slice-read-end
     cast-end
     mul-end
     add-end
-    sub-result-2
-    part-result-start-2
+    (λ c. search needs) (λ c. search needs)
     part-result-end-2
     returns-2)

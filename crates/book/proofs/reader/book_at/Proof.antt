@@ -30,9 +30,6 @@ pattern-there : {at : ℕ} (s : List ℕ) (n : ℕ) → at ≡ start s n → pat
 unfolding patternFrom pixelIn
 pattern-there s n is = ap (patternFrom s) is
 
-empty-pattern-requires : tie.Need-empty-pattern-requires Inv-loop μ-loop
-empty-pattern-requires c κs = search needs
-
 shared-slice-read-count : tie.Need-shared-slice-read-count Inv-loop μ-loop
 shared-slice-read-count c = count-inside (c .before .before .before .args .s .now) (c .before .before .before .pre)
 
@@ -109,7 +106,7 @@ book-at-spec =
     (tie.spec
     Inv-loop
     μ-loop
-    empty-pattern-requires
+    (λ c κs. search needs)
     shared-slice-read-count
     cast-count
     loop-holds

@@ -5,12 +5,9 @@ use Rattle.scope.specs.Books.{bookOf}
 use Rattle.book.proofs.reader.empty_book.Statement.{statement}
 use Rattle.book.proofs.reader.empty_book.Tie as tie
 
-empty-pattern-requires : tie.Need-empty-pattern-requires
-empty-pattern-requires c κs = search needs
-
 returns : tie.Need-returns
 unfolding bookOf
 returns c = rw (c .empty-pattern .ensures)
 
 pub empty-book-spec : {M : Type 1} → statement M
-empty-book-spec = tie.close (tie.spec empty-pattern-requires returns)
+empty-book-spec = tie.close (tie.spec (λ c κs. search needs) returns)

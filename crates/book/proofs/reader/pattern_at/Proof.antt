@@ -50,9 +50,6 @@ shared-slice-read-signed-byte : tie.Need-shared-slice-read-signed-byte Inv-loop 
 unfolding byte
 shared-slice-read-signed-byte c = omega arith
 
-signed-byte-requires : tie.Need-signed-byte-requires Inv-loop μ-loop
-signed-byte-requires c κs = search needs
-
 add-signed-byte : tie.Need-add-signed-byte Inv-loop μ-loop
 unfolding byte
 add-signed-byte c = omega arith
@@ -60,9 +57,6 @@ add-signed-byte c = omega arith
 shared-slice-read-signed-byte-2 : tie.Need-shared-slice-read-signed-byte-2 Inv-loop μ-loop
 unfolding byte
 shared-slice-read-signed-byte-2 c = omega arith
-
-signed-byte-requires-2 : tie.Need-signed-byte-requires-2 Inv-loop μ-loop
-signed-byte-requires-2 c κs = search needs
 
 array-set-from-columns : tie.Need-array-set-from-columns Inv-loop μ-loop
 unfolding byte
@@ -110,10 +104,10 @@ pattern-at-spec =
     mul-i
     add-i-2
     shared-slice-read-signed-byte
-    signed-byte-requires
+    (λ c κs. search needs)
     add-signed-byte
     shared-slice-read-signed-byte-2
-    signed-byte-requires-2
+    (λ c κs. search needs)
     array-set-from-columns
     array-set-from-rows
     add-e

@@ -33,24 +33,12 @@ module _ (s : List ℕ) {book : Book} {outcome : Outcome} where
   done-reading found is done =
       ap₂ {C = Reading} (λ b o. record { book = b; outcome = o }) is done ∙ sym (answered-none (bytesTest s) _ _ found)
 
-bytes-outcome-requires : tie.Need-bytes-outcome-requires
-bytes-outcome-requires c κs = search needs
-
-enum-told : tie.Need-enum-told
-enum-told c = search needs
-
-empty-book-requires : tie.Need-empty-book-requires
-empty-book-requires c κs = search needs
-
 returns : tie.Need-returns
 returns c =
     let b = c .before .before .before in
     let s = b .before .before .args .s .now in
     let refused = c .before .enum-told .given .1 in
     refused-reading s _ (refused-found (bytesTest s) (b .bytes-outcome .ensures) refused) (c .empty-book .ensures) refused
-
-enum-told-2 : tie.Need-enum-told-2
-enum-told-2 c = search needs
 
 book-at-requires : tie.Need-book-at-requires
 book-at-requires c κs =
@@ -67,10 +55,8 @@ pub read-book-spec : {M : Type 1} → statement M
 read-book-spec =
     tie.close
     (tie.spec
-    bytes-outcome-requires
-    enum-told
-    empty-book-requires
+    (λ c κs. search needs) (λ c. search needs) (λ c κs. search needs)
     returns
-    enum-told-2
+    (λ c. search needs)
     book-at-requires
     returns-2)

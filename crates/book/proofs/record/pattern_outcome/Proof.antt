@@ -16,12 +16,9 @@ returns-2 : tie.Need-returns-2
 returns-2 c =
     let t = c .before .before .args .t in answered-by-refusal (patternTestOf t) _ (used-not-taken t (λ h. omega arith))
 
-pixels-outcome-requires : tie.Need-pixels-outcome-requires
-pixels-outcome-requires c κs = search needs
-
 returns-3 : tie.Need-returns-3
 returns-3 c =
     c .pixels-outcome .ensures ∙ ap outcomeOf (sym (pixels-decide-of (c .before .before .before .args .t) (omega arith)))
 
 pub pattern-outcome-spec : {M : Type 1} → statement M
-pattern-outcome-spec = tie.close (tie.spec returns returns-2 pixels-outcome-requires returns-3)
+pattern-outcome-spec = tie.close (tie.spec returns returns-2 (λ c κs. search needs) returns-3)

@@ -45,9 +45,6 @@ array-copy-out-cell c = omega arith
 array-copy-out-cell-2 : tie.Need-array-copy-out-cell-2 Inv-loop μ-loop
 array-copy-out-cell-2 c = omega arith
 
-cell-requires : tie.Need-cell-requires Inv-loop μ-loop
-cell-requires c κs = search needs
-
 -- in a turn, at position e of the pattern t, where the pixel's cell is known
 module _ (c : tie.After-cell Inv-loop μ-loop) where
   abbrev head : tie.At-loop Inv-loop μ-loop
@@ -76,16 +73,10 @@ module _ (c : tie.After-cell Inv-loop μ-loop) where
 returns : tie.Need-returns Inv-loop μ-loop
 returns c = let k = c .before in refused k (coordinate-found (seen k) (cell-is k) 0 (c .if1 .taken))
 
-array-read-if2 : tie.Need-array-read-if2 Inv-loop μ-loop
-array-read-if2 c = search needs
-
 returns-2 : tie.Need-returns-2 Inv-loop μ-loop
 returns-2 c =
     let k = c .before .before in
     refused k (repeat-found (seen k) (cell-is k) 0 0 (c .before .if1 .left) (c .if2 .taken))
-
-array-write-seen : tie.Need-array-write-seen Inv-loop μ-loop
-array-write-seen c = search needs
 
 add-e : tie.Need-add-e Inv-loop μ-loop
 add-e c = omega arith
@@ -114,11 +105,11 @@ pixels-outcome-spec =
     loop-holds
     array-copy-out-cell
     array-copy-out-cell-2
-    cell-requires
+    (λ c κs. search needs)
     returns
-    array-read-if2
+    (λ c. search needs)
     returns-2
-    array-write-seen
+    (λ c. search needs)
     add-e
     loop-less
     loop-again

@@ -31,12 +31,6 @@ mul-t c = omega arith
 element-copy-out-t : tie.Need-element-copy-out-t Inv-loop μ-loop
 element-copy-out-t c = omega arith
 
-pattern-outcome-requires : tie.Need-pattern-outcome-requires Inv-loop μ-loop
-pattern-outcome-requires c κs = search needs
-
-enum-told : tie.Need-enum-told Inv-loop μ-loop
-enum-told c = search needs
-
 returns-3 : tie.Need-returns-3 Inv-loop μ-loop
 unfolding patternAt
 returns-3 c =
@@ -44,9 +38,6 @@ returns-3 c =
     let l = t .before .before .before in
     pattern-not-taken (l .before .before .before .args .t1) (t .pattern-outcome .ensures) refl (l .loop .inv .1)
     (omega arith) (omega arith) (c .enum-told .given .1)
-
-enum-told-2 : tie.Need-enum-told-2 Inv-loop μ-loop
-enum-told-2 c = search needs
 
 add-n : tie.Need-add-n Inv-loop μ-loop
 add-n c = omega arith
@@ -79,10 +70,9 @@ record-outcome-spec =
     loop-holds
     mul-t
     element-copy-out-t
-    pattern-outcome-requires
-    enum-told
+    (λ c κs. search needs) (λ c. search needs)
     returns-3
-    enum-told-2
+    (λ c. search needs)
     add-n
     loop-less
     loop-again

@@ -72,9 +72,6 @@ returns c =
     let s = c .before .before .args .s .now in
     ap (λ i. Outcome.Refused (Ends i)) (sym (c .if1 .taken)) ∙ refused-by-count s _ (ends-before-count s 16 0 (omega arith))
 
-shared-slice-read-count : tie.Need-shared-slice-read-count Inv-loop μ-loop
-shared-slice-read-count c = search needs
-
 cast-count : tie.Need-cast-count Inv-loop μ-loop
 cast-count c = omega (arith, c .shared-slice-known2 .given 0)
 
@@ -98,9 +95,6 @@ loop-holds c =
 pattern-outcome-requires : tie.Need-pattern-outcome-requires Inv-loop μ-loop
 pattern-outcome-requires c κs = c .before .loop .inv .inside
 
-enum-told : tie.Need-enum-told Inv-loop μ-loop
-enum-told c = search needs
-
 returns-4 : tie.Need-returns-4 Inv-loop μ-loop
 unfolding byte
 returns-4 c =
@@ -112,9 +106,6 @@ returns-4 c =
     ∙ answered-by-refusal (bytesTest s) _
     (pattern-decides s (omega arith) (omega arith) (l .loop .n) _ (omega arith) (l .loop .inv .passed)
     (by-place (l .loop .inv) ∙ refused))
-
-enum-told-2 : tie.Need-enum-told-2 Inv-loop μ-loop
-enum-told-2 c = search needs
 
 -- the pattern at hand, which was not refused, has passed its tests, and its pixels are there
 pattern-passes :
@@ -180,15 +171,15 @@ bytes-outcome-spec =
     Inv-loop
     μ-loop
     returns
-    shared-slice-read-count
+    (λ c. search needs)
     cast-count
     returns-2
     returns-3
     loop-holds
     pattern-outcome-requires
-    enum-told
+    (λ c. search needs)
     returns-4
-    enum-told-2
+    (λ c. search needs)
     add-at
     shared-slice-read-at
     cast-at

@@ -28,9 +28,6 @@ returns c =
     let v = c .before .before .args in
     refused-by-count (v .s .now) (v .at) _ (ends-before-count (v .s .now) 64 (v .at) (c .if1 .taken))
 
-shared-slice-read-count : tie.Need-shared-slice-read-count
-shared-slice-read-count c = search needs
-
 cast-count : tie.Need-cast-count
 cast-count c = omega (arith, c .shared-slice-known2 .given (c .before .before .before .args .at))
 
@@ -46,12 +43,6 @@ returns-3 c =
     let v = c .before .before .before .before .before .args in
     refused-by-count (v .s .now) (v .at) _ (count-not-taken (v .s .now) 64 (v .at) (omega arith) (λ h. omega arith))
 
-add-pixels-outcome : tie.Need-add-pixels-outcome
-add-pixels-outcome c = search needs
-
-pixels-outcome-requires : tie.Need-pixels-outcome-requires
-pixels-outcome-requires c κs = search needs
-
 returns-4 : tie.Need-returns-4
 unfolding byte
 returns-4 c =
@@ -64,10 +55,9 @@ pattern-outcome-spec =
     tie.close
     (tie.spec
     returns
-    shared-slice-read-count
+    (λ c. search needs)
     cast-count
     returns-2
     returns-3
-    add-pixels-outcome
-    pixels-outcome-requires
+    (λ c. search needs) (λ c κs. search needs)
     returns-4)

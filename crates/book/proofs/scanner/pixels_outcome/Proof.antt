@@ -69,20 +69,11 @@ returns c = let k = c .before in refused k (ends-early (s k) (place k) (e k) (om
 shared-slice-read-signed-byte : tie.Need-shared-slice-read-signed-byte Inv-loop μ-loop
 shared-slice-read-signed-byte c = omega arith
 
-signed-byte-requires : tie.Need-signed-byte-requires Inv-loop μ-loop
-signed-byte-requires c κs = search needs
-
 add-signed-byte : tie.Need-add-signed-byte Inv-loop μ-loop
 add-signed-byte c = omega arith
 
 shared-slice-read-signed-byte-2 : tie.Need-shared-slice-read-signed-byte-2 Inv-loop μ-loop
 shared-slice-read-signed-byte-2 c = omega arith
-
-signed-byte-requires-2 : tie.Need-signed-byte-requires-2 Inv-loop μ-loop
-signed-byte-requires-2 c κs = search needs
-
-cell-requires : tie.Need-cell-requires Inv-loop μ-loop
-cell-requires c κs = search needs
 
 -- where the pixel's cell is known
 module _ (c : tie.After-cell Inv-loop μ-loop) where
@@ -167,11 +158,10 @@ pixels-outcome-spec =
     sub-if1
     returns
     shared-slice-read-signed-byte
-    signed-byte-requires
+    (λ c κs. search needs)
     add-signed-byte
     shared-slice-read-signed-byte-2
-    signed-byte-requires-2
-    cell-requires
+    (λ c κs. search needs) (λ c κs. search needs)
     returns-2
     add-t20
     returns-3

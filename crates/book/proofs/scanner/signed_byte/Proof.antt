@@ -37,12 +37,6 @@ module _ (b : ℕ) (upper : 128 ≤ b) (byte : b < 256) where
   upper-right : toZ w8 (ofZ w8 (toZ w16 (ofZ w16 difference))) ≡ signed b
   upper-right = toZ-ofZ cast-fits ∙ toZ-ofZ fits ∙ difference-is ∙ sym (twos-complement .high b upper byte)
 
-cast-result : tie.Need-cast-result
-cast-result c = search needs
-
-cast-result-2 : tie.Need-cast-result-2
-cast-result-2 c = search needs
-
 sub-result : tie.Need-sub-result
 sub-result c = fits (c .before .args .b) (c .if1 .left) (c .before .fits .b .fits)
 
@@ -57,4 +51,4 @@ returns-2 c = upper-right (c .before .args .b) (c .if1 .left) (c .before .fits .
 
 pub signed-byte-spec : {M : Type 1} → statement M
 signed-byte-spec =
-    tie.close (tie.spec cast-result cast-result-2 sub-result cast-result-3 returns returns-2)
+    tie.close (tie.spec (λ c. search needs) (λ c. search needs) sub-result cast-result-3 returns returns-2)

@@ -44,9 +44,6 @@ add-size-2 c = omega (arith, fits (c .before .before))
 add-n : tie.Need-add-n Inv-loop μ-loop
 add-n c = omega (arith, fits (c .before .before))
 
-loop-less : tie.Need-loop-less Inv-loop μ-loop
-loop-less c = search needs
-
 loop-again : tie.Need-loop-again Inv-loop μ-loop
 unfolding patternAt
 loop-again c =
@@ -73,6 +70,6 @@ byte-count-spec =
     mul-size
     add-size-2
     add-n
-    loop-less
+    (λ c. search needs)
     loop-again
     returns)

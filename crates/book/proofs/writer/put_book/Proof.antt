@@ -63,9 +63,6 @@ sub-put-pattern c = omega (arith, room (c .before))
 part-put-pattern-start : tie.Need-part-put-pattern-start Inv-loop μ-loop
 part-put-pattern-start c = omega (arith, room (c .before))
 
-part-put-pattern-end : tie.Need-part-put-pattern-end Inv-loop μ-loop
-part-put-pattern-end c = search needs
-
 put-pattern-requires : tie.Need-put-pattern-requires Inv-loop μ-loop
 unfolding patternAt
 put-pattern-requires c κs =
@@ -88,9 +85,6 @@ add-at-2 c =
 
 add-n : tie.Need-add-n Inv-loop μ-loop
 add-n c = omega (arith, fits (c .before .before .before .before .before .before))
-
-loop-less : tie.Need-loop-less Inv-loop μ-loop
-loop-less c = search needs
 
 loop-again : tie.Need-loop-again Inv-loop μ-loop
 unfolding patternAt
@@ -134,13 +128,13 @@ put-book-spec =
     element-copy-out-t
     sub-put-pattern
     part-put-pattern-start
-    part-put-pattern-end
+    (λ c. search needs)
     put-pattern-requires
     add-at
     mul-at
     add-at-2
     add-n
-    loop-less
+    (λ c. search needs)
     loop-again
     same-length
     returns)

@@ -31,53 +31,17 @@ room c =
     let u = c .before .before .before .before .before in
     omega (arith, c .before .loop .inv .1, length-set (u .args .out .now) 0 (u .args .t .used))
 
-cast-out : tie.Need-cast-out Inv-loop μ-loop
-cast-out c = search needs
-
-slice-write-out : tie.Need-slice-write-out Inv-loop μ-loop
-slice-write-out c = search needs
-
 loop-holds : tie.Need-loop-holds Inv-loop μ-loop
 unfolding flatMap gather
 loop-holds c =
     let u = c .before .before .before in
     (omega arith, first-put (u .args .t .used) (u .args .out .now) (omega arith))
 
-array-copy-out-unsigned-byte : tie.Need-array-copy-out-unsigned-byte Inv-loop μ-loop
-array-copy-out-unsigned-byte c = search needs
-
-unsigned-byte-requires : tie.Need-unsigned-byte-requires Inv-loop μ-loop
-unsigned-byte-requires c κs = search needs
-
-mul-out : tie.Need-mul-out Inv-loop μ-loop
-mul-out c = search needs
-
-add-out : tie.Need-add-out Inv-loop μ-loop
-add-out c = search needs
-
 slice-write-out-2 : tie.Need-slice-write-out-2 Inv-loop μ-loop
 slice-write-out-2 c = omega (arith, room (c .before .before))
 
-array-copy-out-unsigned-byte-2 : tie.Need-array-copy-out-unsigned-byte-2 Inv-loop μ-loop
-array-copy-out-unsigned-byte-2 c = search needs
-
-unsigned-byte-requires-2 : tie.Need-unsigned-byte-requires-2 Inv-loop μ-loop
-unsigned-byte-requires-2 c κs = search needs
-
-mul-out-2 : tie.Need-mul-out-2 Inv-loop μ-loop
-mul-out-2 c = search needs
-
-add-out-2 : tie.Need-add-out-2 Inv-loop μ-loop
-add-out-2 c = search needs
-
 slice-write-out-3 : tie.Need-slice-write-out-3 Inv-loop μ-loop
 slice-write-out-3 c = simp length-set (omega (arith, room (c .before .before .before .before)))
-
-add-e : tie.Need-add-e Inv-loop μ-loop
-add-e c = search needs
-
-loop-less : tie.Need-loop-less Inv-loop μ-loop
-loop-less c = search needs
 
 loop-again : tie.Need-loop-again Inv-loop μ-loop
 loop-again c =
@@ -111,21 +75,13 @@ put-pattern-spec =
     (tie.spec
     Inv-loop
     μ-loop
-    cast-out
-    slice-write-out
+    (λ c. search needs) (λ c. search needs)
     loop-holds
-    array-copy-out-unsigned-byte
-    unsigned-byte-requires
-    mul-out
-    add-out
+    (λ c. search needs) (λ c κs. search needs) (λ c. search needs) (λ c. search needs)
     slice-write-out-2
-    array-copy-out-unsigned-byte-2
-    unsigned-byte-requires-2
-    mul-out-2
-    add-out-2
+    (λ c. search needs) (λ c κs. search needs) (λ c. search needs) (λ c. search needs)
     slice-write-out-3
-    add-e
-    loop-less
+    (λ c. search needs) (λ c. search needs)
     loop-again
     same-length
     returns)

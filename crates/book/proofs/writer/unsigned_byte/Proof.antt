@@ -24,18 +24,9 @@ byte-of-raised n z e =
     ∙ ap (λ (y : ℤ). floorMod y 256) shifted
     ∙ remainder-of-shift 256 (omega arith) z (pos 1)
 
-raised8-requires : tie.Need-raised8-requires
-raised8-requires c κs = search needs
-
-add-result : tie.Need-add-result
-add-result c = search needs
-
-cast-result : tie.Need-cast-result
-cast-result c = search needs
-
 returns : tie.Need-returns
 returns c =
     byte-of-raised (c .raised8 .result) (c .before .args .z) (raised-read 128 (c .before .fits .z) (c .raised8 .ensures .0))
 
 pub unsigned-byte-spec : {M : Type 1} → statement M
-unsigned-byte-spec = tie.close (tie.spec raised8-requires add-result cast-result returns)
+unsigned-byte-spec = tie.close (tie.spec (λ c κs. search needs) (λ c. search needs) (λ c. search needs) returns)

@@ -60,20 +60,11 @@ module _ (book : Book) (out : List ℕ) where
       value-given tests Counted.Refused out number (overStart bytes out)
       (write-test-iff book (length out) .1 (book-legal-iff book .0 legal, enough))
 
-record-outcome-requires : tie.Need-record-outcome-requires
-record-outcome-requires c κs = search needs
-
-enum-known-outcome : tie.Need-enum-known-outcome
-enum-known-outcome c = search needs
-
 returns : tie.Need-returns
 returns c =
     let u = c .before .before .before .before .before .args in
     book-refused (u .book) (u .out .now) (c .before .outcome .given .0 .0)
     (record-turned-down (u .book) (c .before .before .before .record-outcome .ensures) (c .before .outcome .given .1))
-
-enum-told : tie.Need-enum-told
-enum-told c = search needs
 
 -- the record's tests found nothing
 legal : (c : tie.After-enum-told) → recordTest (c .before .before .before .before .args .book) ≡ none
@@ -92,9 +83,6 @@ returns-2 c =
 put-book-requires : tie.Need-put-book-requires
 put-book-requires c κs = (legal (c .before .before .before), omega (arith, c .before .before .byte-count .ensures))
 
-same-length : tie.Need-same-length
-same-length c = search needs
-
 returns-3 : tie.Need-returns-3
 returns-3 c =
     let b = c .before .before .before .before .before in
@@ -106,12 +94,11 @@ pub write-book-spec : {M : Type 1} → statement M
 write-book-spec =
     tie.close
     (tie.spec
-    record-outcome-requires
-    enum-known-outcome
+    (λ c κs. search needs) (λ c. search needs)
     returns
-    enum-told
+    (λ c. search needs)
     byte-count-requires
     returns-2
     put-book-requires
-    same-length
+    (λ c. search needs)
     returns-3)

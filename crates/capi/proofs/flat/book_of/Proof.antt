@@ -29,18 +29,6 @@ loop-holds c =
 pattern-of-requires-2 : tie.Need-pattern-of-requires-2 Inv-loop μ-loop
 pattern-of-requires-2 c κs = omega arith
 
-mul-patterns : tie.Need-mul-patterns Inv-loop μ-loop
-mul-patterns c = search needs
-
-array-set-from-patterns : tie.Need-array-set-from-patterns Inv-loop μ-loop
-array-set-from-patterns c = search needs
-
-add-n : tie.Need-add-n Inv-loop μ-loop
-add-n c = search needs
-
-loop-less : tie.Need-loop-less Inv-loop μ-loop
-loop-less c = search needs
-
 loop-again : tie.Need-loop-again Inv-loop μ-loop
 loop-again c =
     let t = c .before .before .loop .inv in (omega arith, t .1, filled-more (t .2) (c .pattern-of2 .ensures))
@@ -59,9 +47,6 @@ book-of-spec =
     pattern-of-requires
     loop-holds
     pattern-of-requires-2
-    mul-patterns
-    array-set-from-patterns
-    add-n
-    loop-less
+    (λ c. search needs) (λ c. search needs) (λ c. search needs) (λ c. search needs)
     loop-again
     returns)

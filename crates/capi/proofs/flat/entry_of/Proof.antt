@@ -8,9 +8,6 @@ use Rattle.capi.specs.Flat.{flatPattern, flatEntry}
 use Rattle.capi.proofs.flat.entry_of.Statement.{statement}
 use Rattle.capi.proofs.flat.entry_of.Tie as tie
 
-entry-number-requires : tie.Need-entry-number-requires
-entry-number-requires c κs = search needs
-
 pattern-of-requires : tie.Need-pattern-of-requires
 pattern-of-requires c κs = subst (λ (k : ℕ). k < 16) (sym (c .entry-number .ensures)) (entry-number-below (c .before .args .n))
 
@@ -21,4 +18,4 @@ returns c =
     c .pattern-of .ensures ∙ ap (flatPattern (u .columns .now) (u .rows .now) (u .used .now)) (c .before .entry-number .ensures)
 
 pub entry-of-spec : {M : Type 1} → statement M
-entry-of-spec = tie.close (tie.spec entry-number-requires pattern-of-requires returns)
+entry-of-spec = tie.close (tie.spec (λ c κs. search needs) pattern-of-requires returns)

@@ -37,9 +37,6 @@ loop-holds c = (omega arith, λ m h. absurd (omega arith))
 pattern-of-requires : tie.Need-pattern-of-requires Inv-loop μ-loop
 pattern-of-requires c κs = omega arith
 
-pattern-outcome-requires : tie.Need-pattern-outcome-requires Inv-loop μ-loop
-pattern-outcome-requires c κs = search needs
-
 -- in a turn, where the n-th pattern was tested
 module _ (c : tie.After-pattern-outcome Inv-loop μ-loop) where
   abbrev head : tie.At-loop Inv-loop μ-loop
@@ -54,18 +51,12 @@ module _ (c : tie.After-pattern-outcome Inv-loop μ-loop) where
       c .before .pattern-of .ensures
       ∙ sym (pattern-there (u .columns .now) (u .rows .now) (u .used .now) (u .count) (head .loop .n) (omega arith))
 
-enum-told : tie.Need-enum-told Inv-loop μ-loop
-enum-told c = search needs
-
 returns-3 : tie.Need-returns-3 Inv-loop μ-loop
 unfolding flatBook
 returns-3 c =
     let t = c .before .before in
     pattern-not-taken (record-of (start t)) (t .pattern-outcome .ensures) (pattern-is t) (head t .loop .inv .1) (omega arith)
     (omega arith) (c .enum-told .given .1)
-
-enum-told-2 : tie.Need-enum-told-2 Inv-loop μ-loop
-enum-told-2 c = search needs
 
 add-n : tie.Need-add-n Inv-loop μ-loop
 add-n c = omega arith
@@ -97,10 +88,9 @@ tested-of-spec =
     returns-2
     loop-holds
     pattern-of-requires
-    pattern-outcome-requires
-    enum-told
+    (λ c κs. search needs) (λ c. search needs)
     returns-3
-    enum-told-2
+    (λ c. search needs)
     add-n
     loop-less
     loop-again

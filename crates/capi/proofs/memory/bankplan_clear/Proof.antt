@@ -7,15 +7,6 @@ use Rattle.capi.proofs.Passed.{told-of}
 use Rattle.capi.proofs.memory.bankplan_clear.Statement.{statement}
 use Rattle.capi.proofs.memory.bankplan_clear.Tie as tie
 
-clear-requires : tie.Need-clear-requires
-clear-requires c κs = search needs
-
-tell-outcome-requires : tie.Need-tell-outcome-requires
-tell-outcome-requires c κs = search needs
-
-same-length : tie.Need-same-length
-same-length c = search needs
-
 returns : tie.Need-returns
 unfolding plan
 returns c =
@@ -23,4 +14,4 @@ returns c =
     (told-of ofOutcome (b .clear .ensures .0) (c .tell-outcome .ensures), b .clear .ensures .1)
 
 pub bankplan-clear-spec : {M : Type 1} → statement M
-bankplan-clear-spec = tie.close (tie.spec clear-requires tell-outcome-requires same-length returns)
+bankplan-clear-spec = tie.close (tie.spec (λ c κs. search needs) (λ c κs. search needs) (λ c. search needs) returns)

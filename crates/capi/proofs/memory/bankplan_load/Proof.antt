@@ -10,12 +10,6 @@ use Rattle.capi.proofs.Passed.{told-of}
 use Rattle.capi.proofs.memory.bankplan_load.Statement.{statement}
 use Rattle.capi.proofs.memory.bankplan_load.Tie as tie
 
-load-requires : tie.Need-load-requires
-load-requires c κs = search needs
-
-tell-loaded-requires : tie.Need-tell-loaded-requires
-tell-loaded-requires c κs = search needs
-
 returns : tie.Need-returns
 unfolding plan
 returns c =
@@ -24,4 +18,4 @@ returns c =
     told-of ofLoaded (b .load .ensures ∙ ap (load _ _ _ _) (pixel-handed (f .i) (f .j))) (c .tell-loaded .ensures)
 
 pub bankplan-load-spec : {M : Type 1} → statement M
-bankplan-load-spec = tie.close (tie.spec load-requires tell-loaded-requires returns)
+bankplan-load-spec = tie.close (tie.spec (λ c κs. search needs) (λ c κs. search needs) returns)

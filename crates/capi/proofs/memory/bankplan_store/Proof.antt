@@ -8,15 +8,6 @@ use Rattle.capi.proofs.Passed.{told-of}
 use Rattle.capi.proofs.memory.bankplan_store.Statement.{statement}
 use Rattle.capi.proofs.memory.bankplan_store.Tie as tie
 
-store-requires : tie.Need-store-requires
-store-requires c κs = search needs
-
-tell-outcome-requires : tie.Need-tell-outcome-requires
-tell-outcome-requires c κs = search needs
-
-same-length : tie.Need-same-length
-same-length c = search needs
-
 returns : tie.Need-returns
 unfolding plan
 returns c =
@@ -26,4 +17,4 @@ returns c =
     (told-of ofOutcome (stored .0) (c .tell-outcome .ensures), stored .1)
 
 pub bankplan-store-spec : {M : Type 1} → statement M
-bankplan-store-spec = tie.close (tie.spec store-requires tell-outcome-requires same-length returns)
+bankplan-store-spec = tie.close (tie.spec (λ c κs. search needs) (λ c κs. search needs) (λ c. search needs) returns)

@@ -7,16 +7,10 @@ use Rattle.capi.proofs.Passed.{told-of}
 use Rattle.capi.proofs.memory.bankplan_sum.Statement.{statement}
 use Rattle.capi.proofs.memory.bankplan_sum.Tie as tie
 
-sum-requires : tie.Need-sum-requires
-sum-requires c κs = search needs
-
-tell-counted-requires : tie.Need-tell-counted-requires
-tell-counted-requires c κs = search needs
-
 returns : tie.Need-returns
 unfolding plan
 returns c =
     told-of ofCounted (c .before .before .sum .ensures) (c .tell-counted .ensures)
 
 pub bankplan-sum-spec : {M : Type 1} → statement M
-bankplan-sum-spec = tie.close (tie.spec sum-requires tell-counted-requires returns)
+bankplan-sum-spec = tie.close (tie.spec (λ c κs. search needs) (λ c κs. search needs) returns)

@@ -7,18 +7,6 @@ use Rattle.capi.proofs.Passed.{told-value, told-turned-down}
 use Rattle.capi.proofs.told.tell_counted.Statement.{statement}
 use Rattle.capi.proofs.told.tell_counted.Tie as tie
 
-enum-known-c : tie.Need-enum-known-c
-enum-known-c c = search needs
-
-element-write-answer : tie.Need-element-write-answer
-element-write-answer c = search needs
-
-enum-known-c-2 : tie.Need-enum-known-c-2
-enum-known-c-2 c = search needs
-
-tell-refusal-requires : tie.Need-tell-refusal-requires
-tell-refusal-requires c κs = search needs
-
 returns : tie.Need-returns
 returns c = told-value (ap ofCounted (c .before .c .given .1)) refl
 
@@ -29,9 +17,6 @@ pub tell-counted-spec : {M : Type 1} → statement M
 tell-counted-spec =
     tie.close
     (tie.spec
-    enum-known-c
-    element-write-answer
-    enum-known-c-2
-    tell-refusal-requires
+    (λ c. search needs) (λ c. search needs) (λ c. search needs) (λ c κs. search needs)
     returns
     returns-2)

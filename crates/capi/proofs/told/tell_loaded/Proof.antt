@@ -7,21 +7,6 @@ use Rattle.capi.proofs.Passed.{told-value, told-turned-down}
 use Rattle.capi.proofs.told.tell_loaded.Statement.{statement}
 use Rattle.capi.proofs.told.tell_loaded.Tie as tie
 
-enum-known-l : tie.Need-enum-known-l
-enum-known-l c = search needs
-
-cast-answer : tie.Need-cast-answer
-cast-answer c = search needs
-
-element-write-answer : tie.Need-element-write-answer
-element-write-answer c = search needs
-
-enum-known-l-2 : tie.Need-enum-known-l-2
-enum-known-l-2 c = search needs
-
-tell-refusal-requires : tie.Need-tell-refusal-requires
-tell-refusal-requires c κs = search needs
-
 returns : tie.Need-returns
 returns c = told-value (ap ofLoaded (c .before .l .given .1)) refl
 
@@ -32,10 +17,6 @@ pub tell-loaded-spec : {M : Type 1} → statement M
 tell-loaded-spec =
     tie.close
     (tie.spec
-    enum-known-l
-    cast-answer
-    element-write-answer
-    enum-known-l-2
-    tell-refusal-requires
+    (λ c. search needs) (λ c. search needs) (λ c. search needs) (λ c. search needs) (λ c κs. search needs)
     returns
     returns-2)

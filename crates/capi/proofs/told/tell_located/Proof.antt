@@ -22,27 +22,6 @@ sizes-put :
 sizes-put xs i j p q e f =
     cc (number-handed w16 {z = i} p, number-handed w16 {z = j} q)
 
-enum-known-l : tie.Need-enum-known-l
-enum-known-l c = search needs
-
-size-requires : tie.Need-size-requires
-size-requires c κs = search needs
-
-size-requires-2 : tie.Need-size-requires-2
-size-requires-2 c κs = search needs
-
-element-write-answer : tie.Need-element-write-answer
-element-write-answer c = search needs
-
-element-write-answer-2 : tie.Need-element-write-answer-2
-element-write-answer-2 c = search needs
-
-enum-known-l-2 : tie.Need-enum-known-l-2
-enum-known-l-2 c = search needs
-
-tell-refusal-requires : tie.Need-tell-refusal-requires
-tell-refusal-requires c κs = search needs
-
 returns : tie.Need-returns
 returns c =
     let v = c .before .before .before .l .given in
@@ -58,12 +37,7 @@ pub tell-located-spec : {M : Type 1} → statement M
 tell-located-spec =
     tie.close
     (tie.spec
-    enum-known-l
-    size-requires
-    size-requires-2
-    element-write-answer
-    element-write-answer-2
-    enum-known-l-2
-    tell-refusal-requires
+    (λ c. search needs) (λ c κs. search needs) (λ c κs. search needs) (λ c. search needs) (λ c. search needs) (λ c. search needs)
+    (λ c κs. search needs)
     returns
     returns-2)

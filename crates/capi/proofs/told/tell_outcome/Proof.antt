@@ -7,21 +7,9 @@ use Rattle.capi.proofs.Passed.{told-turned-down}
 use Rattle.capi.proofs.told.tell_outcome.Statement.{statement}
 use Rattle.capi.proofs.told.tell_outcome.Tie as tie
 
-enum-told : tie.Need-enum-told
-enum-told c = search needs
-
-enum-known-o : tie.Need-enum-known-o
-enum-known-o c = search needs
-
-tell-refusal-requires : tie.Need-tell-refusal-requires
-tell-refusal-requires c κs = search needs
-
-returns : tie.Need-returns
-returns c = search needs
-
 returns-2 : tie.Need-returns-2
 returns-2 c = told-turned-down (ap ofOutcome (c .before .before .before .o .given .1)) (c .tell-refusal .ensures)
 
 pub tell-outcome-spec : {M : Type 1} → statement M
 tell-outcome-spec =
-    tie.close (tie.spec enum-told enum-known-o tell-refusal-requires returns returns-2)
+    tie.close (tie.spec (λ c. search needs) (λ c. search needs) (λ c κs. search needs) (λ c. search needs) returns-2)

@@ -7,33 +7,6 @@ use Rattle.capi.proofs.Passed.{told-value, told-turned-down}
 use Rattle.capi.proofs.told.tell_planned.Statement.{statement}
 use Rattle.capi.proofs.told.tell_planned.Tie as tie
 
-enum-known-p : tie.Need-enum-known-p
-enum-known-p c = search needs
-
-cast-answer : tie.Need-cast-answer
-cast-answer c = search needs
-
-element-write-answer : tie.Need-element-write-answer
-element-write-answer c = search needs
-
-cast-answer-2 : tie.Need-cast-answer-2
-cast-answer-2 c = search needs
-
-element-write-answer-2 : tie.Need-element-write-answer-2
-element-write-answer-2 c = search needs
-
-cast-answer-3 : tie.Need-cast-answer-3
-cast-answer-3 c = search needs
-
-element-write-answer-3 : tie.Need-element-write-answer-3
-element-write-answer-3 c = search needs
-
-enum-known-p-2 : tie.Need-enum-known-p-2
-enum-known-p-2 c = search needs
-
-tell-refusal-requires : tie.Need-tell-refusal-requires
-tell-refusal-requires c κs = search needs
-
 returns : tie.Need-returns
 returns c = told-value (ap ofPlanned (c .before .before .before .before .p .given .1)) refl
 
@@ -44,14 +17,7 @@ pub tell-planned-spec : {M : Type 1} → statement M
 tell-planned-spec =
     tie.close
     (tie.spec
-    enum-known-p
-    cast-answer
-    element-write-answer
-    cast-answer-2
-    element-write-answer-2
-    cast-answer-3
-    element-write-answer-3
-    enum-known-p-2
-    tell-refusal-requires
+    (λ c. search needs) (λ c. search needs) (λ c. search needs) (λ c. search needs) (λ c. search needs) (λ c. search needs)
+    (λ c. search needs) (λ c. search needs) (λ c κs. search needs)
     returns
     returns-2)

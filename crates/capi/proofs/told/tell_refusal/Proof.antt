@@ -21,21 +21,6 @@ row-told :
     → (n ≡ s .0) × (putFrom 1 (clashRow (cond b (some k) none)) (set xs 0 i) ≡ putFrom 0 (s .1 ∷ clashRow (s .2)) xs)
 row-told k xs e q = (ap (λ t. t .0) (sym e), rw (← q) (sym (ap (λ t. putFrom 0 (t .1 ∷ clashRow (t .2)) xs) e)))
 
-row-of-requires : tie.Need-row-of-requires
-row-of-requires c κs = search needs
-
-element-write-answer : tie.Need-element-write-answer
-element-write-answer c = search needs
-
-element-write-answer-2 : tie.Need-element-write-answer-2
-element-write-answer-2 c = search needs
-
-element-write-answer-3 : tie.Need-element-write-answer-3
-element-write-answer-3 c = search needs
-
-element-write-answer-4 : tie.Need-element-write-answer-4
-element-write-answer-4 c = search needs
-
 returns : tie.Need-returns
 returns c =
     let t = c .before .before in
@@ -50,10 +35,6 @@ pub tell-refusal-spec : {M : Type 1} → statement M
 tell-refusal-spec =
     tie.close
     (tie.spec
-    row-of-requires
-    element-write-answer
-    element-write-answer-2
-    element-write-answer-3
-    element-write-answer-4
+    (λ c κs. search needs) (λ c. search needs) (λ c. search needs) (λ c. search needs) (λ c. search needs)
     returns
     returns-2)

@@ -78,27 +78,12 @@ module _ (x y : Pixel) where
           let (passed, is) = plan-shows (normalForm x y) (firstOf formTests) e in
           answered-none (checkTest book x y) Verdict.Refused verdict (past-record ∙ passed) ∙ ap (judged (patterns book)) is
 
-record-outcome-requires : tie.Need-record-outcome-requires
-record-outcome-requires c κs = search needs
-
-enum-known-outcome : tie.Need-enum-known-outcome
-enum-known-outcome c = search needs
-
 returns : tie.Need-returns
 returns c =
     let u = c .before .before .before .before .args in
     sym
     (record-refused (at (u .x1) (u .x2)) (at (u .y1) (u .y2)) (u .book) _
     (record-turned-down (u .book) (c .before .before .before .record-outcome .ensures) (c .before .outcome .given .1)))
-
-enum-told : tie.Need-enum-told
-enum-told c = search needs
-
-normal-form-requires : tie.Need-normal-form-requires
-normal-form-requires c κs = search needs
-
-enum-known-form : tie.Need-enum-known-form
-enum-known-form c = search needs
 
 -- the record is a book, and the answer is that of the normal form
 module _ (c : tie.After-normal-form) where
@@ -127,9 +112,6 @@ judge-requires c κs =
     let n = c .before .before .before in
     (form-is-plan (x n) (y n) _ (sym (form-is n) ∙ c .before .form .given .1), legal n)
 
-enum-known-form-2 : tie.Need-enum-known-form-2
-enum-known-form-2 c = search needs
-
 returns-2 : tie.Need-returns-2
 returns-2 c =
     let n = c .before .before .before .before in
@@ -145,13 +127,10 @@ pub check-spec : {M : Type 1} → statement M
 check-spec =
     tie.close
     (tie.spec
-    record-outcome-requires
-    enum-known-outcome
+    (λ c κs. search needs) (λ c. search needs)
     returns
-    enum-told
-    normal-form-requires
-    enum-known-form
+    (λ c. search needs) (λ c κs. search needs) (λ c. search needs)
     judge-requires
-    enum-known-form-2
+    (λ c. search needs)
     returns-2
     returns-3)

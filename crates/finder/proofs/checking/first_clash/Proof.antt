@@ -36,9 +36,6 @@ mul-t c = record { fits = omega (arith, legal (c .before) .most) }
 element-copy-out-t : tie.Need-element-copy-out-t Inv-loop μ-loop
 element-copy-out-t c = omega (arith, legal (c .before) .most)
 
-clash-in-requires : tie.Need-clash-in-requires Inv-loop μ-loop
-clash-in-requires c κs = search needs
-
 -- what was met in the n-th pattern
 pattern-answer :
     (c : tie.After-clash-in Inv-loop μ-loop) →
@@ -52,9 +49,6 @@ pattern-answer c =
     ∙ met-of-plan (l .before .args .p) (l .loop .n) t (l .before .pre .0)
     (legal l .each (l .loop .n) (c .before .before .loop-test .taken) .most)
 
-enum-told : tie.Need-enum-told Inv-loop μ-loop
-enum-told c = search needs
-
 returns : tie.Need-returns Inv-loop μ-loop
 unfolding metAt
 returns c =
@@ -66,9 +60,6 @@ returns c =
     (sym
     (clash-at (l .before .args .p) (l .before .args .t2) (l .loop .n) _ (k .before .before .loop-test .taken) (l .loop .inv .1)
     (at-found _ (pattern-answer k) here)))
-
-enum-told-2 : tie.Need-enum-told-2 Inv-loop μ-loop
-enum-told-2 c = search needs
 
 add-n : tie.Need-add-n Inv-loop μ-loop
 add-n c = record { fits = omega (arith, legal (c .before .before .before .before .before) .most) }
@@ -99,10 +90,9 @@ first-clash-spec =
     loop-holds
     mul-t
     element-copy-out-t
-    clash-in-requires
-    enum-told
+    (λ c κs. search needs) (λ c. search needs)
     returns
-    enum-told-2
+    (λ c. search needs)
     add-n
     loop-less
     loop-again

@@ -19,21 +19,12 @@ use Rattle.finder.proofs.MetAnswers.{at-found, nowhere-found}
 use Rattle.finder.proofs.checking.judge.Statement.{statement}
 use Rattle.finder.proofs.checking.judge.Tie as tie
 
-first-clash-requires : tie.Need-first-clash-requires
-first-clash-requires c κs = search needs
-
-enum-known-met : tie.Need-enum-known-met
-enum-known-met c = search needs
-
 returns : tie.Need-returns
 returns c =
     let s = c .before .before .before .before in
     sym
     (judged-clash (patterns (s .args .book)) (s .args .p) _
     (at-found _ (c .before .before .before .first-clash .ensures) (c .before .met .given .1)))
-
-enum-told : tie.Need-enum-told
-enum-told c = search needs
 
 -- where nothing was met
 module _ (c : tie.After-enum-told) where
@@ -54,9 +45,6 @@ module _ (c : tie.After-enum-told) where
 mul-surplus : tie.Need-mul-surplus
 mul-surplus c = record { fits = omega (arith, is-plan (c .before) .most) }
 
-least-count-requires : tie.Need-least-count-requires
-least-count-requires c κs = search needs
-
 sub-surplus : tie.Need-sub-surplus
 unfolding banks
 sub-surplus c =
@@ -76,11 +64,10 @@ pub judge-spec : {M : Type 1} → statement M
 judge-spec =
     tie.close
     (tie.spec
-    first-clash-requires
-    enum-known-met
+    (λ c κs. search needs) (λ c. search needs)
     returns
-    enum-told
+    (λ c. search needs)
     mul-surplus
-    least-count-requires
+    (λ c κs. search needs)
     sub-surplus
     returns-2)

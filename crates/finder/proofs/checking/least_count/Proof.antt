@@ -16,12 +16,6 @@ use Rattle.finder.proofs.Checks.{least-count-is, least-count-of-none}
 use Rattle.finder.proofs.checking.least_count.Statement.{statement}
 use Rattle.finder.proofs.checking.least_count.Tie as tie
 
-find-requires : tie.Need-find-requires
-find-requires c κs = search needs
-
-enum-known-least : tie.Need-enum-known-least
-enum-known-least c = search needs
-
 -- the finder's answer, as what its search found
 module _ (c : tie.After-find) where
   abbrev book : Book
@@ -53,9 +47,6 @@ unfolding banks
 mul-result c =
     record { fits = omega (arith, least-plan-some (patterns (book (called c))) 1024 _ (found-plan c) .1) }
 
-enum-told : tie.Need-enum-told
-enum-told c = search needs
-
 returns : tie.Need-returns
 unfolding banks
 returns c = sym (least-count-is (patterns (book (called c))) _ (found-plan c))
@@ -67,4 +58,4 @@ returns-2 c =
 
 pub least-count-spec : {M : Type 1} → statement M
 least-count-spec =
-    tie.close (tie.spec find-requires enum-known-least mul-result enum-told returns returns-2)
+    tie.close (tie.spec (λ c κs. search needs) (λ c. search needs) mul-result (λ c. search needs) returns returns-2)

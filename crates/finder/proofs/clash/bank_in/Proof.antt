@@ -26,9 +26,6 @@ cast-bank c = widened-fits w8 w16 tt (c .args .i) (c .fits .i)
 cast-bank-2 : tie.Need-cast-bank-2
 cast-bank-2 c = widened-fits w8 w16 tt (c .args .j) (c .fits .j)
 
-bank-requires : tie.Need-bank-requires
-bank-requires c κs = search needs
-
 -- what the plan answered is the pixel's bank, which is below 1024
 module _ (c : tie.After-bank) where
   abbrev p : Plan
@@ -53,12 +50,6 @@ module _ (c : tie.After-bank) where
   unfolding banks
   bank-small = omega (arith, bank-below-count p plan v, plan .most)
 
-enum-known-answer : tie.Need-enum-known-answer
-enum-known-answer c = search needs
-
-enum-told : tie.Need-enum-told
-enum-told c = search needs
-
 returns : tie.Need-returns
 returns c =
     let b = c .before .before .before in
@@ -74,8 +65,6 @@ bank-in-spec =
     (tie.spec
     cast-bank
     cast-bank-2
-    bank-requires
-    enum-known-answer
-    enum-told
+    (λ c κs. search needs) (λ c. search needs) (λ c. search needs)
     returns
     returns-2)

@@ -40,9 +40,6 @@ array-copy-out-bank-in c = omega arith
 array-copy-out-bank-in-2 : tie.Need-array-copy-out-bank-in-2 Inv-loop μ-loop
 array-copy-out-bank-in-2 c = omega arith
 
-bank-in-requires : tie.Need-bank-in-requires Inv-loop μ-loop
-bank-in-requires c κs = search needs
-
 -- in a turn, at position e of the pattern t, where the pixel's bank is known
 module _ (c : tie.After-bank-in Inv-loop μ-loop) where
   abbrev head : tie.At-loop Inv-loop μ-loop
@@ -116,7 +113,7 @@ search-spec =
     sub-e
     array-copy-out-bank-in
     array-copy-out-bank-in-2
-    bank-in-requires
+    (λ c κs. search needs)
     array-read-later
     cast-later
     cast-next

@@ -59,21 +59,6 @@ module _ (c : tie.After-raised84) where
   inside : InBounds right left upper lower → 63 * (upper - lower) + (right - left) ≡ tableCell difference
   inside = raised-inside difference right left upper lower column row
 
-raised8-requires : tie.Need-raised8-requires
-raised8-requires c κs = search needs
-
-add-right : tie.Need-add-right
-add-right c = search needs
-
-raised8-requires-2 : tie.Need-raised8-requires-2
-raised8-requires-2 c κs = search needs
-
-raised8-requires-3 : tie.Need-raised8-requires-3
-raised8-requires-3 c κs = search needs
-
-raised8-requires-4 : tie.Need-raised8-requires-4
-raised8-requires-4 c κs = search needs
-
 returns : tie.Need-returns
 returns c = outside (c .before) (λ t. omega (arith, t))
 
@@ -86,12 +71,6 @@ returns-3 c = outside (c .before .before .before) (λ t. omega (arith, t))
 returns-4 : tie.Need-returns-4
 returns-4 c = outside (c .before .before .before .before) (λ t. omega (arith, t))
 
-mul-result : tie.Need-mul-result
-mul-result c = search needs
-
-add-result : tie.Need-add-result
-add-result c = search needs
-
 returns-5 : tie.Need-returns-5
 returns-5 c =
     inside (c .before .before .before .before)
@@ -101,15 +80,10 @@ pub difference-cell-spec : {M : Type 1} → statement M
 difference-cell-spec =
     tie.close
     (tie.spec
-    raised8-requires
-    add-right
-    raised8-requires-2
-    raised8-requires-3
-    raised8-requires-4
+    (λ c κs. search needs) (λ c. search needs) (λ c κs. search needs) (λ c κs. search needs) (λ c κs. search needs)
     returns
     returns-2
     returns-3
     returns-4
-    mul-result
-    add-result
+    (λ c. search needs) (λ c. search needs)
     returns-5)

@@ -45,20 +45,11 @@ module _ (book : Book) (limit : ℕ) where
         sym (legal-find book limit
         (record { legal-book = book-legal-iff book .0 legal; limit-least = least; limit-most = most }))
 
-record-outcome-requires : tie.Need-record-outcome-requires
-record-outcome-requires c κs = search needs
-
-enum-known-outcome : tie.Need-enum-known-outcome
-enum-known-outcome c = search needs
-
 returns : tie.Need-returns
 returns c =
     let u = c .before .before .before .before .args in
     book-refused (u .book) (u .limit) (c .before .outcome .given .0 .0)
     (record-turned-down (u .book) (c .before .before .before .record-outcome .ensures) (c .before .outcome .given .1))
-
-enum-told : tie.Need-enum-told
-enum-told c = search needs
 
 -- the record's tests found nothing
 legal : (c : tie.After-enum-told) → recordTest (c .before .before .before .args .book) ≡ none
@@ -75,17 +66,8 @@ returns-3 c =
     let u = c .before .before .before .before .before .args in
     limit-refused (u .book) (u .limit) (legal (c .before .before)) (λ h. omega (arith, c .if2 .taken))
 
-slice-aggregate-mark-book : tie.Need-slice-aggregate-mark-book
-slice-aggregate-mark-book c = search needs
-
 mark-book-requires : tie.Need-mark-book-requires
 mark-book-requires c κs = (legal (c .before .before .before), refl)
-
-slice-aggregate-least-plan : tie.Need-slice-aggregate-least-plan
-slice-aggregate-least-plan c = search needs
-
-least-plan-requires : tie.Need-least-plan-requires
-least-plan-requires c κs = search needs
 
 returns-4 : tie.Need-returns-4
 returns-4 c =
@@ -98,14 +80,12 @@ pub find-spec : {M : Type 1} → statement M
 find-spec =
     tie.close
     (tie.spec
-    record-outcome-requires
-    enum-known-outcome
+    (λ c κs. search needs) (λ c. search needs)
     returns
-    enum-told
+    (λ c. search needs)
     returns-2
     returns-3
-    slice-aggregate-mark-book
+    (λ c. search needs)
     mark-book-requires
-    slice-aggregate-least-plan
-    least-plan-requires
+    (λ c. search needs) (λ c κs. search needs)
     returns-4)

@@ -39,9 +39,6 @@ least-b-requires c κs =
       omega (arith, h .1),
     )
 
-enum-told : tie.Need-enum-told Inv-loop μ-loop
-enum-told c = search needs
-
 returns : tie.Need-returns Inv-loop μ-loop
 unfolding leastD
 returns c =
@@ -50,9 +47,6 @@ returns c =
     found-at (λ ts. leastB ts n) 1 n (l .loop .d) (l .loop .inv .2) (l .loop .inv .0) (omega arith)
     (divisor-searched n (l .loop .d) (c .before .before .before .if1 .taken) (c .before .before .least-b .ensures))
     (c .enum-told .given .1)
-
-enum-told-2 : tie.Need-enum-told-2 Inv-loop μ-loop
-enum-told-2 c = search needs
 
 add-d : tie.Need-add-d Inv-loop μ-loop
 add-d c = omega (arith, c .before .before .before .before .pre)
@@ -92,9 +86,9 @@ least-d-spec =
     rem-if1
     div-least-b
     least-b-requires
-    enum-told
+    (λ c. search needs)
     returns
-    enum-told-2
+    (λ c. search needs)
     add-d
     loop-less
     loop-again

@@ -21,9 +21,6 @@ loop-holds c = (omega arith, omega arith, none-yet leastD 1)
 least-d-requires : tie.Need-least-d-requires Inv-loop μ-loop
 least-d-requires c κs = let h = c .before .before .before .pre in (h .0, omega (arith, h .1))
 
-enum-told : tie.Need-enum-told Inv-loop μ-loop
-enum-told c = search needs
-
 returns : tie.Need-returns Inv-loop μ-loop
 unfolding leastPlan
 returns c =
@@ -31,9 +28,6 @@ returns c =
     found-at leastD 1 (l .before .before .args .limit) (l .loop .n) (l .loop .inv .2) (l .loop .inv .0) (omega arith)
     (c .before .before .least-d .ensures)
     (c .enum-told .given .1)
-
-enum-told-2 : tie.Need-enum-told-2 Inv-loop μ-loop
-enum-told-2 c = search needs
 
 add-n : tie.Need-add-n Inv-loop μ-loop
 add-n c = omega (arith, c .before .before .before .before .before .before .pre)
@@ -63,9 +57,9 @@ least-plan-spec =
     μ-loop
     loop-holds
     least-d-requires
-    enum-told
+    (λ c. search needs)
     returns
-    enum-told-2
+    (λ c. search needs)
     add-n
     loop-less
     loop-again

@@ -40,9 +40,6 @@ array-copy-out-difference-cell c = omega arith
 array-copy-out-difference-cell-2 : tie.Need-array-copy-out-difference-cell-2 Inv-loop μ-loop
 array-copy-out-difference-cell-2 c = omega arith
 
-difference-cell-requires : tie.Need-difference-cell-requires Inv-loop μ-loop
-difference-cell-requires c κs = search needs
-
 -- in a turn, at position l of the pattern t, where the difference's cell is known
 module _ (c : tie.After-difference-cell Inv-loop μ-loop) where
   abbrev head : tie.At-loop Inv-loop μ-loop
@@ -111,7 +108,7 @@ mark-from-spec =
     loop-holds
     array-copy-out-difference-cell
     array-copy-out-difference-cell-2
-    difference-cell-requires
+    (λ c κs. search needs)
     slice-write-marks
     add-l
     loop-less

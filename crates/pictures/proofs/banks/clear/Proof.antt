@@ -44,12 +44,6 @@ module _ (p : Plan) (W H : ℕ) (mem : List ℕ) (k : ℕ) where
   refused {r} is told =
       refusal-given tests Outcome.Refused mem Outcome.Done zeroed r (bank-refusal-shows p W H (length mem) k is told)
 
-bank-depth-requires : tie.Need-bank-depth-requires
-bank-depth-requires c κs = search needs
-
-enum-known-depth : tie.Need-enum-known-depth
-enum-known-depth c = search needs
-
 -- the bank's depth was told
 told :
     (c : tie.After-known-told) →
@@ -69,23 +63,8 @@ mul-end c = omega (arith, end-at-most _ _ _ _ _ (told c))
 mul-clear-words : tie.Need-mul-clear-words
 mul-clear-words c = omega (arith, end-at-most _ _ _ _ _ (told c))
 
-sub-clear-words : tie.Need-sub-clear-words
-sub-clear-words c = search needs
-
-part-clear-words-start : tie.Need-part-clear-words-start
-part-clear-words-start c = search needs
-
 part-clear-words-end : tie.Need-part-clear-words-end
 part-clear-words-end c = omega (arith, end-in-memory _ _ _ _ _ (told c))
-
-clear-words-requires : tie.Need-clear-words-requires
-clear-words-requires c κs = search needs
-
-enum-known-depth-2 : tie.Need-enum-known-depth-2
-enum-known-depth-2 c = search needs
-
-same-length : tie.Need-same-length
-same-length c = search needs
 
 returns : tie.Need-returns
 returns c =
@@ -99,17 +78,13 @@ pub clear-spec : {M : Type 1} → statement M
 clear-spec =
     tie.close
     (tie.spec
-    bank-depth-requires
-    enum-known-depth
+    (λ c κs. search needs) (λ c. search needs)
     mul-start
     add-end
     mul-end
     mul-clear-words
-    sub-clear-words
-    part-clear-words-start
+    (λ c. search needs) (λ c. search needs)
     part-clear-words-end
-    clear-words-requires
-    enum-known-depth-2
-    same-length
+    (λ c κs. search needs) (λ c. search needs) (λ c. search needs)
     returns
     returns-2)

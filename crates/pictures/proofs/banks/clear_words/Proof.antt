@@ -27,9 +27,6 @@ slice-write-words c = omega (arith, c .before .loop .inv .1 .size)
 add-e : tie.Need-add-e Inv-loop μ-loop
 add-e c = omega (arith, c .before .loop .inv .1 .size)
 
-loop-less : tie.Need-loop-less Inv-loop μ-loop
-loop-less c = search needs
-
 loop-again : tie.Need-loop-again Inv-loop μ-loop
 loop-again c = (omega (arith, c .before .loop .inv .1 .size), filled-more (c .before .loop .inv .1) refl)
 
@@ -53,7 +50,7 @@ clear-words-spec =
     mul-words
     slice-write-words
     add-e
-    loop-less
+    (λ c. search needs)
     loop-again
     same-length
     returns)

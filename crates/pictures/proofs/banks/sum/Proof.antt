@@ -44,12 +44,6 @@ module _ (p : Plan) (W H : ℕ) (mem : List ℕ) (k : ℕ) where
   refused {r} is told =
       sym (answered-some tests Counted.Refused total r (bank-refusal-shows p W H (length mem) k is told))
 
-bank-depth-requires : tie.Need-bank-depth-requires
-bank-depth-requires c κs = search needs
-
-enum-known-depth : tie.Need-enum-known-depth
-enum-known-depth c = search needs
-
 -- the bank's depth was told
 told :
     (c : tie.After-known-told) →
@@ -69,20 +63,11 @@ mul-end c = omega (arith, end-at-most _ _ _ _ _ (told c))
 mul-sum-words : tie.Need-mul-sum-words
 mul-sum-words c = omega (arith, end-at-most _ _ _ _ _ (told c))
 
-sub-sum-words : tie.Need-sub-sum-words
-sub-sum-words c = search needs
-
-part-sum-words-start : tie.Need-part-sum-words-start
-part-sum-words-start c = search needs
-
 part-sum-words-end : tie.Need-part-sum-words-end
 part-sum-words-end c = omega (arith, end-in-memory _ _ _ _ _ (told c))
 
 sum-words-requires : tie.Need-sum-words-requires
 sum-words-requires c κs = part-at-most _ _ _ _ _ (told (c .before))
-
-enum-known-depth-2 : tie.Need-enum-known-depth-2
-enum-known-depth-2 c = search needs
 
 returns : tie.Need-returns
 returns c = summed _ _ _ _ _ (told (c .before .before)) (c .sum-words .ensures)
@@ -94,16 +79,14 @@ pub sum-spec : {M : Type 1} → statement M
 sum-spec =
     tie.close
     (tie.spec
-    bank-depth-requires
-    enum-known-depth
+    (λ c κs. search needs) (λ c. search needs)
     mul-start
     add-end
     mul-end
     mul-sum-words
-    sub-sum-words
-    part-sum-words-start
+    (λ c. search needs) (λ c. search needs)
     part-sum-words-end
     sum-words-requires
-    enum-known-depth-2
+    (λ c. search needs)
     returns
     returns-2)

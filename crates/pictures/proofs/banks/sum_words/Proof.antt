@@ -29,9 +29,6 @@ sum-from words n h = rw (add-one n) (ap sumOf (drop-cons words n 0 h))
 loop-holds : tie.Need-loop-holds Inv-loop μ-loop
 loop-holds c = (omega arith, omega arith, omega arith)
 
-mul-total : tie.Need-mul-total Inv-loop μ-loop
-mul-total c = search needs
-
 shared-slice-read-total : tie.Need-shared-slice-read-total Inv-loop μ-loop
 shared-slice-read-total c = search needs
 
@@ -51,12 +48,6 @@ cast-total c = omega (arith, at-most c)
 
 add-total : tie.Need-add-total Inv-loop μ-loop
 add-total c = omega (arith, at-most c, small c)
-
-add-n : tie.Need-add-n Inv-loop μ-loop
-add-n c = search needs
-
-loop-less : tie.Need-loop-less Inv-loop μ-loop
-loop-less c = search needs
 
 loop-again : tie.Need-loop-again Inv-loop μ-loop
 loop-again c =
@@ -79,11 +70,10 @@ sum-words-spec =
     Inv-loop
     μ-loop
     loop-holds
-    mul-total
+    (λ c. search needs)
     shared-slice-read-total
     cast-total
     add-total
-    add-n
-    loop-less
+    (λ c. search needs) (λ c. search needs)
     loop-again
     returns)

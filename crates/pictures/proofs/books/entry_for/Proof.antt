@@ -10,9 +10,6 @@ use Rattle.pictures.specs.Fetching.{entryFor}
 use Rattle.pictures.proofs.books.entry_for.Statement.{statement}
 use Rattle.pictures.proofs.books.entry_for.Tie as tie
 
-entry-number-requires : tie.Need-entry-number-requires
-entry-number-requires c κs = search needs
-
 -- the entry is one of the record's
 below-16 : (c : tie.After-entry-number) → c .entry-number .result < 16
 below-16 c = subst (λ (k : ℕ). k < 16) (sym (c .entry-number .ensures)) (entry-number-below (c .before .args .n))
@@ -28,4 +25,4 @@ unfolding entryFor
 returns c = ap (patternAt (c .before .before .args .t1)) (c .before .entry-number .ensures)
 
 pub entry-for-spec : {M : Type 1} → statement M
-entry-for-spec = tie.close (tie.spec entry-number-requires mul-result element-copy-out-result returns)
+entry-for-spec = tie.close (tie.spec (λ c κs. search needs) mul-result element-copy-out-result returns)

@@ -6,18 +6,6 @@ use Rattle.pictures.proofs.OfBooks.{fetch-by-entry}
 use Rattle.pictures.proofs.books.fetch.Statement.{statement}
 use Rattle.pictures.proofs.books.fetch.Tie as tie
 
-record-outcome-requires : tie.Need-record-outcome-requires
-record-outcome-requires c κs = search needs
-
-entry-for-requires : tie.Need-entry-for-requires
-entry-for-requires c κs = search needs
-
-fetch-pattern-requires : tie.Need-fetch-pattern-requires
-fetch-pattern-requires c κs = search needs
-
-same-length : tie.Need-same-length
-same-length c = search needs
-
 returns : tie.Need-returns
 returns c =
     let f = c .before .before in
@@ -29,4 +17,4 @@ returns c =
 
 pub fetch-spec : {M : Type 1} → statement M
 fetch-spec =
-    tie.close (tie.spec record-outcome-requires entry-for-requires fetch-pattern-requires same-length returns)
+    tie.close (tie.spec (λ c κs. search needs) (λ c κs. search needs) (λ c κs. search needs) (λ c. search needs) returns)

@@ -9,12 +9,6 @@ use Rattle.pictures.proofs.fetching.deliver.Tie as tie
 returns : tie.Need-returns
 returns c = too-short _ _ _ _ _ _ _ (c .if1 .taken)
 
-put-words-requires : tie.Need-put-words-requires
-put-words-requires c κs = search needs
-
-same-length : tie.Need-same-length
-same-length c = search needs
-
 returns-2 : tie.Need-returns-2
 returns-2 c =
     let e = c .before .before .before .before in
@@ -22,4 +16,4 @@ returns-2 c =
     enough-room _ _ _ _ _ _ _ (e .if1 .left) (pixel-handed (f .i) (f .j)) (c .before .before .put-words .ensures)
 
 pub deliver-spec : {M : Type 1} → statement M
-deliver-spec = tie.close (tie.spec returns put-words-requires same-length returns-2)
+deliver-spec = tie.close (tie.spec returns (λ c κs. search needs) (λ c. search needs) returns-2)

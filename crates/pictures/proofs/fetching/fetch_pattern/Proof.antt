@@ -15,19 +15,10 @@ use Rattle.pictures.proofs.Deliveries.{fetch-turned-down, fetch-outside
 use Rattle.pictures.proofs.fetching.fetch_pattern.Statement.{statement}
 use Rattle.pictures.proofs.fetching.fetch_pattern.Tie as tie
 
-start-outcome-requires : tie.Need-start-outcome-requires
-start-outcome-requires c κs = search needs
-
-enum-known-outcome : tie.Need-enum-known-outcome
-enum-known-outcome c = search needs
-
 returns : tie.Need-returns
 returns c =
     fetch-turned-down _ _ _ _ _ _ _ _ _ _ _
     (start-turned-down _ _ _ _ _ _ _ _ (c .before .before .before .start-outcome .ensures) (c .before .outcome .given .1))
-
-enum-told : tie.Need-enum-told
-enum-told c = search needs
 
 -- the first tests found nothing
 module _ (c : tie.After-enum-told) where
@@ -56,9 +47,6 @@ returns-2 c =
 deliver-requires : tie.Need-deliver-requires
 deliver-requires c κs = let b = c .before .before .before in (begun b .picture, begun b .most)
 
-same-length : tie.Need-same-length
-same-length c = search needs
-
 returns-3 : tie.Need-returns-3
 returns-3 c =
     let e = c .before .before .before .before in
@@ -71,12 +59,11 @@ pub fetch-pattern-spec : {M : Type 1} → statement M
 fetch-pattern-spec =
     tie.close
     (tie.spec
-    start-outcome-requires
-    enum-known-outcome
+    (λ c κs. search needs) (λ c. search needs)
     returns
-    enum-told
+    (λ c. search needs)
     all-inside-requires
     returns-2
     deliver-requires
-    same-length
+    (λ c. search needs)
     returns-3)

@@ -16,19 +16,10 @@ use Rattle.pictures.proofs.Deliveries.{ring-turned-down, ring-no-multip
 use Rattle.pictures.proofs.fetching.ring_fetch_pattern.Statement.{statement}
 use Rattle.pictures.proofs.fetching.ring_fetch_pattern.Tie as tie
 
-start-outcome-requires : tie.Need-start-outcome-requires
-start-outcome-requires c κs = search needs
-
-enum-known-outcome : tie.Need-enum-known-outcome
-enum-known-outcome c = search needs
-
 returns : tie.Need-returns
 returns c =
     ring-turned-down _ _ _ _ _ _ _ _ _ _ _
     (start-turned-down _ _ _ _ _ _ _ _ (c .before .before .before .start-outcome .ensures) (c .before .outcome .given .1))
-
-enum-told : tie.Need-enum-told
-enum-told c = search needs
 
 -- the first tests found nothing
 module _ (c : tie.After-enum-told) where
@@ -65,9 +56,6 @@ returns-3 c =
 deliver-requires : tie.Need-deliver-requires
 deliver-requires c κs = let b = c .before .before .before .before in (begun b .picture, begun b .most)
 
-same-length : tie.Need-same-length
-same-length c = search needs
-
 returns-4 : tie.Need-returns-4
 unfolding banks
 returns-4 c =
@@ -83,15 +71,14 @@ pub ring-fetch-pattern-spec : {M : Type 1} → statement M
 ring-fetch-pattern-spec =
     tie.close
     (tie.spec
-    start-outcome-requires
-    enum-known-outcome
+    (λ c κs. search needs) (λ c. search needs)
     returns
-    enum-told
+    (λ c. search needs)
     mul-banks
     rem-if1
     returns-2
     rem-if2
     returns-3
     deliver-requires
-    same-length
+    (λ c. search needs)
     returns-4)

@@ -18,22 +18,10 @@ use Rattle.pictures.proofs.Starts.{refused-by-clash, all-passed}
 use Rattle.pictures.proofs.fetching.start_outcome.Statement.{statement}
 use Rattle.pictures.proofs.fetching.start_outcome.Tie as tie
 
-enum-told : tie.Need-enum-told
-enum-told c = search needs
-
 returns : tie.Need-returns
 returns c =
     let refused = c .enum-told .given .1 in
     refused ∙ refused-by-tested _ _ _ _ _ _ _ _ (ap foundBy refused)
-
-enum-told-2 : tie.Need-enum-told-2
-enum-told-2 c = search needs
-
-picture-depth-requires : tie.Need-picture-depth-requires
-picture-depth-requires c κs = search needs
-
-enum-known-depth : tie.Need-enum-known-depth
-enum-known-depth c = search needs
 
 -- the book's tests found nothing
 legal : (c : tie.After-enum-told2) → foundBy (c .before .before .args .tested) ≡ none
@@ -44,9 +32,6 @@ returns-2 c =
     let d = c .before .before .before in
     refused-by-picture _ _ _ _ _ _ _ _ (legal (d .before))
     (picture-refusal-shows _ _ _ _ (d .picture-depth .ensures) (c .before .depth .given .1))
-
-enum-told-3 : tie.Need-enum-told-3
-enum-told-3 c = search needs
 
 -- nor did the picture's
 module _ (c : tie.After-enum-told3) where
@@ -69,12 +54,6 @@ returns-4 c =
     let f = c .before .before in
     let e = f .before in
     refused-by-size _ _ _ _ _ _ _ _ (passed e) (is-picture e) (f .if1 .left) (c .if2 .taken)
-
-clash-in-requires : tie.Need-clash-in-requires
-clash-in-requires c κs = search needs
-
-enum-known-met : tie.Need-enum-known-met
-enum-known-met c = search needs
 
 -- the book has the pattern, the pattern is not too large, and this was met in it
 module _ (c : tie.After-clash-in) where
@@ -101,9 +80,6 @@ returns-5 c =
     refused-by-clash _ _ _ _ _ _ _ _ (passed e) (is-picture e) (below k) (most k)
     (at-found _ (met-is k) (c .before .met .given .1))
 
-enum-told-4 : tie.Need-enum-told-4
-enum-told-4 c = search needs
-
 returns-6 : tie.Need-returns-6
 returns-6 c =
     let k = c .before .before in
@@ -115,17 +91,14 @@ pub start-outcome-spec : {M : Type 1} → statement M
 start-outcome-spec =
     tie.close
     (tie.spec
-    enum-told
+    (λ c. search needs)
     returns
-    enum-told-2
-    picture-depth-requires
-    enum-known-depth
+    (λ c. search needs) (λ c κs. search needs) (λ c. search needs)
     returns-2
-    enum-told-3
+    (λ c. search needs)
     returns-3
     returns-4
-    clash-in-requires
-    enum-known-met
+    (λ c κs. search needs) (λ c. search needs)
     returns-5
-    enum-told-4
+    (λ c. search needs)
     returns-6)

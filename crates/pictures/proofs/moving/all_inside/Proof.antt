@@ -32,9 +32,6 @@ loop-holds c = (omega arith, none-inside _ _ _ _)
 array-copy-out-is-within : tie.Need-array-copy-out-is-within Inv-loop μ-loop
 array-copy-out-is-within c = omega (arith, c .before .before .before .before .pre)
 
-is-within-requires : tie.Need-is-within-requires Inv-loop μ-loop
-is-within-requires c κs = search needs
-
 -- what the test of the column told
 column-shows :
     (c : tie.After-is-within Inv-loop μ-loop)
@@ -78,21 +75,12 @@ returns c =
 array-copy-out-is-within-2 : tie.Need-array-copy-out-is-within-2 Inv-loop μ-loop
 array-copy-out-is-within-2 c = array-copy-out-is-within (c .before .before .before)
 
-is-within-requires-2 : tie.Need-is-within-requires-2 Inv-loop μ-loop
-is-within-requires-2 c κs = search needs
-
 returns-2 : tie.Need-returns-2 Inv-loop μ-loop
 returns-2 c =
     let i = c .before .before .before .before .before .before in
     let l = i .before in
     answers (l .before .before .before)
     (row-outside _ _ _ _ (l .loop .e) (i .loop-test .taken) (fails (row-shows (c .before)) (c .if2 .taken)))
-
-add-e : tie.Need-add-e Inv-loop μ-loop
-add-e c = search needs
-
-loop-less : tie.Need-loop-less Inv-loop μ-loop
-loop-less c = search needs
 
 loop-again : tie.Need-loop-again Inv-loop μ-loop
 loop-again c =
@@ -118,12 +106,11 @@ all-inside-spec =
     μ-loop
     loop-holds
     array-copy-out-is-within
-    is-within-requires
+    (λ c κs. search needs)
     returns
     array-copy-out-is-within-2
-    is-within-requires-2
+    (λ c κs. search needs)
     returns-2
-    add-e
-    loop-less
+    (λ c. search needs) (λ c. search needs)
     loop-again
     returns-3)

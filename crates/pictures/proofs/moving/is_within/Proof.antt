@@ -9,15 +9,6 @@ use Rattle.pictures.proofs.Moved.{raised-sum, below-outside, above-is}
 use Rattle.pictures.proofs.moving.is_within.Statement.{statement}
 use Rattle.pictures.proofs.moving.is_within.Tie as tie
 
-raised16-requires : tie.Need-raised16-requires
-raised16-requires c κs = search needs
-
-raised8-requires : tie.Need-raised8-requires
-raised8-requires c κs = search needs
-
-add-x : tie.Need-add-x
-add-x c = search needs
-
 -- the sum of the raised coordinates
 sum-is :
     (c : tie.After-raised8)
@@ -35,4 +26,4 @@ returns-2 : tie.Need-returns-2
 returns-2 c = sym (above-is 32896 _ _ _ (sum-is (c .before)) (c .if1 .left))
 
 pub is-within-spec : {M : Type 1} → statement M
-is-within-spec = tie.close (tie.spec raised16-requires raised8-requires add-x returns returns-2)
+is-within-spec = tie.close (tie.spec (λ c κs. search needs) (λ c κs. search needs) (λ c. search needs) returns returns-2)

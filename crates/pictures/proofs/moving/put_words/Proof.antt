@@ -78,17 +78,8 @@ word-at-requires c κs =
     subst (λ (v : Pixel). wordTest (u .p) (u .w) (u .h) (length (u .mem .now)) v ≡ none) (sym (pixel-is c))
     (wrapped-has-word _ _ _ _ (picture (turn c)) _)
 
-mul-out : tie.Need-mul-out Inv-loop μ-loop
-mul-out c = search needs
-
 slice-write-out : tie.Need-slice-write-out Inv-loop μ-loop
 slice-write-out c = omega (arith, room (turn (c .before)))
-
-add-e : tie.Need-add-e Inv-loop μ-loop
-add-e c = search needs
-
-loop-less : tie.Need-loop-less Inv-loop μ-loop
-loop-less c = search needs
 
 loop-again : tie.Need-loop-again Inv-loop μ-loop
 loop-again c =
@@ -124,10 +115,9 @@ put-words-spec =
     array-copy-out-wrapped-to-2
     wrapped-to-requires-2
     word-at-requires
-    mul-out
+    (λ c. search needs)
     slice-write-out
-    add-e
-    loop-less
+    (λ c. search needs) (λ c. search needs)
     loop-again
     same-length
     returns)

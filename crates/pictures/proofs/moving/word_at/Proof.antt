@@ -33,9 +33,6 @@ loaded-word p W H mem {i} {j} f g e clear =
     ∙ ap (load p W H mem) (pixel-handed f g)
     ∙ answered-none (wordTest p W H (length mem) (at i j)) Loaded.Refused (Loaded.Word (wordIn p W H mem (at i j))) clear)
 
-load-requires : tie.Need-load-requires
-load-requires c κs = search needs
-
 -- what the load answered is the pixel's word
 answer-is :
     (c : tie.After-load)
@@ -45,12 +42,6 @@ answer-is c =
     let s = c .before .before in
     loaded-word (s .args .p) (s .args .w) (s .args .h) (s .args .mem .now) (s .fits .i) (s .fits .j) (c .load .ensures) (s .pre)
 
-enum-known-word : tie.Need-enum-known-word
-enum-known-word c = search needs
-
-enum-told : tie.Need-enum-told
-enum-told c = search needs
-
 returns : tie.Need-returns
 returns c = value-injective (ap ofLoaded (sym (c .before .word .given .1)) ∙ answer-is (c .before .before .before))
 
@@ -58,4 +49,4 @@ returns-2 : tie.Need-returns-2
 returns-2 c = absurd (value-not-refusal (sym (answer-is (c .before .before)) ∙ ap ofLoaded (c .enum-told .given .1)))
 
 pub word-at-spec : {M : Type 1} → statement M
-word-at-spec = tie.close (tie.spec load-requires enum-known-word enum-told returns returns-2)
+word-at-spec = tie.close (tie.spec (λ c κs. search needs) (λ c. search needs) (λ c. search needs) returns returns-2)

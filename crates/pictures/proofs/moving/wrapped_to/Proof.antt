@@ -57,9 +57,6 @@ cast-x-2 c = widened-fits w8 w32 tt (c .args .c) (c .fits .c)
 add-x : tie.Need-add-x
 add-x c = sum-fits (c .fits .z) (c .fits .c)
 
-is-within-requires : tie.Need-is-within-requires
-is-within-requires c κs = search needs
-
 -- what is handed on where the sum is within the side
 within-is :
     (c : tie.Then1)
@@ -74,12 +71,6 @@ cast-result c = remainder-fits _ _ (c .before .before .pre) (within-is c)
 
 returns : tie.Need-returns
 returns c = toZ-ofZ (cast-result c) ∙ within-is c
-
-sub-remainder : tie.Need-sub-remainder
-sub-remainder c = search needs
-
-remainder-requires : tie.Need-remainder-requires
-remainder-requires c κs = search needs
 
 -- and where it is not
 remainder-is :
@@ -103,10 +94,9 @@ wrapped-to-spec =
     cast-x
     cast-x-2
     add-x
-    is-within-requires
+    (λ c κs. search needs)
     cast-result
     returns
-    sub-remainder
-    remainder-requires
+    (λ c. search needs) (λ c κs. search needs)
     cast-result-2
     returns-2)

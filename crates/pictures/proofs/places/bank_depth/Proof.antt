@@ -59,12 +59,6 @@ module _ (p : Plan) (W H words k : ℕ) where
       bank-there h =
           e ∙ ap Counted.Number (sym (picture-shows p W H words is e .1)) ∙ sym (given (past-picture ∙ bank-decides p k .passes h))
 
-picture-depth-requires : tie.Need-picture-depth-requires
-picture-depth-requires c κs = search needs
-
-enum-told : tie.Need-enum-told
-enum-told c = search needs
-
 -- the callee gave a number
 module _ (c : tie.After-struct-known) where
   abbrev start : tie.Start
@@ -89,9 +83,6 @@ returns c =
     let s = c .before in
     no-such-bank _ _ _ _ _ (is-depth s) (s .before .enum-told .given .1) (c .if1 .taken)
 
-enum-told-2 : tie.Need-enum-told-2
-enum-told-2 c = search needs
-
 returns-2 : tie.Need-returns-2
 returns-2 c =
     let s = c .before in
@@ -104,11 +95,10 @@ pub bank-depth-spec : {M : Type 1} → statement M
 bank-depth-spec =
     tie.close
     (tie.spec
-    picture-depth-requires
-    enum-told
+    (λ c κs. search needs) (λ c. search needs)
     mul-if1
     cast-if1
     returns
-    enum-told-2
+    (λ c. search needs)
     returns-2
     returns-3)

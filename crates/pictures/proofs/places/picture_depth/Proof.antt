@@ -83,12 +83,6 @@ module _ (p : Plan) (W H words : ℕ) where
           ap Counted.Number (sym (depth-shows .1))
           ∙ sym (given (past-depth ∙ memory-decides p W H words .passes (rw (depth-shows .1) h)))
 
-depth-requires : tie.Need-depth-requires
-depth-requires c κs = search needs
-
-enum-known-answer : tie.Need-enum-known-answer
-enum-known-answer c = search needs
-
 -- the plan's call gave a number, n
 module _ (c : tie.After-struct-known) where
   abbrev start : tie.Start
@@ -121,9 +115,6 @@ mul-if1-2 c = omega (arith, words-at-most _ _ _ (start c .args .words) (is c) (n
 returns : tie.Need-returns
 returns c = memory-short _ _ _ _ (is (c .before)) (number-is (c .before)) (c .if1 .taken)
 
-enum-told : tie.Need-enum-told
-enum-told c = search needs
-
 returns-2 : tie.Need-returns-2
 returns-2 c = memory-enough _ _ _ _ (is (c .before)) (number-is (c .before)) (c .if1 .left)
 
@@ -134,12 +125,11 @@ pub picture-depth-spec : {M : Type 1} → statement M
 picture-depth-spec =
     tie.close
     (tie.spec
-    depth-requires
-    enum-known-answer
+    (λ c κs. search needs) (λ c. search needs)
     mul-if1
     cast-if1
     mul-if1-2
     returns
-    enum-told
+    (λ c. search needs)
     returns-2
     returns-3)

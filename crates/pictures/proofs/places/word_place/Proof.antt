@@ -103,24 +103,6 @@ module _ (p : Plan) (W H words : ℕ) (v : Pixel) where
             below : k * n + u < words
             below = rw place-is at (word-in-memory p W H words v passed)
 
-picture-depth-requires : tie.Need-picture-depth-requires
-picture-depth-requires c κs = search needs
-
-enum-known-answer : tie.Need-enum-known-answer
-enum-known-answer c = search needs
-
-address-requires : tie.Need-address-requires
-address-requires c κs = search needs
-
-enum-known-address : tie.Need-enum-known-address
-enum-known-address c = search needs
-
-bank-requires : tie.Need-bank-requires
-bank-requires c κs = search needs
-
-enum-known-bank : tie.Need-enum-known-bank
-enum-known-bank c = search needs
-
 -- the picture's depth is n, and the pixel's address was asked for
 module _ (c : tie.After-address) where
   abbrev told : tie.After-answer
@@ -188,12 +170,6 @@ returns c =
     let a = addressed b in
     answer-is _ _ _ _ (pixel a) (depth-given a) (n-given a) (address-given a) (bank-given b) (u-given b) (k-given c)
 
-enum-told : tie.Need-enum-told
-enum-told c = search needs
-
-enum-told-2 : tie.Need-enum-told-2
-enum-told-2 c = search needs
-
 returns-2 : tie.Need-returns-2
 returns-2 c =
     let b = c .before .before in
@@ -205,9 +181,6 @@ returns-3 c =
     let a = c .before .before in
     no-address _ _ _ _ (pixel a) (depth-given a) (n-given a) (address-given a) _ (c .enum-told2 .given .1)
 
-enum-told-3 : tie.Need-enum-told-3
-enum-told-3 c = search needs
-
 returns-4 : tie.Need-returns-4
 returns-4 c = no-picture _ _ _ _ _ (c .before .before .picture-depth .ensures) _ (c .enum-told3 .given .1)
 
@@ -215,18 +188,13 @@ pub word-place-spec : {M : Type 1} → statement M
 word-place-spec =
     tie.close
     (tie.spec
-    picture-depth-requires
-    enum-known-answer
-    address-requires
-    enum-known-address
-    bank-requires
-    enum-known-bank
+    (λ c κs. search needs) (λ c. search needs) (λ c κs. search needs) (λ c. search needs) (λ c κs. search needs)
+    (λ c. search needs)
     mul-t13
     add-t14
     returns
-    enum-told
-    enum-told-2
+    (λ c. search needs) (λ c. search needs)
     returns-2
     returns-3
-    enum-told-3
+    (λ c. search needs)
     returns-4)

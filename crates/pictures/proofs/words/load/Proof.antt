@@ -36,12 +36,6 @@ module _ (p : Plan) (W H : ℕ) (mem : List ℕ) (v : Pixel) {place : Counted} (
       (answered-some (wordTest p W H (length mem) v) Loaded.Refused (Loaded.Word (wordIn p W H mem v)) r
       (place-refusal-shows p W H (length mem) v is e))
 
-word-place-requires : tie.Need-word-place-requires
-word-place-requires c κs = search needs
-
-enum-known-place : tie.Need-enum-known-place
-enum-known-place c = search needs
-
 -- the place was asked for
 place-given :
     (c : tie.After-word-place) →
@@ -59,9 +53,6 @@ mul-t13 c = omega (arith, in-memory (c .before))
 shared-slice-read-t15 : tie.Need-shared-slice-read-t15
 shared-slice-read-t15 c = in-memory (c .before .before)
 
-enum-known-place-2 : tie.Need-enum-known-place-2
-enum-known-place-2 c = search needs
-
 returns : tie.Need-returns
 returns c = loaded _ _ _ _ _ (place-given (c .before .before .before .before)) (c .before .before .place .given .1)
 
@@ -72,10 +63,9 @@ pub load-spec : {M : Type 1} → statement M
 load-spec =
     tie.close
     (tie.spec
-    word-place-requires
-    enum-known-place
+    (λ c κs. search needs) (λ c. search needs)
     mul-t13
     shared-slice-read-t15
-    enum-known-place-2
+    (λ c. search needs)
     returns
     returns-2)

@@ -42,12 +42,6 @@ module _ (p : Plan) (W H : ℕ) (mem : List ℕ) (v : Pixel) (x : ℕ) where
     refused {r} e =
         refusal-given tests Outcome.Refused mem Outcome.Done after r (place-refusal-shows p W H (length mem) v is e)
 
-word-place-requires : tie.Need-word-place-requires
-word-place-requires c κs = search needs
-
-enum-known-place : tie.Need-enum-known-place
-enum-known-place c = search needs
-
 -- the place was asked for
 place-given :
     (c : tie.After-word-place) →
@@ -65,12 +59,6 @@ mul-mem c = omega (arith, in-memory (c .before))
 slice-write-mem : tie.Need-slice-write-mem
 slice-write-mem c = in-memory (c .before)
 
-enum-known-place-2 : tie.Need-enum-known-place-2
-enum-known-place-2 c = search needs
-
-same-length : tie.Need-same-length
-same-length c = search needs
-
 returns : tie.Need-returns
 returns c = stored _ _ _ _ _ _ (place-given (c .before .before .before)) (c .before .place .given .1)
 
@@ -81,11 +69,9 @@ pub store-spec : {M : Type 1} → statement M
 store-spec =
     tie.close
     (tie.spec
-    word-place-requires
-    enum-known-place
+    (λ c κs. search needs) (λ c. search needs)
     mul-mem
     slice-write-mem
-    enum-known-place-2
-    same-length
+    (λ c. search needs) (λ c. search needs)
     returns
     returns-2)

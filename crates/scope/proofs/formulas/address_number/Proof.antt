@@ -37,29 +37,8 @@ module _ {m C : ℕ} {y : ℤ} (f : SFits w16 y) (e : m ≡ natAbs (toZ w16 (ofZ
   address-fits : {n : ℕ} {x : ℤ} → SFits w16 x → n ≡ natAbs (toZ w16 (ofZ w16 x)) → (a : ℕ) → Fits w64 (m / d * C + n / a)
   address-fits {n} g i a = record { fits = omega (arith, strips-most, div-le-self n a, size-most g i) }
 
-size-requires : tie.Need-size-requires
-size-requires c κs = search needs
-
-add-result : tie.Need-add-result
-add-result c = search needs
-
-div-result : tie.Need-div-result
-div-result c = search needs
-
-rounded-up-requires : tie.Need-rounded-up-requires
-rounded-up-requires c κs = search needs
-
 mul-result : tie.Need-mul-result
 mul-result c = strips-fit (c .before .before .fits .j) (c .before .size .ensures) _ _ (c .rounded-up .ensures) (omega arith) _
-
-size-requires-2 : tie.Need-size-requires-2
-size-requires-2 c κs = search needs
-
-add-result-2 : tie.Need-add-result-2
-add-result-2 c = search needs
-
-div-result-2 : tie.Need-div-result-2
-div-result-2 c = search needs
 
 add-result-3 : tie.Need-add-result-3
 add-result-3 c =
@@ -81,13 +60,8 @@ pub address-number-spec : {M : Type 1} → statement M
 address-number-spec =
     tie.close
     (tie.spec
-    size-requires
-    add-result
-    div-result
-    rounded-up-requires
+    (λ c κs. search needs) (λ c. search needs) (λ c. search needs) (λ c κs. search needs)
     mul-result
-    size-requires-2
-    add-result-2
-    div-result-2
+    (λ c κs. search needs) (λ c. search needs) (λ c. search needs)
     add-result-3
     returns)

@@ -88,20 +88,11 @@ module _ (b d : ℕ) {q i j : ℤ} (fi : SFits w16 i) (fj : SFits w16 j) (b-smal
 cast-quotient : tie.Need-cast-quotient
 cast-quotient c = widened-fits w16 w32 tt (c .args .j) (c .fits .j)
 
-quotient-requires : tie.Need-quotient-requires
-quotient-requires c κs = search needs
-
 cast-remainder : tie.Need-cast-remainder
 cast-remainder c = cast-quotient (c .before)
 
-remainder-requires : tie.Need-remainder-requires
-remainder-requires c κs = search needs
-
 cast-remainder-2 : tie.Need-cast-remainder-2
 cast-remainder-2 c = widened-fits w16 w64 tt (c .before .before .args .i) (c .before .before .fits .i)
-
-cast-remainder-3 : tie.Need-cast-remainder-3
-cast-remainder-3 c = search needs
 
 mul-remainder : tie.Need-mul-remainder
 mul-remainder c =
@@ -118,12 +109,6 @@ cast-remainder-4 : tie.Need-cast-remainder-4
 cast-remainder-4 c =
     let s = c .before .before in
     narrowed-fits (s .args .b) _ (s .fits .i) (s .fits .j) (omega arith) (c .before .quotient .ensures)
-
-remainder-requires-2 : tie.Need-remainder-requires-2
-remainder-requires-2 c κs = search needs
-
-add-result : tie.Need-add-result
-add-result c = search needs
 
 add-result-2 : tie.Need-add-result-2
 add-result-2 c =
@@ -145,16 +130,15 @@ bank-number-spec =
     tie.close
     (tie.spec
     cast-quotient
-    quotient-requires
+    (λ c κs. search needs)
     cast-remainder
-    remainder-requires
+    (λ c κs. search needs)
     cast-remainder-2
-    cast-remainder-3
+    (λ c. search needs)
     mul-remainder
     sub-remainder
     cast-remainder-4
-    remainder-requires-2
-    add-result
+    (λ c κs. search needs) (λ c. search needs)
     mul-result
     add-result-2
     returns)

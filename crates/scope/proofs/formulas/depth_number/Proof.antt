@@ -6,12 +6,6 @@ use Rattle.scope.proofs.Ceilings.{product-fits}
 use Rattle.scope.proofs.formulas.depth_number.Statement.{statement}
 use Rattle.scope.proofs.formulas.depth_number.Tie as tie
 
-rounded-up-requires : tie.Need-rounded-up-requires
-rounded-up-requires c κs = search needs
-
-rounded-up-requires-2 : tie.Need-rounded-up-requires-2
-rounded-up-requires-2 c κs = search needs
-
 mul-result : tie.Need-mul-result
 mul-result c = product-fits _ _ (c .before .rounded-up .ensures) _ _ (c .rounded-up2 .ensures) (omega arith) (omega arith)
 
@@ -20,4 +14,4 @@ returns c = rw (c .before .rounded-up .ensures, c .rounded-up2 .ensures)
 
 pub depth-number-spec : {M : Type 1} → statement M
 depth-number-spec =
-    tie.close (tie.spec rounded-up-requires rounded-up-requires-2 mul-result returns)
+    tie.close (tie.spec (λ c κs. search needs) (λ c κs. search needs) mul-result returns)

@@ -15,12 +15,6 @@ use Rattle.integers.proofs.Raised.{raised-read, lowered}
 use Rattle.scope.proofs.formulas.is_inside.Statement.{statement}
 use Rattle.scope.proofs.formulas.is_inside.Tie as tie
 
-raised16-requires : tie.Need-raised16-requires
-raised16-requires c κs = search needs
-
-raised16-requires-2 : tie.Need-raised16-requires-2
-raised16-requires-2 c κs = search needs
-
 -- what the contract says of one coordinate
 within : ℤ → ℕ → Bool
 within z n = nonNeg z && ltb (natAbs z) n
@@ -89,4 +83,4 @@ returns-4 c =
 pub is-inside-spec : {M : Type 1} → statement M
 is-inside-spec =
     tie.close
-    (tie.spec raised16-requires raised16-requires-2 returns returns-2 returns-3 returns-4)
+    (tie.spec (λ c κs. search needs) (λ c κs. search needs) returns returns-2 returns-3 returns-4)

@@ -147,25 +147,10 @@ module _ (T b S W H k i C : ℕ) where
                   );
             }
 
-add-a : tie.Need-add-a
-add-a c = search needs
-
-add-d : tie.Need-add-d
-add-d c = search needs
-
-rounded-up-requires : tie.Need-rounded-up-requires
-rounded-up-requires c κs = search needs
-
-div-if1 : tie.Need-div-if1
-div-if1 c = search needs
-
 returns : tie.Need-returns
 returns c =
     let v = c .before .before .args in
     no-bank (v .top-a) (v .b) (v .top-d) (v .w) (v .h) (v .k) (v .i) _ (c .before .rounded-up .ensures) refl (c .if1 .taken)
-
-rounded-up-requires-2 : tie.Need-rounded-up-requires-2
-rounded-up-requires-2 c κs = search needs
 
 mul-if2 : tie.Need-mul-if2
 mul-if2 c =
@@ -201,26 +186,17 @@ rem-column c = there c .across-least
 mul-column : tie.Need-mul-column
 mul-column c = there c .start-fits
 
-rem-column-2 : tie.Need-rem-column-2
-rem-column-2 c = search needs
-
 mul-column-2 : tie.Need-mul-column-2
 mul-column-2 c = there c .slant-fits
 
 add-column : tie.Need-add-column
 add-column c = there c .slanted-fits
 
-rem-column-3 : tie.Need-rem-column-3
-rem-column-3 c = search needs
-
 add-column-2 : tie.Need-add-column-2
 add-column-2 c = there c .column-fits
 
 mul-row : tie.Need-mul-row
 mul-row c = there c .bottom-fits
-
-div-row : tie.Need-div-row
-div-row c = search needs
 
 add-row : tie.Need-add-row
 add-row c = there c .row-fits
@@ -231,12 +207,6 @@ returns-3 c = there (c .before) .no-column (c .if3 .taken)
 returns-4 : tie.Need-returns-4
 returns-4 c = there (c .before .before) .no-row (c .before .if3 .left) (c .if4 .taken)
 
-cast-t23 : tie.Need-cast-t23
-cast-t23 c = search needs
-
-cast-t24 : tie.Need-cast-t24
-cast-t24 c = search needs
-
 returns-5 : tie.Need-returns-5
 returns-5 c = there (c .before .before) .pixel (c .before .if3 .left) (c .if4 .left)
 
@@ -244,27 +214,23 @@ pub reverse-map-spec : {M : Type 1} → statement M
 reverse-map-spec =
     tie.close
     (tie.spec
-    add-a
-    add-d
-    rounded-up-requires
-    div-if1
+    (λ c. search needs) (λ c. search needs) (λ c κs. search needs) (λ c. search needs)
     returns
-    rounded-up-requires-2
+    (λ c κs. search needs)
     mul-if2
     returns-2
     div-q
     rem-column
     mul-column
-    rem-column-2
+    (λ c. search needs)
     mul-column-2
     add-column
-    rem-column-3
+    (λ c. search needs)
     add-column-2
     mul-row
-    div-row
+    (λ c. search needs)
     add-row
     returns-3
     returns-4
-    cast-t23
-    cast-t24
+    (λ c. search needs) (λ c. search needs)
     returns-5)

@@ -6,18 +6,9 @@ use Rattle.integers.specs.Division.{ceilDiv}
 use Rattle.scope.proofs.formulas.rounded_up.Statement.{statement}
 use Rattle.scope.proofs.formulas.rounded_up.Tie as tie
 
-add-result : tie.Need-add-result
-add-result c = search needs
-
-add-result-2 : tie.Need-add-result-2
-add-result-2 c = search needs
-
-div-result : tie.Need-div-result
-div-result c = search needs
-
 returns : tie.Need-returns
 unfolding ceilDiv
 returns c = rw (add-sub-cancel (c .args .top) 1)
 
 pub rounded-up-spec : {M : Type 1} → statement M
-rounded-up-spec = tie.close (tie.spec add-result add-result-2 div-result returns)
+rounded-up-spec = tie.close (tie.spec (λ c. search needs) (λ c. search needs) (λ c. search needs) returns)

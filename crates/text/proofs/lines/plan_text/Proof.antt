@@ -7,9 +7,6 @@ use Rattle.text.proofs.LineParts.{plan-lines-at-most, text-put}
 use Rattle.text.proofs.lines.plan_text.Statement.{statement}
 use Rattle.text.proofs.lines.plan_text.Tie as tie
 
-slice-aggregate-put-plan : tie.Need-slice-aggregate-put-plan
-slice-aggregate-put-plan c = search needs
-
 put-plan-requires : tie.Need-put-plan-requires
 put-plan-requires c κs = omega (arith, plan-lines-at-most (c .before .args .p) (omega arith) (omega arith) (omega arith))
 
@@ -17,4 +14,4 @@ returns : tie.Need-returns
 returns c = text-put (planLines (c .before .before .before .args .p)) _ _ (c .before .put-plan .ensures)
 
 pub plan-text-spec : {M : Type 1} → statement M
-plan-text-spec = tie.close (tie.spec slice-aggregate-put-plan put-plan-requires returns)
+plan-text-spec = tie.close (tie.spec (λ c. search needs) put-plan-requires returns)

@@ -33,9 +33,6 @@ sub-put-decimal c = part-starts (bytes-first (c .before .before))
 part-put-decimal-start : tie.Need-part-put-decimal-start
 part-put-decimal-start c = sub-put-decimal c
 
-part-put-decimal-end : tie.Need-part-put-decimal-end
-part-put-decimal-end c = search needs
-
 put-decimal-requires : tie.Need-put-decimal-requires
 put-decimal-requires c κs = room-in-part (bytes-first (c .before .before .before))
 
@@ -54,9 +51,6 @@ add-result c =
     let u = d .before .before .before .before .before .before .before .before in
     omega (arith, both-put d .place, u .pre)
 
-same-length : tie.Need-same-length
-same-length c = search needs
-
 returns : tie.Need-returns
 returns c = (both-put (c .before .before) .place, both-put (c .before .before) .put .is)
 
@@ -67,8 +61,8 @@ put-number-spec =
     put-bytes-requires
     sub-put-decimal
     part-put-decimal-start
-    part-put-decimal-end
+    (λ c. search needs)
     put-decimal-requires
     add-result
-    same-length
+    (λ c. search needs)
     returns)

@@ -14,18 +14,6 @@ use Rattle.text.proofs.LineParts.{banksPart, afterBanks, afterA, afterB
 use Rattle.text.proofs.lines.put_plan.Statement.{statement}
 use Rattle.text.proofs.lines.put_plan.Tie as tie
 
-cast-a : tie.Need-cast-a
-cast-a c = search needs
-
-cast-b : tie.Need-cast-b
-cast-b c = search needs
-
-cast-d : tie.Need-cast-d
-cast-d c = search needs
-
-slice-aggregate-put-number : tie.Need-slice-aggregate-put-number
-slice-aggregate-put-number c = search needs
-
 mul-put-number : tie.Need-mul-put-number
 mul-put-number c = product-fits-64 _ _ (omega arith) (omega arith)
 
@@ -60,17 +48,11 @@ module _ (c : tie.After-put-number) where
   unfolding ascii
   put₁ = first-part-put (room-for-lines (stands₁ .0)) (c .put-number .ensures)
 
-slice-aggregate-put-number-2 : tie.Need-slice-aggregate-put-number-2
-slice-aggregate-put-number-2 c = search needs
-
 sub-put-number : tie.Need-sub-put-number
 sub-put-number c = part-starts (put₁ (c .before .before .before))
 
 part-put-number-start : tie.Need-part-put-number-start
 part-put-number-start c = sub-put-number c
-
-part-put-number-end : tie.Need-part-put-number-end
-part-put-number-end c = search needs
 
 put-number-requires-2 : tie.Need-put-number-requires-2
 unfolding ascii
@@ -91,17 +73,11 @@ module _ (c : tie.After-put-number2) where
 add-at : tie.Need-add-at
 add-at c = record { fits = omega (arith, ends-inside (put₂ (c .before .before))) }
 
-slice-aggregate-put-number-3 : tie.Need-slice-aggregate-put-number-3
-slice-aggregate-put-number-3 c = search needs
-
 sub-put-number-2 : tie.Need-sub-put-number-2
 sub-put-number-2 c = part-starts (put₂ (c .before .before .before))
 
 part-put-number-start-2 : tie.Need-part-put-number-start-2
 part-put-number-start-2 c = sub-put-number-2 c
-
-part-put-number-end-2 : tie.Need-part-put-number-end-2
-part-put-number-end-2 c = search needs
 
 put-number-requires-3 : tie.Need-put-number-requires-3
 unfolding ascii
@@ -122,17 +98,11 @@ module _ (c : tie.After-put-number3) where
 add-at-2 : tie.Need-add-at-2
 add-at-2 c = record { fits = omega (arith, ends-inside (put₃ (c .before .before))) }
 
-slice-aggregate-put-number-4 : tie.Need-slice-aggregate-put-number-4
-slice-aggregate-put-number-4 c = search needs
-
 sub-put-number-3 : tie.Need-sub-put-number-3
 sub-put-number-3 c = part-starts (put₃ (c .before .before .before))
 
 part-put-number-start-3 : tie.Need-part-put-number-start-3
 part-put-number-start-3 c = sub-put-number-3 c
-
-part-put-number-end-3 : tie.Need-part-put-number-end-3
-part-put-number-end-3 c = search needs
 
 put-number-requires-4 : tie.Need-put-number-requires-4
 unfolding ascii
@@ -170,28 +140,25 @@ pub put-plan-spec : {M : Type 1} → statement M
 put-plan-spec =
     tie.close
     (tie.spec
-    cast-a
-    cast-b
-    cast-d
-    slice-aggregate-put-number
+    (λ c. search needs) (λ c. search needs) (λ c. search needs) (λ c. search needs)
     mul-put-number
     put-number-requires
-    slice-aggregate-put-number-2
+    (λ c. search needs)
     sub-put-number
     part-put-number-start
-    part-put-number-end
+    (λ c. search needs)
     put-number-requires-2
     add-at
-    slice-aggregate-put-number-3
+    (λ c. search needs)
     sub-put-number-2
     part-put-number-start-2
-    part-put-number-end-2
+    (λ c. search needs)
     put-number-requires-3
     add-at-2
-    slice-aggregate-put-number-4
+    (λ c. search needs)
     sub-put-number-3
     part-put-number-start-3
-    part-put-number-end-3
+    (λ c. search needs)
     put-number-requires-4
     add-at-3
     slice-write-out

@@ -9,12 +9,6 @@ use Rattle.text.proofs.LineParts.{refusedPart, refused-line-is}
 use Rattle.text.proofs.lines.put_refused.Statement.{statement}
 use Rattle.text.proofs.lines.put_refused.Tie as tie
 
-slice-aggregate-put-number : tie.Need-slice-aggregate-put-number
-slice-aggregate-put-number c = search needs
-
-number-of-requires : tie.Need-number-of-requires
-number-of-requires c κs = search needs
-
 -- there is room for the line
 room-for-line :
     (u : tie.Start)
@@ -42,9 +36,6 @@ slice-write-out c = room-for-last (number-put (c .before .before))
 add-result : tie.Need-add-result
 add-result c = omega (arith, room-for-last (number-put (c .before .before)))
 
-same-length : tie.Need-same-length
-same-length c = search needs
-
 returns : tie.Need-returns
 returns c = let p = last-put (number-put (c .before .before)) in (p .place, p .put .is)
 
@@ -52,10 +43,9 @@ pub put-refused-spec : {M : Type 1} → statement M
 put-refused-spec =
     tie.close
     (tie.spec
-    slice-aggregate-put-number
-    number-of-requires
+    (λ c. search needs) (λ c κs. search needs)
     put-number-requires
     slice-write-out
     add-result
-    same-length
+    (λ c. search needs)
     returns)

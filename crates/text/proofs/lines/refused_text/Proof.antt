@@ -7,9 +7,6 @@ use Rattle.text.proofs.LineParts.{refused-line-at-most, text-put}
 use Rattle.text.proofs.lines.refused_text.Statement.{statement}
 use Rattle.text.proofs.lines.refused_text.Tie as tie
 
-slice-aggregate-put-refused : tie.Need-slice-aggregate-put-refused
-slice-aggregate-put-refused c = search needs
-
 put-refused-requires : tie.Need-put-refused-requires
 put-refused-requires c κs = omega (arith, refused-line-at-most (c .before .args .r))
 
@@ -17,4 +14,4 @@ returns : tie.Need-returns
 returns c = text-put (refusedLine (c .before .before .before .args .r)) _ _ (c .before .put-refused .ensures)
 
 pub refused-text-spec : {M : Type 1} → statement M
-refused-text-spec = tie.close (tie.spec slice-aggregate-put-refused put-refused-requires returns)
+refused-text-spec = tie.close (tie.spec (λ c. search needs) put-refused-requires returns)

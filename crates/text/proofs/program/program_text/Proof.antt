@@ -13,15 +13,6 @@ use Rattle.text.proofs.ProgramTexts.{also-of-longer}
 use Rattle.text.proofs.program.program_text.Statement.{statement}
 use Rattle.text.proofs.program.program_text.Tie as tie
 
-read-book-requires : tie.Need-read-book-requires
-read-book-requires c κs = search needs
-
-enum-known-outcome : tie.Need-enum-known-outcome
-enum-known-outcome c = search needs
-
-refused-text-requires : tie.Need-refused-text-requires
-refused-text-requires c κs = search needs
-
 -- what the reader gave
 module _ (c : tie.After-read-book) where
   abbrev bytes : List ℕ
@@ -36,15 +27,6 @@ returns c =
     also-of-longer (bytes r) _
     (c .refused-text .ensures ∙ ap textOf (text-of-refused (bytes r) (outcome-is r (c .before .before .outcome .given .1))))
 
-enum-told : tie.Need-enum-told
-enum-told c = search needs
-
-find-requires : tie.Need-find-requires
-find-requires c κs = search needs
-
-planned-text-requires : tie.Need-planned-text-requires
-planned-text-requires c κs = search needs
-
 returns-2 : tie.Need-returns-2
 returns-2 c =
     let r = c .before .before .before .before .before in
@@ -57,11 +39,7 @@ pub program-text-spec : {M : Type 1} → statement M
 program-text-spec =
     tie.close
     (tie.spec
-    read-book-requires
-    enum-known-outcome
-    refused-text-requires
+    (λ c κs. search needs) (λ c. search needs) (λ c κs. search needs)
     returns
-    enum-told
-    find-requires
-    planned-text-requires
+    (λ c. search needs) (λ c κs. search needs) (λ c κs. search needs)
     returns-2)
