@@ -22,17 +22,16 @@ module _ (s : List ℕ) (taken : bytesTest s ≡ none) where
   unfolding bookIn
   counted = gathered-book-iff (byte s 0) (patternIn s) .0 (bytes-taken-iff s .0 taken .1)
 
-  pub pattern-count : FromTo 16 (byte s 0)
-  pattern-count = counted .0
-
-  -- at the place of pattern n's pixel count: the count is legal, and it and its pixels are inside
+  -- at the place of pattern n's pixel count: the counts are legal, and this one and its pixels are inside
   module _ {at : ℕ} (n : ℕ) (is : at ≡ start s n) (h : n < byte s 0) where
-    pub pixel-count : FromTo 64 (byte s at)
-    pixel-count = rw is (gathered-pattern-iff (byte s (start s n)) (pixelIn s n) .0 (counted .1 n h) .0)
-
     pub pattern-inside : at + 1 + 2 * byte s at ≤ length s
     pattern-inside = rw is (omega (arith, start-after s n (byte s 0) h, next-start s n, bytes-taken-iff s .0 taken .0))
 
+    pub pattern-bounds : (n < 16) × (byte s at ≤ 64) × (at + 1 + 2 * byte s at ≤ length s)
+    pattern-bounds =
+        let pixels = gathered-pattern-iff (byte s (start s n)) (pixelIn s n) .0 (counted .1 n h) .0 in
+        (omega (arith, counted .0), omega (arith, pixels, ap (byte s) is), pattern-inside)
+
   -- and the pattern count is inside
   pub count-inside : 0 < length s
-  count-inside = omega (arith, pattern-inside 0 refl (pattern-count .0))
+  count-inside = omega (arith, pattern-inside 0 refl (counted .0 .0))

@@ -19,37 +19,39 @@ use Rattle.book.proofs.ReaderRefusals.{part-of-refused, no-such-part}
 use Rattle.book.proofs.part.part_outcome.Statement.{statement}
 use Rattle.book.proofs.part.part_outcome.Tie as tie
 
--- `outcome` is the answer of the bytes' tests
-module _ (s : List ℕ) (n : ℕ) {outcome : Outcome} (answer : outcome ≡ outcomeOf (bytesTest s)) where
-  refused-bytes : {r : Refusal} → outcome ≡ Outcome.Refused r → outcome ≡ partOutcome s n
+-- where the tests of the bytes s have answered
+module _ (c : tie.After-bytes-outcome) where
+  abbrev s : List ℕ
+  s = c .before .before .args .s .now
+
+  abbrev n : ℕ
+  n = c .before .before .args .n
+
+  bytes-refused : {r : Refusal} → c .bytes-outcome .result ≡ Outcome.Refused r → c .bytes-outcome .result ≡ partOutcome s n
   unfolding partOutcome
-  refused-bytes {r} refused =
+  bytes-refused {r} refused =
       refused
-      ∙ answered-by-refusal (partTest s n) r (part-of-refused s n r (refused-found (bytesTest s) answer refused))
+      ∙ answered-by-refusal (partTest s n) r
+      (part-of-refused s n r (refused-found (bytesTest s) (c .bytes-outcome .ensures) refused))
 
-  module _ (done : outcome ≡ Outcome.Done) where
+  module _ (done : c .bytes-outcome .result ≡ Outcome.Done) where
     taken : bytesTest s ≡ none
-    taken = done-found-nothing (bytesTest s) answer done
+    taken = done-found-nothing (bytesTest s) (c .bytes-outcome .ensures) done
 
-    refused-number : byte s 0 ≤ n → Outcome.Refused Refusal.NoPattern ≡ partOutcome s n
+    no-pattern : byte s 0 ≤ n → Outcome.Refused Refusal.NoPattern ≡ partOutcome s n
     unfolding partOutcome
-    refused-number h = answered-by-refusal (partTest s n) Refusal.NoPattern (no-such-part s n taken h)
+    no-pattern h = answered-by-refusal (partTest s n) Refusal.NoPattern (no-such-part s n taken h)
 
-    done-part : n < byte s 0 → Outcome.Done ≡ partOutcome s n
+    part-there : n < byte s 0 → Outcome.Done ≡ partOutcome s n
     unfolding partOutcome
-    done-part h = answered-by-done (partTest s n) (part-test-iff s n .1 (taken, h))
+    part-there h = answered-by-done (partTest s n) (part-test-iff s n .1 (taken, h))
 
 returns : tie.Need-returns
-returns c =
-    let b = c .before .before in
-    let u = b .before .before .args in
-    refused-bytes (u .s .now) (u .n) (b .bytes-outcome .ensures) (c .enum-told .given .1)
+returns c = bytes-refused (c .before .before) (c .enum-told .given .1)
 
 shared-slice-read-if1 : tie.Need-shared-slice-read-if1
 shared-slice-read-if1 c =
-    let b = c .before .before .before in
-    let u = b .before .before .args in
-    count-inside (u .s .now) (taken (u .s .now) (u .n) (b .bytes-outcome .ensures) (c .before .enum-told2 .given .1))
+    let k = c .before in count-inside _ (taken (k .before .before) (k .enum-told2 .given .1))
 
 cast-if1 : tie.Need-cast-if1
 cast-if1 c = omega (arith, c .shared-slice-known2 .given 0)
@@ -57,16 +59,12 @@ cast-if1 c = omega (arith, c .shared-slice-known2 .given 0)
 returns-2 : tie.Need-returns-2
 unfolding byte
 returns-2 c =
-    let b = c .before .before .before .before in
-    let u = b .before .before .args in
-    refused-number (u .s .now) (u .n) (b .bytes-outcome .ensures) (c .before .before .enum-told2 .given .1) (c .if1 .taken)
+    let k = c .before .before in no-pattern (k .before .before) (k .enum-told2 .given .1) (c .if1 .taken)
 
 returns-3 : tie.Need-returns-3
 unfolding byte
 returns-3 c =
-    let b = c .before .before .before .before in
-    let u = b .before .before .args in
-    done-part (u .s .now) (u .n) (b .bytes-outcome .ensures) (c .before .before .enum-told2 .given .1) (c .if1 .left)
+    let k = c .before .before in part-there (k .before .before) (k .enum-told2 .given .1) (c .if1 .left)
 
 pub part-outcome-spec : {M : Type 1} → statement M
 part-outcome-spec =

@@ -7,29 +7,20 @@ use Rattle.book.proofs.part.part_place.Statement.{statement}
 use Rattle.book.proofs.part.part_place.Tie as tie
 
 returns : tie.Need-returns
-returns c =
-    let b = c .before .before in
-    let u = b .before .before .args in
-    refused-place (u .s .now) (u .n) (b .part-outcome .ensures) (c .enum-told .given .1)
+returns c = refused-place _ _ (c .before .before .part-outcome .ensures) (c .enum-told .given .1)
 
 start-of-requires : tie.Need-start-of-requires
-start-of-requires c κs =
-    let b = c .before .before in
-    let u = b .before .before .args in
-    start-shows (u .s .now) (u .n) (b .part-outcome .ensures) (c .enum-told2 .given .1)
+start-of-requires c κs = start-shows _ _ (c .before .before .part-outcome .ensures) (c .enum-told2 .given .1)
 
 add-result : tie.Need-add-result
 add-result c =
-    let b = c .before .before .before in
-    let u = b .before .before .args in
-    let done = c .before .enum-told2 .given .1 in
-    omega (arith, taken-inside (u .s .now) (u .n) (b .part-outcome .ensures) done (c .start-of .ensures))
+    let k = c .before in
+    omega (arith, taken-inside _ _ (k .before .before .part-outcome .ensures) (k .enum-told2 .given .1) (c .start-of .ensures))
 
 returns-2 : tie.Need-returns-2
 returns-2 c =
-    let b = c .before .before .before in
-    let u = b .before .before .args in
-    taken-place (u .s .now) (u .n) (b .part-outcome .ensures) (c .before .enum-told2 .given .1) (c .start-of .ensures)
+    let k = c .before in
+    taken-place _ _ (k .before .before .part-outcome .ensures) (k .enum-told2 .given .1) (c .start-of .ensures)
 
 pub part-place-spec : {M : Type 1} → statement M
 part-place-spec =

@@ -1,10 +1,10 @@
 -- `book::part::pattern_part` meets its contract: the part begins after the pixel count, at the place of the first pixel.
 -- Assumes nothing.
-use Prim.Native.Nat.{ℕ, _+_, _*_, _-_}
+use Prim.Native.Nat.{ℕ, _+_, _*_, _-_, _≤_}
 use native.Mathlib.Omega.{arith}
 use mathlib.Core.Path.{_≡_, sym, _∙_, ap, ap₂}
 use mathlib.Core.List.{List, []}
-use lib.ListN.{take, drop}
+use lib.ListN.{length, take, drop}
 use borrow.Author.Needs.{needs}
 use Rattle.scope.specs.Books.{byte, start, place, partIn}
 use Rattle.scope.specs.Calls.{partTest, partOutcome, patternPart, partPlace}
@@ -41,36 +41,37 @@ module _ (s : List ℕ) (n : ℕ) {outcome : Outcome} (answer : outcome ≡ part
 
 returns : tie.Need-returns
 returns c =
-    let b = c .before .before .before in
-    let u = b .before .before .args in
-    let refused = c .before .enum-told .given .1 in (
-      empty-part (u .s .now) (u .n) (b .part-outcome .ensures) refused,
-      at-start (u .s .now) (u .n) (b .part-outcome .ensures) refused (u .s .ptr),
-    )
+    let k = c .before in
+    let answer = k .before .before .part-outcome .ensures in
+    let refused = k .enum-told .given .1 in
+    (empty-part _ _ answer refused, at-start _ _ answer refused _)
 
 start-of-requires : tie.Need-start-of-requires
-start-of-requires c κs =
-    let b = c .before .before in
-    let u = b .before .before .args in
-    start-shows (u .s .now) (u .n) (b .part-outcome .ensures) (c .enum-told2 .given .1)
+start-of-requires c κs = start-shows _ _ (c .before .before .part-outcome .ensures) (c .enum-told2 .given .1)
+
+-- where the part was not refused, and the place of its pixel count is known
+module _ (c : tie.After-start-of) where
+  abbrev answered : tie.After-part-outcome
+  answered = c .before .before .before
+
+  abbrev s : List ℕ
+  s = answered .before .before .args .s .now
+
+  done : answered .part-outcome .result ≡ Outcome.Done
+  done = c .before .enum-told2 .given .1
+
+  inside : c .start-of .result + 1 + 2 * byte s (c .start-of .result) ≤ length s
+  inside = taken-inside _ _ (answered .part-outcome .ensures) done (c .start-of .ensures)
 
 add-first : tie.Need-add-first
-add-first c =
-    let b = c .before .before .before in
-    let u = b .before .before .args in
-    let done = c .before .enum-told2 .given .1 in
-    omega (arith, taken-inside (u .s .now) (u .n) (b .part-outcome .ensures) done (c .start-of .ensures))
+add-first c = omega (arith, inside c)
 
 part-result-end-2 : tie.Need-part-result-end-2
 unfolding byte
-part-result-end-2 c =
-    let b = c .before .before .before .before in
-    let u = b .before .before .args in
-    let done = c .before .before .enum-told2 .given .1 in
-    taken-inside (u .s .now) (u .n) (b .part-outcome .ensures) done (c .before .start-of .ensures)
+part-result-end-2 c = inside (c .before)
 
 shared-slice-read-end : tie.Need-shared-slice-read-end
-shared-slice-read-end c = omega (arith, part-result-end-2 c)
+shared-slice-read-end c = omega (arith, inside (c .before))
 
 cast-end : tie.Need-cast-end
 cast-end c = omega (arith, c .shared-slice-known2 .given (c .before .start-of .result))
@@ -84,12 +85,10 @@ add-end c = omega (arith, part-result-end-2 c)
 returns-2 : tie.Need-returns-2
 unfolding byte
 returns-2 c =
-    let b = c .before .before .before .before .before in
-    let u = b .before .before .args in
-    let done = c .before .before .before .enum-told2 .given .1 in
-    let is = c .before .before .start-of .ensures in (
-      part-there (u .s .now) (u .n) (b .part-outcome .ensures) done is,
-      at-first-pixel (u .s .now) (u .n) (b .part-outcome .ensures) done is (u .s .ptr),
+    let k = c .before .before in
+    let answer = answered k .part-outcome .ensures in (
+      part-there _ _ answer (done k) (k .start-of .ensures),
+      at-first-pixel _ _ answer (done k) (k .start-of .ensures) _,
     )
 
 pub pattern-part-spec : {M : Type 1} → statement M

@@ -24,63 +24,21 @@ Inv-loop s at used columns₀ rows₀ e₀ columns rows e =
 abbrev μ-loop : tie.MeasureT-loop
 μ-loop s at used columns₀ rows₀ e₀ columns rows e = used - e
 
-shared-slice-read-used : tie.Need-shared-slice-read-used Inv-loop μ-loop
-shared-slice-read-used c = omega arith
-
-cast-used : tie.Need-cast-used Inv-loop μ-loop
-unfolding byte
-cast-used c = omega arith
-
 loop-holds : tie.Need-loop-holds Inv-loop μ-loop
 loop-holds c = (omega arith, filled-none _, filled-none _)
 
-add-i : tie.Need-add-i Inv-loop μ-loop
-unfolding byte
-add-i c = omega arith
-
-mul-i : tie.Need-mul-i Inv-loop μ-loop
-unfolding byte
-mul-i c = omega arith
-
-add-i-2 : tie.Need-add-i-2 Inv-loop μ-loop
-unfolding byte
-add-i-2 c = omega arith
-
-shared-slice-read-signed-byte : tie.Need-shared-slice-read-signed-byte Inv-loop μ-loop
-unfolding byte
-shared-slice-read-signed-byte c = omega arith
-
-add-signed-byte : tie.Need-add-signed-byte Inv-loop μ-loop
-unfolding byte
-add-signed-byte c = omega arith
-
-shared-slice-read-signed-byte-2 : tie.Need-shared-slice-read-signed-byte-2 Inv-loop μ-loop
-unfolding byte
-shared-slice-read-signed-byte-2 c = omega arith
-
-array-set-from-columns : tie.Need-array-set-from-columns Inv-loop μ-loop
-unfolding byte
-array-set-from-columns c = omega arith
-
-array-set-from-rows : tie.Need-array-set-from-rows Inv-loop μ-loop
-unfolding byte
-array-set-from-rows c = omega arith
-
-add-e : tie.Need-add-e Inv-loop μ-loop
-unfolding byte
-add-e c = omega arith
-
-loop-less : tie.Need-loop-less Inv-loop μ-loop
-loop-less c = omega arith
+-- the head of the turn in which both bytes of a pixel are read
+abbrev head : tie.After-signed-byte2 Inv-loop μ-loop → tie.At-loop Inv-loop μ-loop
+head c = c .before .before .before .before .before
 
 loop-again : tie.Need-loop-again Inv-loop μ-loop
 unfolding pixelFrom
 loop-again c =
-    let l = c .before .before .before .before .before in
-    let x = c .before .before .signed-byte in (
+    let x = c .before .before .signed-byte in
+    let y = c .signed-byte2 in (
       omega arith,
-      filled-more (l .loop .inv .1) (number-handed w8 (x .ok) ∙ x .ensures),
-      filled-more (l .loop .inv .2) (number-handed w8 (c .signed-byte2 .ok) ∙ c .signed-byte2 .ensures),
+      filled-more (head c .loop .inv .1) (number-handed w8 (x .ok) ∙ x .ensures),
+      filled-more (head c .loop .inv .2) (number-handed w8 (y .ok) ∙ y .ensures),
     )
 
 returns : tie.Need-returns Inv-loop μ-loop
@@ -91,26 +49,18 @@ returns c =
     let end : getD (u .s .now) (u .at) 0 ≡ l .loop .e = omega arith in
     rw (end, patternFrom) (pixels-filled (pixelFrom (u .s .now) (u .at + 1)) (l .loop .e) (l .loop .inv .1) (l .loop .inv .2))
 
+-- the needs that are searched for: numbers fit and places are inside, by the counts that the call requires
 pub pattern-at-spec : {M : Type 1} → statement M
+unfolding byte
 pattern-at-spec =
     tie.close
     (tie.spec
     Inv-loop
     μ-loop
-    shared-slice-read-used
-    cast-used
+    (λ c. search needs) (λ c. search needs)
     loop-holds
-    add-i
-    mul-i
-    add-i-2
-    shared-slice-read-signed-byte
-    (λ c κs. search needs)
-    add-signed-byte
-    shared-slice-read-signed-byte-2
-    (λ c κs. search needs)
-    array-set-from-columns
-    array-set-from-rows
-    add-e
-    loop-less
+    (λ c. search needs) (λ c. search needs) (λ c. search needs) (λ c. search needs) (λ c κs. search needs)
+    (λ c. search needs) (λ c. search needs) (λ c κs. search needs) (λ c. search needs) (λ c. search needs)
+    (λ c. search needs) (λ c. search needs)
     loop-again
     returns)
