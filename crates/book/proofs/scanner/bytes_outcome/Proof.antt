@@ -69,101 +69,76 @@ abbrev μ-loop : tie.MeasureT-loop
 
 returns : tie.Need-returns Inv-loop μ-loop
 returns c =
-    let s = c .before .before .args .s .now in
-    ap (λ i. Outcome.Refused (Ends i)) (sym (c .if1 .taken)) ∙ refused-by-count s _ (ends-before-count s 16 0 (omega arith))
+    ap (λ i. Outcome.Refused (Ends i)) (sym (c .if1 .taken)) ∙ refused-by-count _ _ (ends-before-count _ 16 0 (omega arith))
 
 cast-count : tie.Need-cast-count Inv-loop μ-loop
 cast-count c = omega (arith, c .shared-slice-known2 .given 0)
 
 returns-2 : tie.Need-returns-2 Inv-loop μ-loop
 unfolding byte
-returns-2 c =
-    let s = c .before .before .before .before .args .s .now in
-    refused-by-count s _ (count-not-taken s 16 0 (omega arith) (λ h. omega arith))
+returns-2 c = refused-by-count _ _ (count-not-taken _ 16 0 (omega arith) (λ h. omega arith))
 
 returns-3 : tie.Need-returns-3 Inv-loop μ-loop
 unfolding byte
-returns-3 c =
-    let s = c .before .before .before .before .before .args .s .now in
-    refused-by-count s _ (count-not-taken s 16 0 (omega arith) (λ h. omega arith))
+returns-3 c = refused-by-count _ _ (count-not-taken _ 16 0 (omega arith) (λ h. omega arith))
 
 loop-holds : tie.Need-loop-holds Inv-loop μ-loop
 unfolding start
 loop-holds c =
     record { below = omega arith; here = refl; inside = omega arith; passed = λ m h. absurd (omega arith) }
 
-pattern-outcome-requires : tie.Need-pattern-outcome-requires Inv-loop μ-loop
-pattern-outcome-requires c κs = c .before .loop .inv .inside
+-- in a turn, where the tests of the pattern at hand have answered
+module _ (c : tie.After-pattern-outcome Inv-loop μ-loop) where
+  abbrev head : tie.At-loop Inv-loop μ-loop
+  head = c .before .before
+
+  abbrev s : List ℕ
+  s = head .before .before .before .before .before .before .args .s .now
+
+  refused : {r : Refusal} → c .pattern-outcome .result ≡ Outcome.Refused r → Outcome.Refused r ≡ outcomeOf (bytesTest s)
+  unfolding byte
+  refused {r} answer =
+      answered-by-refusal (bytesTest s) r
+      (pattern-decides s (omega arith) (omega arith) (head .loop .n) r (omega arith) (head .loop .inv .passed)
+      (by-place (head .loop .inv) ∙ refused-found _ (c .pattern-outcome .ensures) answer))
 
 returns-4 : tie.Need-returns-4 Inv-loop μ-loop
-unfolding byte
-returns-4 c =
-    let l = c .before .before .before .before in
-    let s = l .before .before .before .before .before .before .args .s .now in
-    let answer = c .enum-told .given .1 in
-    let refused = refused-found (patternReadFrom s (l .loop .at)) (c .before .before .pattern-outcome .ensures) answer in
-    answer
-    ∙ answered-by-refusal (bytesTest s) _
-    (pattern-decides s (omega arith) (omega arith) (l .loop .n) _ (omega arith) (l .loop .inv .passed)
-    (by-place (l .loop .inv) ∙ refused))
+returns-4 c = let answer = c .enum-told .given .1 in answer ∙ refused (c .before .before) answer
 
--- the pattern at hand, which was not refused, has passed its tests, and its pixels are there
-pattern-passes :
-    (c : tie.After-enum-told2 Inv-loop μ-loop) →
-    let l = c .before .before .before .before in
-    patternReadFrom (l .before .before .before .before .before .before .args .s .now) (l .loop .at) ≡ none
-pattern-passes c = done-found-nothing _ (c .before .before .pattern-outcome .ensures) (c .enum-told2 .given .1)
+-- and where they found nothing: the pattern's pixels are there
+module _ (c : tie.After-enum-told2 Inv-loop μ-loop) where
+  abbrev tested : tie.After-pattern-outcome Inv-loop μ-loop
+  tested = c .before .before
 
-pattern-inside :
-    (c : tie.After-enum-told2 Inv-loop μ-loop) →
-    let l = c .before .before .before .before in
-    let s = l .before .before .before .before .before .before .args .s .now in
-    l .loop .at + 1 + 2 * getD s (l .loop .at) 0 ≤ length s
-pattern-inside c = pixels-inside (c .before .before .before .before .loop .inv) (pattern-passes c)
+  abbrev at : ℕ
+  at = head tested .loop .at
 
-add-at : tie.Need-add-at Inv-loop μ-loop
-add-at c = omega (arith, pattern-inside c)
+  passes : patternReadFrom (s tested) at ≡ none
+  passes = done-found-nothing _ (tested .pattern-outcome .ensures) (c .enum-told2 .given .1)
 
-shared-slice-read-at : tie.Need-shared-slice-read-at Inv-loop μ-loop
-shared-slice-read-at c = omega (arith, pattern-inside (c .before))
-
-cast-at : tie.Need-cast-at Inv-loop μ-loop
-cast-at c = omega (arith, pattern-inside (c .before))
-
-mul-at : tie.Need-mul-at Inv-loop μ-loop
-mul-at c = omega (arith, pattern-inside (c .before))
-
-add-at-2 : tie.Need-add-at-2 Inv-loop μ-loop
-add-at-2 c = omega (arith, pattern-inside (c .before))
-
-add-n : tie.Need-add-n Inv-loop μ-loop
-add-n c = omega arith
-
-loop-less : tie.Need-loop-less Inv-loop μ-loop
-loop-less c = omega arith
+  pattern-inside : at + 1 + 2 * getD (s tested) at 0 ≤ length (s tested)
+  pattern-inside = pixels-inside (head tested .loop .inv) passes
 
 loop-again : tie.Need-loop-again Inv-loop μ-loop
-loop-again c = goes-on (c .before .before .before .before .before .loop .inv) (pattern-passes (c .before)) (omega arith)
+loop-again c = let k = c .before in goes-on (head (tested k) .loop .inv) (passes k) (omega arith)
 
 returns-5 : tie.Need-returns-5 Inv-loop μ-loop
 unfolding byte
 returns-5 c =
-    let l = c .before .before in
-    let s = l .before .before .before .before .before .before .args .s .now in
-    let end = at-end (l .loop .inv) (c .before .loop-test .left) in
+    let scanned = c .before .before .loop .inv in
+    let end = at-end scanned (c .before .loop-test .left) in
     ap (λ i. Outcome.Refused (Extra i)) end
-    ∙ answered-by-refusal (bytesTest s) _
-    (extra-decides s (count-read-iff s 16 0 .1 (omega arith)) (λ n h. l .loop .inv .passed n (omega arith)) (omega arith))
+    ∙ answered-by-refusal _ _
+    (extra-decides _ (count-read-iff _ 16 0 .1 (omega arith)) (λ n h. scanned .passed n (omega arith)) (omega arith))
 
 returns-6 : tie.Need-returns-6 Inv-loop μ-loop
 unfolding byte
 returns-6 c =
-    let l = c .before .before in
-    let s = l .before .before .before .before .before .before .args .s .now in
-    let end = at-end (l .loop .inv) (c .before .loop-test .left) in
-    answered-by-done (bytesTest s)
-    (all-taken s (omega arith) (omega arith) (λ n h. l .loop .inv .passed n (omega arith)) (omega arith))
+    let scanned = c .before .before .loop .inv in
+    let end = at-end scanned (c .before .loop-test .left) in
+    answered-by-done _ (all-taken _ (omega arith) (omega arith) (λ n h. scanned .passed n (omega arith)) (omega arith))
 
+-- the needs without a name: numbers fit and places are inside
 pub bytes-outcome-spec : {M : Type 1} → statement M
 bytes-outcome-spec =
     tie.close
@@ -176,17 +151,14 @@ bytes-outcome-spec =
     returns-2
     returns-3
     loop-holds
-    pattern-outcome-requires
+    (λ c κs. c .before .loop .inv .inside)
     (λ c. search needs)
     returns-4
     (λ c. search needs)
-    add-at
-    shared-slice-read-at
-    cast-at
-    mul-at
-    add-at-2
-    add-n
-    loop-less
+    (λ c. omega (arith, pattern-inside c))
+    (λ c. omega (arith, pattern-inside (c .before))) (λ c. omega (arith, pattern-inside (c .before)))
+    (λ c. omega (arith, pattern-inside (c .before))) (λ c. omega (arith, pattern-inside (c .before)))
+    (λ c. search needs) (λ c. search needs)
     loop-again
     returns-5
     returns-6)

@@ -24,31 +24,23 @@ refused-by-count :
 refused-by-count s at r e = answered-by-refusal (patternReadFrom s at) r (count-decides-from s at r e)
 
 returns : tie.Need-returns
-returns c =
-    let v = c .before .before .args in
-    refused-by-count (v .s .now) (v .at) _ (ends-before-count (v .s .now) 64 (v .at) (c .if1 .taken))
+returns c = refused-by-count _ _ _ (ends-before-count _ 64 _ (c .if1 .taken))
 
 cast-count : tie.Need-cast-count
 cast-count c = omega (arith, c .shared-slice-known2 .given (c .before .before .before .args .at))
 
 returns-2 : tie.Need-returns-2
 unfolding byte
-returns-2 c =
-    let v = c .before .before .before .before .args in
-    refused-by-count (v .s .now) (v .at) _ (count-not-taken (v .s .now) 64 (v .at) (omega arith) (λ h. omega arith))
+returns-2 c = refused-by-count _ _ _ (count-not-taken _ 64 _ (omega arith) (λ h. omega arith))
 
 returns-3 : tie.Need-returns-3
 unfolding byte
-returns-3 c =
-    let v = c .before .before .before .before .before .args in
-    refused-by-count (v .s .now) (v .at) _ (count-not-taken (v .s .now) 64 (v .at) (omega arith) (λ h. omega arith))
+returns-3 c = refused-by-count _ _ _ (count-not-taken _ 64 _ (omega arith) (λ h. omega arith))
 
 returns-4 : tie.Need-returns-4
 unfolding byte
 returns-4 c =
-    let v = c .before .before .before .before .before .before .args in
-    c .pixels-outcome .ensures
-    ∙ ap outcomeOf (sym (pixels-decide-from (v .s .now) (v .at) (omega arith) (omega arith)))
+    c .pixels-outcome .ensures ∙ ap outcomeOf (sym (pixels-decide-from _ _ (omega arith) (omega arith)))
 
 pub pattern-outcome-spec : {M : Type 1} → statement M
 pattern-outcome-spec =

@@ -38,60 +38,49 @@ abbrev μ-loop : tie.MeasureT-loop
 loop-holds : tie.Need-loop-holds Inv-loop μ-loop
 loop-holds c = (omega arith, omega arith, below-none _, none-seen _)
 
-mul-i : tie.Need-mul-i Inv-loop μ-loop
-mul-i c = omega arith
-
-add-i : tie.Need-add-i Inv-loop μ-loop
-add-i c = omega arith
-
-sub-if1 : tie.Need-sub-if1 Inv-loop μ-loop
-sub-if1 c = omega arith
-
 -- in a turn, at pixel e of the bytes s
-module _ (c : tie.In-loop Inv-loop μ-loop) where
+module _ (k : tie.In-loop Inv-loop μ-loop) where
+  abbrev entry : tie.Start Inv-loop μ-loop
+  entry = k .before .before .before
+
   abbrev s : List ℕ
-  s = c .before .before .before .args .s .now
+  s = entry .args .s .now
 
   abbrev place : ℕ
-  place = c .before .before .before .args .at
+  place = entry .args .at
 
   abbrev e : ℕ
-  e = c .before .loop .e
+  e = k .before .loop .e
 
   refused :
       {r : Refusal} → pixelReadFrom s place e ≡ some r
-      → Outcome.Refused r ≡ outcomeOf (first 0 (c .before .before .before .args .count) (pixelReadFrom s place))
-  refused found = refused-at (c .before .loop .inv .2) (c .loop-test .taken) found
+      → Outcome.Refused r ≡ outcomeOf (first 0 (entry .args .count) (pixelReadFrom s place))
+  refused found = refused-at (k .before .loop .inv .2) (k .loop-test .taken) found
 
 returns : tie.Need-returns Inv-loop μ-loop
 returns c = let k = c .before in refused k (ends-early (s k) (place k) (e k) (omega arith))
 
-shared-slice-read-signed-byte : tie.Need-shared-slice-read-signed-byte Inv-loop μ-loop
-shared-slice-read-signed-byte c = omega arith
-
-add-signed-byte : tie.Need-add-signed-byte Inv-loop μ-loop
-add-signed-byte c = omega arith
-
-shared-slice-read-signed-byte-2 : tie.Need-shared-slice-read-signed-byte-2 Inv-loop μ-loop
-shared-slice-read-signed-byte-2 c = omega arith
-
 -- where the pixel's cell is known
 module _ (c : tie.After-cell Inv-loop μ-loop) where
+  -- both bytes are there
+  abbrev there : tie.Else1 Inv-loop μ-loop
+  there = c .before .before .before .before .before
+
   abbrev turn : tie.In-loop Inv-loop μ-loop
-  turn = c .before .before .before .before .before .before
+  turn = there .before
 
   cell-is : c .cell .result ≡ cellOf (pixelFrom (s turn) (place turn) (e turn))
   unfolding pixelFrom at
   cell-is =
+      let x = c .before .before .before .signed-byte in
+      let y = c .before .signed-byte2 in
       c .cell .ensures
-      ∙ ap₂ (λ (i j : ℤ). cellOf (at i j))
-      (number-handed w8 (c .before .before .before .signed-byte .ok) ∙ c .before .before .before .signed-byte .ensures)
-      (number-handed w8 (c .before .signed-byte2 .ok) ∙ c .before .signed-byte2 .ensures)
+      ∙ ap₂ (λ (i j : ℤ). cellOf (at i j)) (number-handed w8 (x .ok) ∙ x .ensures) (number-handed w8 (y .ok) ∙ y .ensures)
 
   test-is :
       pixelReadFrom (s turn) (place turn) (e turn)
       ≡ pixelTest (place turn + 2 * e turn) (place turn + 2 * e turn + 1) (pixelFrom (s turn) (place turn)) (e turn)
-  test-is = both-there (s turn) (place turn) (e turn) (omega (arith, c .before .before .before .before .before .if1 .left))
+  test-is = both-there (s turn) (place turn) (e turn) (omega (arith, there .if1 .left))
 
   seen : Seen (turn .before .loop .seen) (pixelFrom (s turn) (place turn)) (e turn)
   seen = turn .before .loop .inv .3
@@ -101,44 +90,32 @@ returns-2 c =
     let k = c .before in
     refused (turn k) (test-is k ∙ column-found (seen k) (cell-is k) _ _ (c .if2 .taken))
 
-add-t20 : tie.Need-add-t20 Inv-loop μ-loop
-add-t20 c = omega arith
-
 returns-3 : tie.Need-returns-3 Inv-loop μ-loop
 returns-3 c =
     let k = c .before .before in
     refused (turn k) (test-is k ∙ row-found (seen k) (cell-is k) _ _ (c .if3 .taken))
 
--- the cell is one of the window's
-inside : (c : tie.Else3 Inv-loop μ-loop) → c .before .before .cell .result < 1024
-inside c =
-    let k = c .before .before in
-    let most = cell-at-most (pixelFrom (s (turn k)) (place (turn k)) (e (turn k))) in
-    omega (arith, cell-is k, c .before .if2 .left, c .if3 .left)
+-- where the cell is one of the window's
+module _ (c : tie.Else3 Inv-loop μ-loop) where
+  abbrev celled : tie.After-cell Inv-loop μ-loop
+  celled = c .before .before
 
-array-read-if4 : tie.Need-array-read-if4 Inv-loop μ-loop
-array-read-if4 c = inside c
+  inside : celled .cell .result < 1024
+  inside =
+      let most = cell-at-most (pixelFrom (s (turn celled)) (place (turn celled)) (e (turn celled))) in
+      omega (arith, cell-is celled, c .before .if2 .left, c .if3 .left)
 
 returns-4 : tie.Need-returns-4 Inv-loop μ-loop
 returns-4 c =
-    let k = c .before .before .before in
+    let k = celled (c .before) in
     refused (turn k) (test-is k ∙ repeat-found (seen k) (cell-is k) _ _ (inside (c .before)) (c .if4 .taken))
-
-array-write-seen : tie.Need-array-write-seen Inv-loop μ-loop
-array-write-seen c = inside (c .before)
-
-add-e : tie.Need-add-e Inv-loop μ-loop
-add-e c = omega arith
-
-loop-less : tie.Need-loop-less Inv-loop μ-loop
-loop-less c = omega arith
 
 loop-again : tie.Need-loop-again Inv-loop μ-loop
 loop-again c =
-    let k = c .before .before .before in
+    let k = celled (c .before) in
     let found = test-is k ∙ nothing-found (seen k) (cell-is k) _ _ (inside (c .before)) (c .if4 .left) in (
       omega arith,
-      omega (arith, k .before .before .before .before .before .if1 .left),
+      omega (arith, there k .if1 .left),
       below-more _ _ (turn k .before .loop .inv .2) found,
       more-seen (seen k) (cell-is k) (inside (c .before)),
     )
@@ -153,22 +130,15 @@ pixels-outcome-spec =
     Inv-loop
     μ-loop
     loop-holds
-    mul-i
-    add-i
-    sub-if1
+    (λ c. search needs) (λ c. search needs) (λ c. search needs)
     returns
-    shared-slice-read-signed-byte
+    (λ c. search needs) (λ c κs. search needs) (λ c. search needs) (λ c. search needs) (λ c κs. search needs)
     (λ c κs. search needs)
-    add-signed-byte
-    shared-slice-read-signed-byte-2
-    (λ c κs. search needs) (λ c κs. search needs)
     returns-2
-    add-t20
+    (λ c. search needs)
     returns-3
-    array-read-if4
+    inside
     returns-4
-    array-write-seen
-    add-e
-    loop-less
+    (λ c. inside (c .before)) (λ c. search needs) (λ c. search needs)
     loop-again
     returns-5)
