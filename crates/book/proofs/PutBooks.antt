@@ -60,13 +60,13 @@ module _ (t : Pattern) where
       ∙ sym (append-assoc (flatMap pixelBytes (gather 0 e (pixelAt t))) (columnByte e ∷ []) (rowByte e ∷ [])))
 
   pub pixel-put :
-      {before out : List ℕ} (e : ℕ) → Put (pixelsPut e) before out → 2 + 2 * e < length before
-      → Put (pixelsPut (e + 1)) before (set (set out (1 + 2 * e) (columnByte e)) (2 + 2 * e) (rowByte e))
-  pixel-put e put room =
+      {before out : List ℕ} {x y : ℕ} (e : ℕ) → x ≡ columnByte e → y ≡ rowByte e → Put (pixelsPut e) before out
+      → 2 + 2 * e < length before → Put (pixelsPut (e + 1)) before (set (set out (1 + 2 * e) x) (2 + 2 * e) y)
+  pixel-put e x-is y-is put room =
       let column = one-more-put put (1 + 2 * e) (columnByte e) (sym (length-pixels-put e)) (omega arith) in
       let place : 2 + 2 * e ≡ length (pixelsPut e ++ (columnByte e ∷ [])) =
       omega (arith, length-pixels-put e, length-append (pixelsPut e) (columnByte e ∷ [])) in
-      rw (one-more-pixel e) (one-more-put column (2 + 2 * e) (rowByte e) place room)
+      rw (x-is, y-is, one-more-pixel e) (one-more-put column (2 + 2 * e) (rowByte e) place room)
 
   -- with all of them it is the pattern's bytes
   pub all-pixels-put : pixelsPut (t .used) ≡ patternBytes (pixels t)

@@ -17,47 +17,35 @@ abbrev μ-loop : tie.MeasureT-loop
 μ-loop book count n₀ n = count - n
 
 returns : tie.Need-returns Inv-loop μ-loop
-returns c = count-not-taken (c .before .args .t1) (λ h. omega arith)
+returns c = count-not-taken _ (λ h. omega arith)
 
 returns-2 : tie.Need-returns-2 Inv-loop μ-loop
-returns-2 c = count-not-taken (c .before .before .args .t1) (λ h. omega arith)
+returns-2 c = count-not-taken _ (λ h. omega arith)
 
 loop-holds : tie.Need-loop-holds Inv-loop μ-loop
 loop-holds c = (omega arith, λ m h. absurd (omega arith))
 
-mul-t : tie.Need-mul-t Inv-loop μ-loop
-mul-t c = omega arith
-
-element-copy-out-t : tie.Need-element-copy-out-t Inv-loop μ-loop
-element-copy-out-t c = omega arith
+-- the head of the turn in which a pattern's tests have answered
+abbrev head : tie.After-pattern-outcome Inv-loop μ-loop → tie.At-loop Inv-loop μ-loop
+head t = t .before .before .before
 
 returns-3 : tie.Need-returns-3 Inv-loop μ-loop
 unfolding patternAt
 returns-3 c =
     let t = c .before .before in
-    let l = t .before .before .before in
-    pattern-not-taken (l .before .before .before .args .t1) (t .pattern-outcome .ensures) refl (l .loop .inv .1)
-    (omega arith) (omega arith) (c .enum-told .given .1)
-
-add-n : tie.Need-add-n Inv-loop μ-loop
-add-n c = omega arith
-
-loop-less : tie.Need-loop-less Inv-loop μ-loop
-loop-less c = omega arith
+    pattern-not-taken _ (t .pattern-outcome .ensures) refl (head t .loop .inv .1) (omega arith)
+    (omega arith) (c .enum-told .given .1)
 
 loop-again : tie.Need-loop-again Inv-loop μ-loop
 unfolding patternAt
 loop-again c =
-    let t = c .before .before in
-    let l = t .before .before .before in (
+    let t = c .before .before in (
       omega arith,
-      one-more-passed (l .before .before .before .args .t1) (t .pattern-outcome .ensures) refl (l .loop .inv .1) (c .enum-told2 .given .1),
+      one-more-passed _ (t .pattern-outcome .ensures) refl (head t .loop .inv .1) (c .enum-told2 .given .1),
     )
 
 returns-4 : tie.Need-returns-4 Inv-loop μ-loop
-returns-4 c =
-    let l = c .before in
-    all-passed (l .before .before .before .args .t1) (omega arith) (λ n h. l .loop .inv .1 n (omega arith))
+returns-4 c = all-passed _ (omega arith) (λ n h. c .before .loop .inv .1 n (omega arith))
 
 pub record-outcome-spec : {M : Type 1} → statement M
 record-outcome-spec =
@@ -68,12 +56,8 @@ record-outcome-spec =
     returns
     returns-2
     loop-holds
-    mul-t
-    element-copy-out-t
-    (λ c κs. search needs) (λ c. search needs)
+    (λ c. search needs) (λ c. search needs) (λ c κs. search needs) (λ c. search needs)
     returns-3
-    (λ c. search needs)
-    add-n
-    loop-less
+    (λ c. search needs) (λ c. search needs) (λ c. search needs)
     loop-again
     returns-4)

@@ -1,7 +1,7 @@
 -- `book::writer::put_book` meets its contract. The loop's invariant: the pattern count and the bytes of the first n patterns
 -- were put, and end at `at`.
 -- Assumes nothing.
-use Prim.Native.Nat.{_+_, _*_, _-_, _≤_}
+use Prim.Native.Nat.{ℕ, _+_, _*_, _-_, _≤_}
 use native.Mathlib.Omega.{arith}
 use mathlib.Core.Path.{_≡_, sym, _∙_}
 use mathlib.Core.List.{flatMap}
@@ -10,6 +10,7 @@ use borrow.Author.Needs.{needs}
 use Rattle.scope.specs.Search.{gather}
 use Rattle.scope.specs.Plans.{patternAt}
 use Rattle.scope.specs.Books.{bookBytes}
+use Rattle.scope.specs.declared.Book.{Book}
 use Rattle.checks.proofs.BookTests.{book-legal-iff}
 use Rattle.checks.proofs.Outputs.{Put, first-put, all-put}
 use Rattle.book.proofs.PutBooks.{patternsPut, length-no-pattern, length-one-more-pattern, pattern-put, all-patterns-put}
@@ -24,19 +25,26 @@ Inv-loop out₀ book count at₀ n₀ out at n =
 abbrev μ-loop : tie.MeasureT-loop
 μ-loop out₀ book count at₀ n₀ out at n = count - n
 
--- in a turn the pattern is one of the book,
-fits : (c : tie.In-loop Inv-loop μ-loop) → PatternFits (c .before .before .before .args .t1) (c .before .loop .n)
-fits c =
-    pattern-fits (c .before .before .before .args .t1) (c .before .loop .n) (c .before .before .before .pre .0) (omega arith)
+-- in a turn: the pattern is one of the book, and there is room for its bytes
+module _ (k : tie.In-loop Inv-loop μ-loop) where
+  abbrev entry : tie.Start Inv-loop μ-loop
+  entry = k .before .before .before
 
--- and there is room for its bytes
-room :
-    (c : tie.In-loop Inv-loop μ-loop)
-    → c .before .loop .at + 1 + 2 * patternAt (c .before .before .before .args .t1) (c .before .loop .n) .used
-    ≤ length (c .before .loop .out)
-room c =
-    let u = c .before .before .before in
-    omega (arith, fits c, c .before .loop .inv .2, u .pre .1, length-set (u .args .out .now) 0 (u .args .t1 .count))
+  abbrev book : Book
+  book = entry .args .t1
+
+  abbrev n : ℕ
+  n = k .before .loop .n
+
+  fits : PatternFits book n
+  fits = pattern-fits book n (entry .pre .0) (omega arith)
+
+  room : k .before .loop .at + 1 + 2 * patternAt book n .used ≤ length (k .before .loop .out)
+  room = omega (arith, fits, k .before .loop .inv .2, entry .pre .1, length-set (entry .args .out .now) 0 (book .count))
+
+-- the turn, from where its bytes were put
+abbrev turn : tie.After-slice-known2 Inv-loop μ-loop → tie.In-loop Inv-loop μ-loop
+turn c = c .before .before .before .before .before
 
 cast-out : tie.Need-cast-out Inv-loop μ-loop
 cast-out c = omega (arith, book-legal-iff (c .before .args .t1) .0 (c .before .pre .0) .most)
@@ -51,59 +59,36 @@ loop-holds c =
     let u = c .before .args in
     (omega arith, sym (length-no-pattern (u .t1)), first-put (u .t1 .count) (u .out .now) (slice-write-out c))
 
-mul-t : tie.Need-mul-t Inv-loop μ-loop
-mul-t c = omega (arith, fits c)
-
-element-copy-out-t : tie.Need-element-copy-out-t Inv-loop μ-loop
-element-copy-out-t c = omega (arith, fits c)
-
-sub-put-pattern : tie.Need-sub-put-pattern Inv-loop μ-loop
-sub-put-pattern c = omega (arith, room (c .before))
-
-part-put-pattern-start : tie.Need-part-put-pattern-start Inv-loop μ-loop
-part-put-pattern-start c = omega (arith, room (c .before))
-
 put-pattern-requires : tie.Need-put-pattern-requires Inv-loop μ-loop
 unfolding patternAt
 put-pattern-requires c κs =
-    (fits (c .before .before) .pixel-count, simp (length-take, length-drop) (omega (arith, room (c .before .before))))
+    let k = c .before .before in
+    (fits k .pixel-count, simp (length-take, length-drop) (omega (arith, room k)))
 
 add-at : tie.Need-add-at Inv-loop μ-loop
-add-at c =
-    let t = c .before .before .before .before .before in
-    omega (arith, fits t, t .before .loop .inv .1)
-
-mul-at : tie.Need-mul-at Inv-loop μ-loop
-unfolding patternAt
-mul-at c = omega (arith, fits (c .before .before .before .before .before .before))
+add-at c = omega (arith, fits (turn c), turn c .before .loop .inv .1)
 
 add-at-2 : tie.Need-add-at-2 Inv-loop μ-loop
 unfolding patternAt
-add-at-2 c =
-    let t = c .before .before .before .before .before .before in
-    omega (arith, fits t, t .before .loop .inv .1)
-
-add-n : tie.Need-add-n Inv-loop μ-loop
-add-n c = omega (arith, fits (c .before .before .before .before .before .before))
+add-at-2 c = let k = turn (c .before) in omega (arith, fits k, k .before .loop .inv .1)
 
 loop-again : tie.Need-loop-again Inv-loop μ-loop
 unfolding patternAt
 loop-again c =
-    let t = c .before .before .before .before .before .before in
-    let l = t .before in
-    let book = l .before .before .args .t1 in
-    let (bounded, place, put) = l .loop .inv in
-    let called = c .before .before .before .put-pattern in (
+    let known = c .before in
+    let called = known .before .before .put-pattern in
+    let k = turn known in
+    let l = k .before .loop in
+    let (bounded, place, put) = l .inv in (
       omega arith,
-      sym (length-one-more-pattern book (l .loop .n) ∙ omega (arith, place)),
-      pattern-put book (l .loop .n) (called .last .1 .0) (l .loop .at) (length (l .loop .out) - l .loop .at) put place
-          (omega (arith, put .same-length)) (omega (arith, room t, put .same-length)) (called .ensures),
+      sym (length-one-more-pattern (book k) (n k) ∙ omega (arith, place)),
+      pattern-put (book k) (n k) (called .last .1 .0) (l .at) (length (l .out) - l .at) put place
+          (omega (arith, put .same-length)) (omega (arith, room k, put .same-length)) (called .ensures),
     )
 
 same-length : tie.Need-same-length Inv-loop μ-loop
 same-length c =
-    let u = c .before .before .before .args in
-    c .before .loop .inv .2 .same-length ∙ length-set (u .out .now) 0 (u .t1 .count)
+    let l = c .before in l .loop .inv .2 .same-length ∙ length-set (l .before .before .args .out .now) 0 _
 
 returns : tie.Need-returns Inv-loop μ-loop
 returns c =
@@ -115,7 +100,9 @@ returns c =
     rw done at (l .loop .inv .2) in
     all-put (book .count) (book .count) _ (bookBytes book) (u .out .now) (l .loop .out) put (all-patterns-put book)
 
+-- the needs without a name: numbers fit and places are inside
 pub put-book-spec : {M : Type 1} → statement M
+unfolding patternAt
 put-book-spec =
     tie.close
     (tie.spec
@@ -124,17 +111,13 @@ put-book-spec =
     cast-out
     slice-write-out
     loop-holds
-    mul-t
-    element-copy-out-t
-    sub-put-pattern
-    part-put-pattern-start
-    (λ c. search needs)
+    (λ c. omega (arith, fits c)) (λ c. omega (arith, fits c))
+    (λ c. omega (arith, room (c .before))) (λ c. omega (arith, room (c .before))) (λ c. search needs)
     put-pattern-requires
     add-at
-    mul-at
+    (λ c. omega (arith, fits (turn (c .before))))
     add-at-2
-    add-n
-    (λ c. search needs)
+    (λ c. omega (arith, fits (turn (c .before)))) (λ c. search needs)
     loop-again
     same-length
     returns)

@@ -5,8 +5,7 @@ use Prim.Native.Nat.{_+_, _*_, _-_, _≤_, _<_}
 use native.Mathlib.Omega.{arith}
 use mathlib.Core.Path.{_≡_, _∙_, ap}
 use mathlib.Core.List.{flatMap}
-use lib.IntN.{pos}
-use lib.ListN.{length, getD, set, length-set}
+use lib.ListN.{length, set, length-set}
 use mir.Syntax.{w8}
 use borrow.Author.Needs.{needs}
 use Rattle.integers.proofs.Raised.{number-handed}
@@ -25,45 +24,44 @@ Inv-loop out₀ columns rows used e₀ out e =
 abbrev μ-loop : tie.MeasureT-loop
 μ-loop out₀ columns rows used e₀ out e = used - e
 
+-- the call, from where the loop begins
+abbrev entry : tie.After-rows Inv-loop μ-loop → tie.Start Inv-loop μ-loop
+entry c = c .before .before .before
+
+-- the turn, from where both bytes of its pixel are known
+abbrev turn : tie.After-unsigned-byte2 Inv-loop μ-loop → tie.In-loop Inv-loop μ-loop
+turn c = c .before .before .before .before
+
 -- in a turn there is room for the pixel's two bytes
 room : (c : tie.In-loop Inv-loop μ-loop) → 2 + 2 * c .before .loop .e < length (c .before .loop .out)
 room c =
-    let u = c .before .before .before .before .before in
-    omega (arith, c .before .loop .inv .1, length-set (u .args .out .now) 0 (u .args .t .used))
+    let u = entry (c .before .before) .args in
+    omega (arith, c .before .loop .inv .1, length-set (u .out .now) 0 (u .t .used))
 
 loop-holds : tie.Need-loop-holds Inv-loop μ-loop
 unfolding flatMap gather
-loop-holds c =
-    let u = c .before .before .before in
-    (omega arith, first-put (u .args .t .used) (u .args .out .now) (omega arith))
-
-slice-write-out-2 : tie.Need-slice-write-out-2 Inv-loop μ-loop
-slice-write-out-2 c = omega (arith, room (c .before .before))
-
-slice-write-out-3 : tie.Need-slice-write-out-3 Inv-loop μ-loop
-slice-write-out-3 c = simp length-set (omega (arith, room (c .before .before .before .before)))
+loop-holds c = let u = entry c .args in (omega arith, first-put (u .t .used) (u .out .now) (omega arith))
 
 loop-again : tie.Need-loop-again Inv-loop μ-loop
 loop-again c =
-    let l = c .before .before .before .before .before in
-    let t = l .before .before .before .before .args .t in
-    let e = l .loop .e in
-    let first = c .before .before in
-    let column : first .unsigned-byte .result ≡ unsigned (getD (t .columns) e (pos 0)) =
-    first .unsigned-byte .ensures ∙ ap unsigned (number-handed w8 (first .before .unsigned-byte-arg .given)) in
-    let row : c .unsigned-byte2 .result ≡ unsigned (getD (t .rows) e (pos 0)) =
-    c .unsigned-byte2 .ensures ∙ ap unsigned (number-handed w8 (c .before .unsigned-byte-arg2 .given)) in
-    (omega arith, rw (column, row) (pixel-put t e (l .loop .inv .1) (omega (arith, room (first .before .before)))))
+    let l = turn c .before in
+    let x = c .before .before in (
+      omega arith,
+      pixel-put (entry (l .before) .args .t) (l .loop .e)
+          (x .unsigned-byte .ensures ∙ ap unsigned (number-handed w8 (x .before .unsigned-byte-arg .given)))
+          (c .unsigned-byte2 .ensures ∙ ap unsigned (number-handed w8 (c .before .unsigned-byte-arg2 .given)))
+          (l .loop .inv .1)
+          (omega (arith, room (turn c))),
+    )
 
 same-length : tie.Need-same-length Inv-loop μ-loop
 same-length c =
-    let u = c .before .before .before .before .before in
-    c .before .loop .inv .1 .same-length ∙ length-set (u .args .out .now) 0 (u .args .t .used)
+    let l = c .before in l .loop .inv .1 .same-length ∙ length-set (entry (l .before) .args .out .now) 0 _
 
 returns : tie.Need-returns Inv-loop μ-loop
 returns c =
     let l = c .before in
-    let u = l .before .before .before .before .args in
+    let u = entry (l .before) .args in
     let done : l .loop .e ≡ u .t .used = omega arith in
     let put : Put (pixelsPut (u .t) (u .t .used)) (set (u .out .now) 0 (u .t .used)) (l .loop .out) =
     rw done at (l .loop .inv .1) in
@@ -78,9 +76,9 @@ put-pattern-spec =
     (λ c. search needs) (λ c. search needs)
     loop-holds
     (λ c. search needs) (λ c κs. search needs) (λ c. search needs) (λ c. search needs)
-    slice-write-out-2
+    (λ c. omega (arith, room (c .before .before)))
     (λ c. search needs) (λ c κs. search needs) (λ c. search needs) (λ c. search needs)
-    slice-write-out-3
+    (λ c. simp length-set (omega (arith, room (turn c))))
     (λ c. search needs) (λ c. search needs)
     loop-again
     same-length

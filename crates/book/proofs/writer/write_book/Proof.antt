@@ -62,33 +62,33 @@ module _ (book : Book) (out : List ℕ) where
 
 returns : tie.Need-returns
 returns c =
-    let u = c .before .before .before .before .before .args in
-    book-refused (u .book) (u .out .now) (c .before .outcome .given .0 .0)
-    (record-turned-down (u .book) (c .before .before .before .record-outcome .ensures) (c .before .outcome .given .1))
+    let k = c .before in
+    book-refused _ _ (k .outcome .given .0 .0)
+    (record-turned-down _ (k .before .before .record-outcome .ensures) (k .outcome .given .1))
 
--- the record's tests found nothing
-legal : (c : tie.After-enum-told) → recordTest (c .before .before .before .before .args .book) ≡ none
-legal c =
-    record-taken (c .before .before .before .before .args .book) (c .before .before .record-outcome .ensures)
-    (c .enum-told .given .1)
+-- where the record's tests found nothing
+module _ (c : tie.After-enum-told) where
+  abbrev entry : tie.Start
+  entry = c .before .before .before .before
 
-byte-count-requires : tie.Need-byte-count-requires
-byte-count-requires c κs = legal c
+  legal : recordTest (entry .args .book) ≡ none
+  legal = record-taken _ (c .before .before .record-outcome .ensures) (c .enum-told .given .1)
 
 returns-2 : tie.Need-returns-2
 returns-2 c =
-    let u = c .before .before .before .before .before .before .args in
-    output-refused (u .book) (u .out .now) (legal (c .before .before)) (omega (arith, c .before .byte-count .ensures))
+    let k = c .before in output-refused _ _ (legal (k .before)) (omega (arith, k .byte-count .ensures))
 
 put-book-requires : tie.Need-put-book-requires
-put-book-requires c κs = (legal (c .before .before .before), omega (arith, c .before .before .byte-count .ensures))
+put-book-requires c κs =
+    let k = c .before .before in (legal (k .before), omega (arith, k .byte-count .ensures))
 
 returns-3 : tie.Need-returns-3
 returns-3 c =
-    let b = c .before .before .before .before .before in
-    let u = b .before .before .before .before .before .args in
-    let right = written (u .book) (u .out .now) (legal (b .before)) (omega (arith, b .byte-count .ensures)) in
-    (ap Counted.Number (b .byte-count .ensures) ∙ right .0, c .before .before .put-book .ensures ∙ right .1)
+    let put = c .before .before in
+    let k = put .before .before .before in
+    let out = entry (k .before) .args .out .now in
+    let right = written _ out (legal (k .before)) (omega (arith, k .byte-count .ensures)) in
+    (ap Counted.Number (k .byte-count .ensures) ∙ right .0, put .put-book .ensures ∙ right .1)
 
 pub write-book-spec : {M : Type 1} → statement M
 write-book-spec =
@@ -97,7 +97,7 @@ write-book-spec =
     (λ c κs. search needs) (λ c. search needs)
     returns
     (λ c. search needs)
-    byte-count-requires
+    (λ c κs. legal c)
     returns-2
     put-book-requires
     (λ c. search needs)
