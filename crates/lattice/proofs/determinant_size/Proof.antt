@@ -29,8 +29,11 @@ small-product m n h k = mul-le-mul {n₂ = 65536} {m₂ = 65536} (omega arith) (
 
 -- so at the four raised coordinates of the code
 module _ (c : tie.After-raised164) where
+  abbrev first : tie.After-raised16
+  first = c .before .before .before
+
   abbrev p : ℕ
-  p = c .before .before .before .raised16 .result
+  p = first .raised16 .result
 
   abbrev q : ℕ
   q = c .before .before .raised162 .result
@@ -46,29 +49,16 @@ module _ (c : tie.After-raised164) where
 
   abbrev determined : ℤ
   determined =
-      let a = c .before .before .before .before .args in
-      determinant (at (a .x1) (a .x2)) (at (a .y1) (a .y2))
+      let a = first .before .args in determinant (at (a .x1) (a .x2)) (at (a .y1) (a .y2))
 
   more-is : pos (p * t + 32768 * (q + s)) ≡ determined +ℤ pos (q * s + 32768 * (p + t))
   more-is =
-      let f = c .before .before .before .before .fits in
+      let f = first .before .fits in
       raised-determinant _ _ _ _ p q s t
-      (raised-read 32768 (f .x1) (c .before .before .before .raised16 .ensures .0))
+      (raised-read 32768 (f .x1) (first .raised16 .ensures .0))
       (raised-read 32768 (f .x2) (c .before .before .raised162 .ensures .0))
       (raised-read 32768 (f .y1) (c .before .raised163 .ensures .0))
       (raised-read 32768 (f .y2) (c .raised164 .ensures .0))
-
-mul-more : tie.Need-mul-more
-mul-more c = omega (arith, products-small c)
-
-add-more-2 : tie.Need-add-more-2
-add-more-2 c = omega (arith, products-small c)
-
-mul-less : tie.Need-mul-less
-mul-less c = omega (arith, products-small c)
-
-add-less-2 : tie.Need-add-less-2
-add-less-2 c = omega (arith, products-small c)
 
 returns : tie.Need-returns
 unfolding determinantSize
@@ -83,12 +73,10 @@ determinant-size-spec =
     tie.close
     (tie.spec
     (λ c κs. search needs) (λ c κs. search needs) (λ c κs. search needs) (λ c κs. search needs)
-    mul-more
-    (λ c. search needs) (λ c. search needs)
-    add-more-2
-    mul-less
-    (λ c. search needs) (λ c. search needs)
-    add-less-2
+    (λ c. omega (arith, products-small c)) (λ c. search needs) (λ c. search needs)
+    (λ c. omega (arith, products-small c))
+    (λ c. omega (arith, products-small c)) (λ c. search needs) (λ c. search needs)
+    (λ c. omega (arith, products-small c))
     (λ c. search needs)
     returns
     returns-2)

@@ -89,9 +89,12 @@ returns-2 c =
 
 -- the normal form is a plan, and the code's d and a are its own
 module _ (c : tie.After-gcd-of) where
-  -- where the determinant's size is known
+  -- past the first test, and where the determinant's size is known
+  abbrev passed : tie.Else1
+  passed = c .before .before .before .before
+
   abbrev sized : tie.After-determinant-size
-  sized = c .before .before .before .before .before
+  sized = passed .before
 
   abbrev form : Plan
   form = normalForm (x sized) (y sized)
@@ -100,7 +103,7 @@ module _ (c : tie.After-gcd-of) where
   most = omega (arith, determinant-size-is sized)
 
   is-plan : IsPlan form
-  is-plan = normal-form-is-plan (x sized) (y sized) (independent (c .before .before .before .before)) most
+  is-plan = normal-form-is-plan (x sized) (y sized) (independent passed) most
 
   p-is : c .before .before .size .result ≡ natAbs (sized .before .args .x2)
   p-is = c .before .before .size .ensures ∙ ap natAbs (toZ-ofZ (sized .before .fits .x2))
@@ -125,74 +128,65 @@ module _ (c : tie.After-gcd-of) where
 div-a : tie.Need-div-a
 div-a c = omega (arith, d-is c, is-plan c .d-least)
 
-upright-column-requires : tie.Need-upright-column-requires
-upright-column-requires c κs = a-small c
-
-upright-column-requires-2 : tie.Need-upright-column-requires-2
-upright-column-requires-2 c κs = a-small (c .before)
-
 -- the columns that are carried along, and where they lead
-x-column-is :
-    (c : tie.After-upright-column) → c .upright-column .result ≡ floorMod (upright (x (sized (c .before))) .column) (a (c .before))
-x-column-is c =
-    let f = sized (c .before) .before .fits in
-    c .upright-column .ensures ∙ ap (λ (v : Pixel). floorMod (upright v .column) (a (c .before))) (pixel-handed (f .x1) (f .x2))
+module _ (c : tie.After-upright-column2) where
+  abbrev g : tie.After-gcd-of
+  g = c .before .before
 
-y-column-is :
-    (c : tie.After-upright-column2)
-    → c .upright-column2 .result ≡ floorMod (upright (y (sized (c .before .before))) .column) (a (c .before .before))
-y-column-is c =
-    let f = sized (c .before .before) .before .fits in
-    c .upright-column2 .ensures
-    ∙ ap (λ (v : Pixel). floorMod (upright v .column) (a (c .before .before))) (pixel-handed (f .y1) (f .y2))
+  x-column-is : c .before .upright-column .result ≡ floorMod (upright (x (sized g)) .column) (a g)
+  x-column-is =
+      let f = sized g .before .fits in
+      c .before .upright-column .ensures ∙ ap (λ (v : Pixel). floorMod (upright v .column) (a g)) (pixel-handed (f .x1) (f .x2))
 
-b-is : (c : tie.After-falling-column) → c .falling-column .result ≡ form (c .before .before .before) .b
+  y-column-is : c .upright-column2 .result ≡ floorMod (upright (y (sized g)) .column) (a g)
+  y-column-is =
+      let f = sized g .before .fits in
+      c .upright-column2 .ensures ∙ ap (λ (v : Pixel). floorMod (upright v .column) (a g)) (pixel-handed (f .y1) (f .y2))
+
+b-is : (c : tie.After-falling-column) → c .falling-column .result ≡ form (g (c .before)) .b
 unfolding normalForm at
 b-is c =
-    let g = c .before .before .before in
+    let k = c .before in
+    let m = g k in
     rw (
-      ← (a-is g),
-      ← (falling-of-upright (a g) (a-small g .0) (x (sized g)) (y (sized g)) _ _ _ _ (x-column-is (c .before .before)) (p-is g)
-          (y-column-is (c .before))
-          (q-is g)),
+      ← (a-is m),
+      ← (falling-of-upright (a m) (a-small m .0) (x (sized m)) (y (sized m)) _ _ _ _ (x-column-is k) (p-is m) (y-column-is k)
+          (q-is m)),
     )
     (c .falling-column .ensures)
 
 falling-column-requires : tie.Need-falling-column-requires
 falling-column-requires c κs =
-    let g = c .before .before in
-    let f = sized g .before .fits in
-    let v = sized g .before .args in
+    let m = g c in
+    let v = sized m .before in
     omega (
       arith,
-      a-small g,
-      x-column-is (c .before),
-      remainder-below (upright (x (sized g)) .column) (a g) (a-small g .0),
+      a-small m,
+      x-column-is c,
+      remainder-below (upright (x (sized m)) .column) (a m) (a-small m .0),
       y-column-is c,
-      remainder-below (upright (y (sized g)) .column) (a g) (a-small g .0),
-      p-is g,
-      fitting-size w16 (v .x2) (f .x2),
-      q-is g,
-      fitting-size w16 (v .y2) (f .y2),
+      remainder-below (upright (y (sized m)) .column) (a m) (a-small m .0),
+      p-is m,
+      fitting-size w16 (v .args .x2) (v .fits .x2),
+      q-is m,
+      fitting-size w16 (v .args .y2) (v .fits .y2),
     )
 
 cast-t16 : tie.Need-cast-t16
-cast-t16 c = omega (arith, a-small (c .before .before .before))
+cast-t16 c = omega (arith, a-small (g (c .before)))
 
 cast-t17 : tie.Need-cast-t17
-cast-t17 c =
-    let g = c .before .before .before in omega (arith, b-is c, is-plan g .b-below, a-is g, a-small g)
+cast-t17 c = let m = g (c .before) in omega (arith, b-is c, is-plan m .b-below, a-is m, a-small m)
 
 cast-t18 : tie.Need-cast-t18
 cast-t18 c =
-    let g = c .before .before .before in
-    omega (arith, d-is g, is-plan g .most, mul-le-mul-right (form g .d) (is-plan g .a-least))
+    let m = g (c .before) in omega (arith, d-is m, is-plan m .most, mul-le-mul-right (form m .d) (is-plan m .a-least))
 
 returns-3 : tie.Need-returns-3
 returns-3 c =
-    let g = c .before .before .before in
-    ap Planned.Plan (same-plan (form g) (a-is g) (b-is c) (d-is g))
-    ∙ sym (form-answer (x (sized g)) (y (sized g)) (independent (g .before .before .before .before)) (most g))
+    let m = g (c .before) in
+    ap Planned.Plan (same-plan (form m) (a-is m) (b-is c) (d-is m))
+    ∙ sym (form-answer (x (sized m)) (y (sized m)) (independent (passed m)) (most m))
 
 pub normal-form-spec : {M : Type 1} → statement M
 normal-form-spec =
@@ -203,8 +197,7 @@ normal-form-spec =
     returns-2
     (λ c κs. search needs) (λ c κs. search needs) (λ c κs. search needs)
     div-a
-    upright-column-requires
-    upright-column-requires-2
+    (λ c κs. a-small c) (λ c κs. a-small (c .before))
     falling-column-requires
     cast-t16
     cast-t17

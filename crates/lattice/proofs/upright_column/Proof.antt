@@ -41,31 +41,26 @@ module _ (z : ℤ) (f : SFits w16 z) where
 row-raised : (c : tie.After-raised16) → pos (c .raised16 .result) ≡ c .before .args .x2 +ℤ pos 32768
 row-raised c = raised-read 32768 (c .before .fits .x2) (c .raised16 .ensures .0)
 
-cast-remainder : tie.Need-cast-remainder
-cast-remainder c = widened-fits w16 w32 tt (c .before .before .args .x1) (c .before .before .fits .x1)
-
 sub-remainder : tie.Need-sub-remainder
-sub-remainder c = turned-fits (c .before .before .args .x1) (c .before .before .fits .x1)
-
-cast-remainder-2 : tie.Need-cast-remainder-2
-cast-remainder-2 c = widened-fits w16 w32 tt (c .before .before .args .x1) (c .before .before .fits .x1)
+sub-remainder c = turned-fits _ (c .before .before .fits .x1)
 
 returns : tie.Need-returns
 returns c =
-    let a = c .before .before .before .args in
+    let k = c .before .before in
+    let a = k .before .args in
     c .remainder .ensures
     ∙ ap₂ floorMod
-    (turned-is (a .x1) (c .before .before .before .fits .x1)
-    ∙ sym (turned-column (a .x1) (a .x2) _ (row-raised (c .before .before)) (c .before .if1 .taken)))
+    (turned-is (a .x1) (k .before .fits .x1) ∙ sym (turned-column (a .x1) (a .x2) _ (row-raised k) (c .before .if1 .taken)))
     (omega arith)
 
 returns-2 : tie.Need-returns-2
 returns-2 c =
-    let a = c .before .before .before .args in
+    let k = c .before .before in
+    let a = k .before .args in
     c .remainder2 .ensures
     ∙ ap₂ floorMod
-    (widened-is w16 w32 tt (a .x1) (c .before .before .before .fits .x1)
-    ∙ sym (kept-column (a .x1) (a .x2) _ (row-raised (c .before .before)) (c .before .if1 .left)))
+    (widened-is w16 w32 tt (a .x1) (k .before .fits .x1)
+    ∙ sym (kept-column (a .x1) (a .x2) _ (row-raised k) (c .before .if1 .left)))
     (omega arith)
 
 pub upright-column-spec : {M : Type 1} → statement M
@@ -73,10 +68,10 @@ upright-column-spec =
     tie.close
     (tie.spec
     (λ c. search needs) (λ c. search needs) (λ c κs. search needs)
-    cast-remainder
+    (λ c. widened-fits w16 w32 tt _ (c .before .before .fits .x1))
     sub-remainder
     (λ c κs. search needs)
-    cast-remainder-2
+    (λ c. widened-fits w16 w32 tt _ (c .before .before .fits .x1))
     (λ c κs. search needs)
     returns
     returns-2)

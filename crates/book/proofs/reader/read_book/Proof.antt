@@ -2,7 +2,6 @@
 -- Assumes nothing.
 use Prim.Native.Nat.{ℕ}
 use mathlib.Core.Path.{_≡_, sym, _∙_, ap₂}
-use mathlib.Core.Option.{none, some}
 use mathlib.Core.List.{List, []}
 use borrow.Author.Needs.{needs}
 use Rattle.scope.specs.Books.{bookOf, bookIn}
@@ -13,43 +12,38 @@ use Rattle.scope.specs.declared.Outcome.{Outcome}
 use Rattle.scope.specs.declared.Reading.{Reading}
 use Rattle.scope.specs.declared.Refusal.{Refusal}
 use Rattle.checks.proofs.Chains.{answered-none, answered-some}
+use Rattle.book.specs.Scan.{outcomeOf}
 use Rattle.book.proofs.Outcomes.{done-found-nothing, refused-found}
 use Rattle.book.proofs.reader.read_book.Statement.{statement}
 use Rattle.book.proofs.reader.read_book.Tie as tie
 
--- the reading where the tests find a refusal, and where they find nothing
-module _ (s : List ℕ) {book : Book} {outcome : Outcome} where
+-- the reading where the tests of the bytes s have answered with a refusal, and where they found nothing
+module _ (s : List ℕ) {book : Book} {outcome : Outcome} (answer : outcome ≡ outcomeOf (bytesTest s)) where
   refused-reading :
-      (r : Refusal) → bytesTest s ≡ some r → book ≡ bookOf [] → outcome ≡ Outcome.Refused r
-      → record { book = book; outcome = outcome } ≡ readBook s
+      {r : Refusal} → outcome ≡ Outcome.Refused r → book ≡ bookOf [] → record { book = book; outcome = outcome } ≡ readBook s
   unfolding readBook
-  refused-reading r found empty refused =
+  refused-reading {r} refused empty =
       ap₂ {C = Reading} (λ b o. record { book = b; outcome = o }) empty refused
-      ∙ sym (answered-some (bytesTest s) _ _ r found)
+      ∙ sym (answered-some (bytesTest s) _ _ r (refused-found (bytesTest s) answer refused))
 
-  done-reading :
-      bytesTest s ≡ none → book ≡ bookIn s → outcome ≡ Outcome.Done → record { book = book; outcome = outcome } ≡ readBook s
+  done-reading : outcome ≡ Outcome.Done → book ≡ bookIn s → record { book = book; outcome = outcome } ≡ readBook s
   unfolding readBook
-  done-reading found is done =
-      ap₂ {C = Reading} (λ b o. record { book = b; outcome = o }) is done ∙ sym (answered-none (bytesTest s) _ _ found)
+  done-reading done is =
+      ap₂ {C = Reading} (λ b o. record { book = b; outcome = o }) is done
+      ∙ sym (answered-none (bytesTest s) _ _ (done-found-nothing (bytesTest s) answer done))
 
 returns : tie.Need-returns
 returns c =
-    let b = c .before .before .before in
-    let s = b .before .before .args .s .now in
-    let refused = c .before .enum-told .given .1 in
-    refused-reading s _ (refused-found (bytesTest s) (b .bytes-outcome .ensures) refused) (c .empty-book .ensures) refused
+    let k = c .before in
+    refused-reading _ (k .before .before .bytes-outcome .ensures) (k .enum-told .given .1) (c .empty-book .ensures)
 
 book-at-requires : tie.Need-book-at-requires
-book-at-requires c κs =
-    let b = c .before .before in
-    done-found-nothing (bytesTest (b .before .before .args .s .now)) (b .bytes-outcome .ensures) (c .enum-told2 .given .1)
+book-at-requires c κs = done-found-nothing _ (c .before .before .bytes-outcome .ensures) (c .enum-told2 .given .1)
 
 returns-2 : tie.Need-returns-2
 returns-2 c =
-    let b = c .before .before .before in
-    let taken = book-at-requires (c .before) (b .before .before .κs) in
-    done-reading (b .before .before .args .s .now) taken (c .book-at .ensures) (c .before .enum-told2 .given .1)
+    let k = c .before in
+    done-reading _ (k .before .before .bytes-outcome .ensures) (k .enum-told2 .given .1) (c .book-at .ensures)
 
 pub read-book-spec : {M : Type 1} → statement M
 read-book-spec =
