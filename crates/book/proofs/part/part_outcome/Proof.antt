@@ -11,7 +11,6 @@ use Rattle.scope.specs.Numbers.{bytesTest}
 use Rattle.scope.specs.Calls.{partTest, partOutcome}
 use Rattle.scope.specs.declared.Outcome.{Outcome}
 use Rattle.scope.specs.declared.Refusal.{Refusal}
-use Rattle.book.specs.Scan.{outcomeOf}
 use Rattle.book.proofs.Outcomes.{answered-by-refusal, answered-by-done, done-found-nothing, refused-found}
 use Rattle.book.proofs.Taken.{count-inside}
 use Rattle.book.proofs.Parts.{part-test-iff}

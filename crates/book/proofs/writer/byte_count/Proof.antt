@@ -18,31 +18,12 @@ Inv-loop book count size₀ n₀ size n = (n ≤ count) × (size ≡ length (pat
 abbrev μ-loop : tie.MeasureT-loop
 μ-loop book count size₀ n₀ size n = count - n
 
+-- in a turn the pattern is one of the book
 fits : (c : tie.In-loop Inv-loop μ-loop) → PatternFits (c .before .before .args .t1) (c .before .loop .n)
 fits c = pattern-fits (c .before .before .args .t1) (c .before .loop .n) (c .before .before .pre) (omega arith)
 
 loop-holds : tie.Need-loop-holds Inv-loop μ-loop
 loop-holds c = (omega arith, sym (length-no-pattern (c .args .t1)))
-
-mul-t : tie.Need-mul-t Inv-loop μ-loop
-mul-t c = omega (arith, fits c)
-
-element-copy-out-t : tie.Need-element-copy-out-t Inv-loop μ-loop
-element-copy-out-t c = omega (arith, fits c)
-
-add-size : tie.Need-add-size Inv-loop μ-loop
-add-size c = omega (arith, fits (c .before))
-
-mul-size : tie.Need-mul-size Inv-loop μ-loop
-unfolding patternAt
-mul-size c = omega (arith, fits (c .before .before))
-
-add-size-2 : tie.Need-add-size-2 Inv-loop μ-loop
-unfolding patternAt
-add-size-2 c = omega (arith, fits (c .before .before))
-
-add-n : tie.Need-add-n Inv-loop μ-loop
-add-n c = omega (arith, fits (c .before .before))
 
 loop-again : tie.Need-loop-again Inv-loop μ-loop
 unfolding patternAt
@@ -57,19 +38,17 @@ returns c =
     let done : l .loop .n ≡ book .count = omega arith in
     l .loop .inv .1 ∙ ap (λ (n : ℕ). length (patternsPut book n)) done ∙ ap length (all-patterns-put book)
 
+-- the needs without a name: numbers fit and places are inside
 pub byte-count-spec : {M : Type 1} → statement M
+unfolding patternAt
 byte-count-spec =
     tie.close
     (tie.spec
     Inv-loop
     μ-loop
     loop-holds
-    mul-t
-    element-copy-out-t
-    add-size
-    mul-size
-    add-size-2
-    add-n
-    (λ c. search needs)
+    (λ c. omega (arith, fits c)) (λ c. omega (arith, fits c)) (λ c. omega (arith, fits (c .before)))
+    (λ c. omega (arith, fits (c .before .before))) (λ c. omega (arith, fits (c .before .before)))
+    (λ c. omega (arith, fits (c .before .before))) (λ c. search needs)
     loop-again
     returns)
