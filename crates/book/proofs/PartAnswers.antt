@@ -15,7 +15,7 @@ use Rattle.checks.proofs.Chains.{answered-none, answered-some}
 use Rattle.book.proofs.Bytes.{first-place}
 use Rattle.book.proofs.Outcomes.{done-found-nothing, refused-found}
 use Rattle.book.proofs.Parts.{part-test-iff}
-use Rattle.book.proofs.Taken.{pattern-inside}
+use Rattle.book.proofs.Taken.{pattern-bounds}
 
 module _ (s : List ℕ) (n : ℕ) {outcome : Outcome} (answer : outcome ≡ partOutcome s n) where
   module _ {r : Refusal} (refused : outcome ≡ Outcome.Refused r) where
@@ -39,11 +39,11 @@ module _ (s : List ℕ) (n : ℕ) {outcome : Outcome} (answer : outcome ≡ part
     pub start-shows : (bytesTest s ≡ none) × (n ≤ byte s 0)
     start-shows = (part-in-book .0, omega (arith, part-in-book .1))
 
-    -- the part begins after the pixel count, at the place of the first pixel, and is inside
+    -- the part begins after the pixel count, at the place of the first pixel; the counts are legal, and it is inside
     module _ {at : ℕ} (is : at ≡ start s n) where
       pub taken-place : at + 1 ≡ partPlace s n
       unfolding partPlace
       taken-place = omega (arith, is, first-place s n, answered-none (partTest s n) (λ r. 0) (place s n 0) taken-part)
 
-      pub taken-inside : at + 1 + 2 * byte s at ≤ length s
-      taken-inside = pattern-inside s (part-in-book .0) n is (part-in-book .1)
+      pub taken-bounds : (n < 16) × (byte s at ≤ 64) × (at + 1 + 2 * byte s at ≤ length s)
+      taken-bounds = pattern-bounds s (part-in-book .0) n is (part-in-book .1)

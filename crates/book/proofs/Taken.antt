@@ -22,16 +22,16 @@ module _ (s : List ℕ) (taken : bytesTest s ≡ none) where
   unfolding bookIn
   counted = gathered-book-iff (byte s 0) (patternIn s) .0 (bytes-taken-iff s .0 taken .1)
 
-  -- at the place of pattern n's pixel count: the counts are legal, and this one and its pixels are inside
-  module _ {at : ℕ} (n : ℕ) (is : at ≡ start s n) (h : n < byte s 0) where
-    pub pattern-inside : at + 1 + 2 * byte s at ≤ length s
-    pattern-inside = rw is (omega (arith, start-after s n (byte s 0) h, next-start s n, bytes-taken-iff s .0 taken .0))
-
-    pub pattern-bounds : (n < 16) × (byte s at ≤ 64) × (at + 1 + 2 * byte s at ≤ length s)
-    pattern-bounds =
-        let pixels = gathered-pattern-iff (byte s (start s n)) (pixelIn s n) .0 (counted .1 n h) .0 in
-        (omega (arith, counted .0), omega (arith, pixels, ap (byte s) is), pattern-inside)
+  -- at the place of pattern n's pixel count: n and the count are legal, and the count and its pixels are inside
+  pub pattern-bounds :
+      {at : ℕ} (n : ℕ) → at ≡ start s n → n < byte s 0
+      → (n < 16) × (byte s at ≤ 64) × (at + 1 + 2 * byte s at ≤ length s)
+  pattern-bounds n is h = (
+    omega (arith, counted .0),
+    rw is (gathered-pattern-iff (byte s (start s n)) (pixelIn s n) .0 (counted .1 n h) .0 .1),
+    rw is (omega (arith, start-after s n (byte s 0) h, next-start s n, bytes-taken-iff s .0 taken .0)),
+  )
 
   -- and the pattern count is inside
   pub count-inside : 0 < length s
-  count-inside = omega (arith, pattern-inside 0 refl (counted .0 .0))
+  count-inside = omega (arith, pattern-bounds 0 refl (counted .0 .0))

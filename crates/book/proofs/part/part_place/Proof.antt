@@ -2,7 +2,7 @@
 -- Assumes nothing.
 use native.Mathlib.Omega.{arith}
 use borrow.Author.Needs.{needs}
-use Rattle.book.proofs.PartAnswers.{refused-place, start-shows, taken-place, taken-inside}
+use Rattle.book.proofs.PartAnswers.{refused-place, start-shows, taken-place, taken-bounds}
 use Rattle.book.proofs.part.part_place.Statement.{statement}
 use Rattle.book.proofs.part.part_place.Tie as tie
 
@@ -15,7 +15,7 @@ start-of-requires c κs = start-shows _ _ (c .before .before .part-outcome .ensu
 add-result : tie.Need-add-result
 add-result c =
     let k = c .before in
-    omega (arith, taken-inside _ _ (k .before .before .part-outcome .ensures) (k .enum-told2 .given .1) (c .start-of .ensures))
+    omega (arith, taken-bounds _ _ (k .before .before .part-outcome .ensures) (k .enum-told2 .given .1) (c .start-of .ensures))
 
 returns-2 : tie.Need-returns-2
 returns-2 c =

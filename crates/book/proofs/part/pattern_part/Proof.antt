@@ -12,7 +12,7 @@ use Rattle.scope.specs.declared.Outcome.{Outcome}
 use Rattle.scope.specs.declared.Refusal.{Refusal}
 use Rattle.checks.proofs.Chains.{answered-none, answered-some}
 use Rattle.book.proofs.Bytes.{first-place}
-use Rattle.book.proofs.PartAnswers.{refused-part, taken-part, refused-place, start-shows, taken-place, taken-inside}
+use Rattle.book.proofs.PartAnswers.{refused-part, taken-part, refused-place, start-shows, taken-place, taken-bounds}
 use Rattle.book.proofs.part.pattern_part.Statement.{statement}
 use Rattle.book.proofs.part.pattern_part.Tie as tie
 
@@ -57,30 +57,14 @@ module _ (c : tie.After-start-of) where
   abbrev s : List ℕ
   s = answered .before .before .args .s .now
 
+  abbrev at : ℕ
+  at = c .start-of .result
+
   done : answered .part-outcome .result ≡ Outcome.Done
   done = c .before .enum-told2 .given .1
 
-  inside : c .start-of .result + 1 + 2 * byte s (c .start-of .result) ≤ length s
-  inside = taken-inside _ _ (answered .part-outcome .ensures) done (c .start-of .ensures)
-
-add-first : tie.Need-add-first
-add-first c = omega (arith, inside c)
-
-part-result-end-2 : tie.Need-part-result-end-2
-unfolding byte
-part-result-end-2 c = inside (c .before)
-
-shared-slice-read-end : tie.Need-shared-slice-read-end
-shared-slice-read-end c = omega (arith, inside (c .before))
-
-cast-end : tie.Need-cast-end
-cast-end c = omega (arith, c .shared-slice-known2 .given (c .before .start-of .result))
-
-mul-end : tie.Need-mul-end
-mul-end c = omega (arith, c .shared-slice-known2 .given (c .before .start-of .result))
-
-add-end : tie.Need-add-end
-add-end c = omega (arith, part-result-end-2 c)
+  bounds : (byte s at ≤ 64) × (at + 1 + 2 * byte s at ≤ length s)
+  bounds = let b = taken-bounds _ _ (answered .part-outcome .ensures) done (c .start-of .ensures) in (b .1, b .2)
 
 returns-2 : tie.Need-returns-2
 unfolding byte
@@ -91,7 +75,9 @@ returns-2 c =
       at-first-pixel _ _ answer (done k) (k .start-of .ensures) _,
     )
 
+-- the needs without a name: numbers fit and places are inside
 pub pattern-part-spec : {M : Type 1} → statement M
+unfolding byte
 pattern-part-spec =
     tie.close
     (tie.spec
@@ -99,11 +85,7 @@ pattern-part-spec =
     returns
     (λ c. search needs)
     start-of-requires
-    add-first
-    shared-slice-read-end
-    cast-end
-    mul-end
-    add-end
-    (λ c. search needs) (λ c. search needs)
-    part-result-end-2
+    (λ c. omega (arith, bounds c)) (λ c. omega (arith, bounds (c .before))) (λ c. omega (arith, bounds (c .before)))
+    (λ c. omega (arith, bounds (c .before))) (λ c. omega (arith, bounds (c .before)))
+    (λ c. search needs) (λ c. search needs) (λ c. bounds (c .before) .1)
     returns-2)

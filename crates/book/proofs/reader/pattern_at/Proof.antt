@@ -24,12 +24,12 @@ Inv-loop s at used columns₀ rows₀ e₀ columns rows e =
 abbrev μ-loop : tie.MeasureT-loop
 μ-loop s at used columns₀ rows₀ e₀ columns rows e = used - e
 
-loop-holds : tie.Need-loop-holds Inv-loop μ-loop
-loop-holds c = (omega arith, filled-none _, filled-none _)
-
 -- the head of the turn in which both bytes of a pixel are read
 abbrev head : tie.After-signed-byte2 Inv-loop μ-loop → tie.At-loop Inv-loop μ-loop
 head c = c .before .before .before .before .before
+
+loop-holds : tie.Need-loop-holds Inv-loop μ-loop
+loop-holds c = (omega arith, filled-none _, filled-none _)
 
 loop-again : tie.Need-loop-again Inv-loop μ-loop
 unfolding pixelFrom

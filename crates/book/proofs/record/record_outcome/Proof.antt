@@ -16,6 +16,10 @@ Inv-loop book count n₀ n = (n ≤ count) × PassedBefore book n
 abbrev μ-loop : tie.MeasureT-loop
 μ-loop book count n₀ n = count - n
 
+-- the head of the turn in which a pattern's tests have answered
+abbrev head : tie.After-pattern-outcome Inv-loop μ-loop → tie.At-loop Inv-loop μ-loop
+head t = t .before .before .before
+
 returns : tie.Need-returns Inv-loop μ-loop
 returns c = count-not-taken _ (λ h. omega arith)
 
@@ -24,10 +28,6 @@ returns-2 c = count-not-taken _ (λ h. omega arith)
 
 loop-holds : tie.Need-loop-holds Inv-loop μ-loop
 loop-holds c = (omega arith, λ m h. absurd (omega arith))
-
--- the head of the turn in which a pattern's tests have answered
-abbrev head : tie.After-pattern-outcome Inv-loop μ-loop → tie.At-loop Inv-loop μ-loop
-head t = t .before .before .before
 
 returns-3 : tie.Need-returns-3 Inv-loop μ-loop
 unfolding patternAt
