@@ -1,4 +1,4 @@
--- The answer of the reverse map past its tests of the plan and the sides: 15, or the pixel.
+-- What the reverse map answers, test by test: 11, 12, 15, or the pixel.
 -- Assumes nothing.
 use Prim.Native.Nat.{ℕ, _+_, _-_, _%_}
 use mathlib.Core.Path.{_≡_, refl, sym, _∙_}
@@ -14,14 +14,24 @@ use Rattle.scope.specs.code.ReverseCells.{cellColumn, cellRow, isLacking
 use Rattle.scope.proofs.CellBounds.{pixel-below, read-back}
 use Rattle.scope.specs.Plans.{banks, isPlan}
 use Rattle.scope.specs.Banks.{inside, depthOf, pixelOf}
-use Rattle.scope.specs.Numbers.{isSide, cellTest}
+use Rattle.scope.specs.Numbers.{isSide, sidesTest, cellTest}
 use Rattle.scope.specs.Calls.{locate}
 use Rattle.scope.specs.declared.Plan.{Plan}
 use Rattle.scope.specs.declared.Located.the-variants.{Pixel as PixelAt, Refused}
-use Rattle.scope.specs.declared.Refusal.the-variants.{Cell}
+use Rattle.scope.specs.declared.Refusal.the-variants.{NotPlan, Sides, Cell}
 use Rattle.scope.proofs.PlanFacts.{plan-means, sides-mean}
-use Rattle.scope.proofs.MethodAnswers.{refused-here, left-to-rest, past-sides}
+use Rattle.scope.proofs.MethodAnswers.{refused-here, left-to-rest, no-plan, no-sides, past-sides}
 
+module _ (p : Plan) (W H k i : ℕ) where
+  pub locate-no-plan : isPlan p ≡ false → Refused NotPlan ≡ locate p W H k i
+  unfolding locate
+  locate-no-plan e = sym (no-plan Refused _ (sidesTest W H ∷ cellTest p W H k i ∷ []) p e)
+
+  pub locate-no-sides : isPlan p ≡ true → isSide W && isSide H ≡ false → Refused Sides ≡ locate p W H k i
+  unfolding locate
+  locate-no-sides e f = sym (no-sides Refused _ (cellTest p W H k i ∷ []) p W H e f)
+
+-- past the tests of the plan and the sides
 module _ (p : Plan) (W H k i : ℕ) (plan : isPlan p ≡ true) (sides : isSide W && isSide H ≡ true) where
   abbrev lacking : Bool
   lacking = isLacking (p .a) (p .b) (p .d) W H k i

@@ -4,19 +4,25 @@ use Prim.Native.Nat.{ℕ, _+_, _*_, _-_, _/_}
 use native.Mathlib.Nat.{sub-add-cancel}
 use mathlib.Core.Path.{_≡_, refl, sym, _∙_, ap}
 use mathlib.Core.Bool.{Bool, true, false, not, _&&_}
+use mathlib.Core.Option.{Option}
 use mathlib.Core.List.{[], _∷_}
 use lib.Dec.{ltb}
 use lib.IntN.{ℤ, pos, negsuc, natAbs}
 use lib.Signed.{nonNeg}
+use mir.Syntax.{w16}
+use mir.Val.{toZ, ofZ}
 use mir.Facts.{toZ-ofZ}
 use Rattle.integers.specs.Division.{ceilDiv}
+use Rattle.scope.specs.Search.{firstOf}
 use Rattle.scope.specs.Plans.{at, isPlan}
 use Rattle.scope.specs.Banks.{within, inside, addressOf}
 use Rattle.scope.specs.Numbers.{isSide, sidesTest, outsideTest}
-use Rattle.scope.specs.Calls.{address}
+use Rattle.scope.specs.Calls.{answered, address}
 use Rattle.scope.specs.promises.Meaning.{Inside}
 use Rattle.scope.specs.declared.Plan.{Plan}
+use Rattle.scope.specs.declared.Counted.{Counted}
 use Rattle.scope.specs.declared.Counted.the-variants.{Number, Refused}
+use Rattle.scope.specs.declared.Refusal.{Refusal}
 use Rattle.scope.specs.declared.Refusal.the-variants.{NotPlan, Sides, Outside}
 use Rattle.scope.proofs.PlanFacts.{plan-means, inside-means}
 use Rattle.scope.proofs.MethodAnswers.{fails, holds, no-plan, no-sides, past-sides, outside-one, inside-one}
@@ -48,115 +54,95 @@ unfolding at
 address-inside p W H i j v = rw (v .column, v .row) (sym (address-of-naturals p W H (v .i) (v .j)))
 
 module _ (p : Plan) (W H : ℕ) (i j : ℤ) where
-  address-no-plan : isPlan p ≡ false → address p W H (at i j) ≡ Refused NotPlan
-  unfolding address
-  address-no-plan = no-plan Refused _ (sidesTest W H ∷ outsideTest W H (at i j ∷ []) ∷ []) p
+  abbrev given : Counted
+  given = Number (addressOf p W H (at i j))
 
-  address-no-sides : isPlan p ≡ true → isSide W && isSide H ≡ false → address p W H (at i j) ≡ Refused Sides
+  abbrev pixelTest : Option Refusal
+  pixelTest = outsideTest W H (at i j ∷ [])
+
+  address-no-plan : isPlan p ≡ false → Refused NotPlan ≡ address p W H (at i j)
   unfolding address
-  address-no-sides = no-sides Refused _ (outsideTest W H (at i j ∷ []) ∷ []) p W H
+  address-no-plan e = sym (no-plan Refused given (sidesTest W H ∷ pixelTest ∷ []) p e)
+
+  address-no-sides : isPlan p ≡ true → isSide W && isSide H ≡ false → Refused Sides ≡ address p W H (at i j)
+  unfolding address
+  address-no-sides e f = sym (no-sides Refused given (pixelTest ∷ []) p W H e f)
 
   module _ (plan : isPlan p ≡ true) (sides : isSide W && isSide H ≡ true) {u v : ℤ} (same : u ≡ i) (also : v ≡ j) where
     inside-was : {b : Bool} → isInside W H u v ≡ b → inside W H (at i j) ≡ b
     inside-was e = sym (inside-is W H i j) ∙ rw (same, also) at e
 
-    address-outside : {r : Bool} → r ≡ isInside W H u v → not r ≡ true → address p W H (at i j) ≡ Refused Outside
+    past-both : address p W H (at i j) ≡ answered (firstOf (pixelTest ∷ [])) Refused given
     unfolding address
-    address-outside f g =
-        let e = fails f g in
-        past-sides Refused (Number (addressOf p W H (at i j))) (outsideTest W H (at i j ∷ []) ∷ []) p W H plan sides
-        ∙ outside-one Refused (Number (addressOf p W H (at i j))) W H (at i j) (inside-was e)
+    past-both = past-sides Refused given (pixelTest ∷ []) p W H plan sides
+
+    address-outside : {r : Bool} → r ≡ isInside W H u v → not r ≡ true → Refused Outside ≡ address p W H (at i j)
+    address-outside f g = sym (past-both ∙ outside-one Refused given W H (at i j) (inside-was (fails f g)))
 
     address-given :
         {r : Bool} → r ≡ isInside W H u v → not r ≡ false
         → {n : ℕ} → n ≡ natAbs v / (p .d - 1 + 1) * ceilDiv W (p .a - 1 + 1) + natAbs u / (p .a - 1 + 1)
-        → address p W H (at i j) ≡ Number n
-    unfolding address
+        → Number n ≡ address p W H (at i j)
     address-given f g h =
-        let e = holds f g in
+        let e = inside-was (holds f g) in
         let m = plan-means p plan in
-        past-sides Refused (Number (addressOf p W H (at i j))) (outsideTest W H (at i j ∷ []) ∷ []) p W H plan sides
-        ∙ inside-one Refused (Number (addressOf p W H (at i j))) W H (at i j) (inside-was e)
-        ∙ ap Number
-        (sym
+        ap Number
         (h
         ∙ rw (same, also, sub-add-cancel (m .a-least), sub-add-cancel (m .d-least))
-        (address-inside p W H i j (inside-means W H (at i j) (inside-was e)))))
-
-is-plan-requires : tie.Need-is-plan-requires
-is-plan-requires c κs = tt
+        (address-inside p W H i j (inside-means W H (at i j) e)))
+        ∙ sym (past-both ∙ inside-one Refused given W H (at i j) e)
 
 returns : tie.Need-returns
 unfolding isPlan
-returns c =
-    let v = c .before .before .args in
-    sym (address-no-plan (v .self) (v .w) (v .h) (v .i) (v .j) (fails (c .before .is-plan .ensures) (c .if1 .taken)))
+returns c = address-no-plan _ _ _ _ _ (fails (c .before .is-plan .ensures) (c .if1 .taken))
 
+-- the plan's test is passed
 plan : (c : tie.Else1) → isPlan (c .before .before .args .self) ≡ true
 unfolding isPlan
 plan c = holds (c .before .is-plan .ensures) (c .if1 .left)
 
-are-sides-requires : tie.Need-are-sides-requires
-are-sides-requires c κs = tt
-
 returns-2 : tie.Need-returns-2
 unfolding isSide
-returns-2 c =
-    let v = c .before .before .before .before .args in
-    sym
-    (address-no-sides (v .self) (v .w) (v .h) (v .i) (v .j) (plan (c .before .before))
-    (fails (c .before .are-sides .ensures) (c .if2 .taken)))
+returns-2 c = address-no-sides _ _ _ _ _ (plan (c .before .before)) (fails (c .before .are-sides .ensures) (c .if2 .taken))
 
-sides : (c : tie.Else2) → let v = c .before .before .before .before .args in isSide (v .w) && isSide (v .h) ≡ true
-unfolding isSide
-sides c = holds (c .before .are-sides .ensures) (c .if2 .left)
+-- the sides' test is passed
+module _ (c : tie.Else2) where
+  abbrev start : tie.Start
+  start = c .before .before .before .before
 
-is-inside-requires : tie.Need-is-inside-requires
-is-inside-requires c κs = tt
+  is-plan : isPlan (start .args .self) ≡ true
+  is-plan = plan (c .before .before)
+
+  sides : isSide (start .args .w) && isSide (start .args .h) ≡ true
+  unfolding isSide
+  sides = holds (c .before .are-sides .ensures) (c .if2 .left)
+
+  column : toZ w16 (ofZ w16 (start .args .i)) ≡ start .args .i
+  column = toZ-ofZ (start .fits .i)
+
+  row : toZ w16 (ofZ w16 (start .args .j)) ≡ start .args .j
+  row = toZ-ofZ (start .fits .j)
 
 returns-3 : tie.Need-returns-3
 returns-3 c =
-    let t = c .before .before in
-    let s = t .before .before .before .before in
-    let v = s .args in
-    sym
-    (address-outside (v .self) (v .w) (v .h) (v .i) (v .j) (plan (t .before .before)) (sides t) (toZ-ofZ (s .fits .i))
-    (toZ-ofZ (s .fits .j))
-    (c .before .is-inside .ensures)
-    (c .if3 .taken))
+    let k = c .before .before in
+    address-outside _ _ _ _ _ (is-plan k) (sides k) (column k) (row k) (c .before .is-inside .ensures) (c .if3 .taken)
 
 sub-address-number : tie.Need-sub-address-number
-sub-address-number c = plan-means _ (plan (c .before .before .before .before)) .a-least
+sub-address-number c = plan-means _ (is-plan (c .before .before)) .a-least
 
 sub-address-number-2 : tie.Need-sub-address-number-2
-sub-address-number-2 c = plan-means _ (plan (c .before .before .before .before)) .d-least
-
-address-number-requires : tie.Need-address-number-requires
-address-number-requires c κs = tt
+sub-address-number-2 c = plan-means _ (is-plan (c .before .before)) .d-least
 
 returns-4 : tie.Need-returns-4
 returns-4 c =
-    let t = c .before .before .before in
-    let s = t .before .before .before .before in
-    let v = s .args in
-    sym
-    (address-given (v .self) (v .w) (v .h) (v .i) (v .j) (plan (t .before .before)) (sides t) (toZ-ofZ (s .fits .i))
-    (toZ-ofZ (s .fits .j))
-    (c .before .before .is-inside .ensures)
-    (c .before .if3 .left)
-    (c .address-number .ensures))
+    let t = c .before in
+    let k = t .before .before in
+    address-given _ _ _ _ _ (is-plan k) (sides k) (column k) (row k) (t .before .is-inside .ensures) (t .if3 .left)
+    (c .address-number .ensures)
 
 pub address-spec : {M : Type 1} → statement M
 address-spec =
     tie.close
     (tie.spec
-    is-plan-requires
-    returns
-    are-sides-requires
-    returns-2
-    is-inside-requires
-    returns-3
-    sub-address-number
-    sub-address-number-2
-    address-number-requires
-    returns-4)
+    (λ c κs. tt) returns (λ c κs. tt) returns-2 (λ c κs. tt) returns-3 sub-address-number sub-address-number-2 (λ c κs. tt) returns-4)

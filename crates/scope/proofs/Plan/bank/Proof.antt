@@ -34,9 +34,6 @@ bank-given p i j f g e h =
     let m = plan-means p e in
     rw (h, toZ-ofZ f, toZ-ofZ g, sub-add-cancel (m .a-least), sub-add-cancel (m .d-least), e)
 
-is-plan-requires : tie.Need-is-plan-requires
-is-plan-requires c κs = tt
-
 plan : (c : tie.Then1) → isPlan (c .before .before .args .self) ≡ true
 unfolding isPlan
 plan c = sym (c .before .is-plan .ensures) ∙ c .if1 .taken
@@ -52,9 +49,6 @@ cast-bank-number c =
 sub-bank-number-2 : tie.Need-sub-bank-number-2
 sub-bank-number-2 c = plan-means _ (plan c) .d-least
 
-bank-number-requires : tie.Need-bank-number-requires
-bank-number-requires c κs = tt
-
 returns : tie.Need-returns
 returns c =
     let s = c .before .before .before in
@@ -69,11 +63,4 @@ returns-2 c =
 pub bank-spec : {M : Type 1} → statement M
 bank-spec =
     tie.close
-    (tie.spec
-    is-plan-requires
-    sub-bank-number
-    cast-bank-number
-    sub-bank-number-2
-    bank-number-requires
-    returns
-    returns-2)
+    (tie.spec (λ c κs. tt) sub-bank-number cast-bank-number sub-bank-number-2 (λ c κs. tt) returns returns-2)

@@ -19,46 +19,35 @@ use Rattle.scope.proofs.Plan.depth.Statement.{statement}
 use Rattle.scope.proofs.Plan.depth.Tie as tie
 
 module _ (p : Plan) (W H : ℕ) where
-  depth-no-plan : isPlan p ≡ false → depth p W H ≡ Refused NotPlan
+  depth-no-plan : isPlan p ≡ false → Refused NotPlan ≡ depth p W H
   unfolding depth
-  depth-no-plan = no-plan Refused (Number (depthOf p W H)) (sidesTest W H ∷ []) p
+  depth-no-plan e = sym (no-plan Refused (Number (depthOf p W H)) (sidesTest W H ∷ []) p e)
 
-  depth-no-sides : isPlan p ≡ true → isSide W && isSide H ≡ false → depth p W H ≡ Refused Sides
+  depth-no-sides : isPlan p ≡ true → isSide W && isSide H ≡ false → Refused Sides ≡ depth p W H
   unfolding depth
-  depth-no-sides = no-sides Refused (Number (depthOf p W H)) [] p W H
+  depth-no-sides e f = sym (no-sides Refused (Number (depthOf p W H)) [] p W H e f)
 
   depth-given :
       isPlan p ≡ true → isSide W && isSide H ≡ true → {n : ℕ} → n ≡ ceilDiv W (p .a - 1 + 1) * ceilDiv H (p .d - 1 + 1)
-      → depth p W H ≡ Number n
+      → Number n ≡ depth p W H
   unfolding depth
   depth-given e f h =
       let m = plan-means p e in
-      past-sides Refused (Number (depthOf p W H)) [] p W H e f
-      ∙ ap Number (sym (h ∙ rw (sub-add-cancel (m .a-least), sub-add-cancel (m .d-least))))
-
-is-plan-requires : tie.Need-is-plan-requires
-is-plan-requires c κs = tt
+      ap Number (h ∙ rw (sub-add-cancel (m .a-least), sub-add-cancel (m .d-least)))
+      ∙ sym (past-sides Refused (Number (depthOf p W H)) [] p W H e f)
 
 returns : tie.Need-returns
 unfolding isPlan
-returns c =
-    let v = c .before .before .args in
-    sym (depth-no-plan (v .self) (v .w) (v .h) (fails (c .before .is-plan .ensures) (c .if1 .taken)))
+returns c = depth-no-plan _ _ _ (fails (c .before .is-plan .ensures) (c .if1 .taken))
 
+-- the plan's test is passed
 plan : (c : tie.Else1) → isPlan (c .before .before .args .self) ≡ true
 unfolding isPlan
 plan c = holds (c .before .is-plan .ensures) (c .if1 .left)
 
-are-sides-requires : tie.Need-are-sides-requires
-are-sides-requires c κs = tt
-
 returns-2 : tie.Need-returns-2
 unfolding isSide
-returns-2 c =
-    let v = c .before .before .before .before .args in
-    sym
-    (depth-no-sides (v .self) (v .w) (v .h) (plan (c .before .before))
-    (fails (c .before .are-sides .ensures) (c .if2 .taken)))
+returns-2 c = depth-no-sides _ _ _ (plan (c .before .before)) (fails (c .before .are-sides .ensures) (c .if2 .taken))
 
 sub-depth-number : tie.Need-sub-depth-number
 sub-depth-number c = plan-means _ (plan (c .before .before)) .a-least
@@ -66,27 +55,13 @@ sub-depth-number c = plan-means _ (plan (c .before .before)) .a-least
 sub-depth-number-2 : tie.Need-sub-depth-number-2
 sub-depth-number-2 c = plan-means _ (plan (c .before .before)) .d-least
 
-depth-number-requires : tie.Need-depth-number-requires
-depth-number-requires c κs = tt
-
 returns-3 : tie.Need-returns-3
 unfolding isSide
 returns-3 c =
-    let s = c .before .before .before in
-    let v = s .before .before .args in
-    sym
-    (depth-given (v .self) (v .w) (v .h) (plan s) (holds (c .before .before .are-sides .ensures) (c .before .if2 .left))
-    (c .depth-number .ensures))
+    let k = c .before in
+    depth-given _ _ _ (plan (k .before .before)) (holds (k .before .are-sides .ensures) (k .if2 .left)) (c .depth-number .ensures)
 
 pub depth-spec : {M : Type 1} → statement M
 depth-spec =
     tie.close
-    (tie.spec
-    is-plan-requires
-    returns
-    are-sides-requires
-    returns-2
-    sub-depth-number
-    sub-depth-number-2
-    depth-number-requires
-    returns-3)
+    (tie.spec (λ c κs. tt) returns (λ c κs. tt) returns-2 sub-depth-number sub-depth-number-2 (λ c κs. tt) returns-3)

@@ -37,24 +37,23 @@ module _ {m C : ℕ} {y : ℤ} (f : SFits w16 y) (e : m ≡ natAbs (toZ w16 (ofZ
   address-fits : {n : ℕ} {x : ℤ} → SFits w16 x → n ≡ natAbs (toZ w16 (ofZ w16 x)) → (a : ℕ) → Fits w64 (m / d * C + n / a)
   address-fits {n} g i a = record { fits = omega (arith, strips-most, div-le-self n a, size-most g i) }
 
+abbrev start : tie.After-rounded-up → tie.Start
+start c = c .before .before
+
 mul-result : tie.Need-mul-result
-mul-result c = strips-fit (c .before .before .fits .j) (c .before .size .ensures) _ _ (c .rounded-up .ensures) (omega arith) _
+mul-result c = strips-fit (start c .fits .j) (c .before .size .ensures) _ _ (c .rounded-up .ensures) (omega arith) _
 
 add-result-3 : tie.Need-add-result-3
 add-result-3 c =
-    let s = c .before .before .before in
-    address-fits (s .fits .j) (c .before .before .size .ensures) _ _ (c .before .rounded-up .ensures) (omega arith) _ (s .fits .i)
-    (c .size2 .ensures)
-    _
+    let k = c .before in
+    address-fits (start k .fits .j) (k .before .size .ensures) _ _ (k .rounded-up .ensures) (omega arith) _ (start k .fits .i)
+    (c .size2 .ensures) _
 
 returns : tie.Need-returns
 returns c =
-    let s = c .before .before .before in
-    rw (
-      size-is (s .fits .j) (c .before .before .size .ensures),
-      c .before .rounded-up .ensures,
-      size-is (s .fits .i) (c .size2 .ensures),
-    )
+    let k = c .before in
+    let row = size-is (start k .fits .j) (k .before .size .ensures) in
+    rw (row, k .rounded-up .ensures, size-is (start k .fits .i) (c .size2 .ensures))
 
 pub address-number-spec : {M : Type 1} → statement M
 address-number-spec =

@@ -148,34 +148,30 @@ module _ (T b S W H k i C : ℕ) where
             }
 
 returns : tie.Need-returns
-returns c =
-    let v = c .before .before .args in
-    no-bank (v .top-a) (v .b) (v .top-d) (v .w) (v .h) (v .k) (v .i) _ (c .before .rounded-up .ensures) refl (c .if1 .taken)
+returns c = no-bank _ _ _ _ _ _ _ _ (c .before .rounded-up .ensures) refl (c .if1 .taken)
+
+-- the width was divided before the height
+abbrev first : tie.After-rounded-up2 → tie.After-rounded-up
+first c = c .before .before
 
 mul-if2 : tie.Need-mul-if2
-mul-if2 c =
-    let v = c .before .before .before .args in
-    product-fits (v .w) (v .top-a) (c .before .before .rounded-up .ensures) (v .h) (v .top-d) (c .rounded-up2 .ensures) (omega arith)
-    (omega arith)
+mul-if2 c = product-fits _ _ (first c .rounded-up .ensures) _ _ (c .rounded-up2 .ensures) (omega arith) (omega arith)
 
 returns-2 : tie.Need-returns-2
 returns-2 c =
-    let t = c .before in
-    let v = t .before .before .before .args in
-    no-address (v .top-a) (v .b) (v .top-d) (v .w) (v .h) (v .k) (v .i) _ (t .before .before .rounded-up .ensures) (t .rounded-up2 .ensures)
-    (t .before .if1 .left) (c .if2 .taken)
+    let k = c .before in
+    no-address _ _ _ _ _ _ _ _ (first k .rounded-up .ensures) (k .rounded-up2 .ensures) (k .before .if1 .left) (c .if2 .taken)
 
 -- past both tests
 there :
     (c : tie.Else2) →
-    let t = c .before .before .before in
-    let v = t .before .args in
-    There (v .top-a) (v .b) (v .top-d) (v .w) (v .h) (v .k) (v .i) (t .rounded-up .result)
+    let k = first (c .before) in
+    let v = k .before .args in
+    There (v .top-a) (v .b) (v .top-d) (v .w) (v .h) (v .k) (v .i) (k .rounded-up .result)
 there c =
-    let t = c .before in
-    let v = t .before .before .before .args in
-    is-there (v .top-a) (v .b) (v .top-d) (v .w) (v .h) (v .k) (v .i) _ (t .before .before .rounded-up .ensures) (t .rounded-up2 .ensures)
-    (t .before .if1 .left) (c .if2 .left) (omega arith, omega arith, omega arith, omega arith, omega arith)
+    let k = c .before in
+    is-there _ _ _ _ _ _ _ _ (first k .rounded-up .ensures) (k .rounded-up2 .ensures) (k .before .if1 .left) (c .if2 .left)
+    (omega arith, omega arith, omega arith, omega arith, omega arith)
 
 div-q : tie.Need-div-q
 div-q c = there c .across-least
