@@ -80,18 +80,16 @@ module _ (x y : Pixel) where
 
 returns : tie.Need-returns
 returns c =
-    let u = c .before .before .before .before .args in
-    sym
-    (record-refused (at (u .x1) (u .x2)) (at (u .y1) (u .y2)) (u .book) _
-    (record-turned-down (u .book) (c .before .before .before .record-outcome .ensures) (c .before .outcome .given .1)))
+    let o = c .before in
+    sym (record-refused _ _ _ _ (record-turned-down _ (o .before .before .record-outcome .ensures) (o .outcome .given .1)))
 
 -- the record is a book, and the answer is that of the normal form
 module _ (c : tie.After-normal-form) where
-  abbrev start : tie.Start
-  start = c .before .before .before .before
+  abbrev tested : tie.After-record-outcome
+  tested = c .before .before .before
 
-  abbrev book : Book
-  book = start .args .book
+  abbrev start : tie.Start
+  start = tested .before
 
   abbrev x : Pixel
   x = at (start .args .x1) (start .args .x2)
@@ -99,29 +97,31 @@ module _ (c : tie.After-normal-form) where
   abbrev y : Pixel
   y = at (start .args .y1) (start .args .y2)
 
-  legal : recordTest book ≡ none
-  legal = record-taken book (c .before .before .before .record-outcome .ensures) (c .before .enum-told .given .1)
+  legal : recordTest (start .args .book) ≡ none
+  legal = record-taken _ (tested .record-outcome .ensures) (c .before .enum-told .given .1)
 
-  form-is : c .normal-form .result ≡ normal x y
+  form-is : normal x y ≡ c .normal-form .result
   form-is =
       let f = start .fits in
-      c .normal-form .ensures ∙ ap₂ normal (pixel-handed (f .x1) (f .x2)) (pixel-handed (f .y1) (f .y2))
+      sym (c .normal-form .ensures ∙ ap₂ normal (pixel-handed (f .x1) (f .x2)) (pixel-handed (f .y1) (f .y2)))
 
 judge-requires : tie.Need-judge-requires
 judge-requires c κs =
-    let n = c .before .before .before in
-    (form-is-plan (x n) (y n) _ (sym (form-is n) ∙ c .before .form .given .1), legal n)
+    let f = c .before in
+    let n = f .before .before in
+    (form-is-plan _ _ _ (form-is n ∙ f .form .given .1), legal n)
 
 returns-2 : tie.Need-returns-2
 returns-2 c =
-    let n = c .before .before .before .before in
-    c .judge .ensures
-    ∙ sym (form-judged (x n) (y n) (book n) (legal n) _ (sym (form-is n) ∙ c .before .before .form .given .1))
+    let f = c .before .before in
+    let n = f .before .before in
+    c .judge .ensures ∙ sym (form-judged _ _ _ (legal n) _ (form-is n ∙ f .form .given .1))
 
 returns-3 : tie.Need-returns-3
 returns-3 c =
-    let n = c .before .before .before in
-    sym (form-refused (x n) (y n) (book n) (legal n) _ (sym (form-is n) ∙ c .before .form2 .given .1))
+    let f = c .before in
+    let n = f .before .before in
+    sym (form-refused _ _ _ (legal n) _ (form-is n ∙ f .form2 .given .1))
 
 pub check-spec : {M : Type 1} → statement M
 check-spec =

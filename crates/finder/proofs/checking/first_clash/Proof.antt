@@ -36,50 +36,41 @@ mul-t c = record { fits = omega (arith, legal (c .before) .most) }
 element-copy-out-t : tie.Need-element-copy-out-t Inv-loop μ-loop
 element-copy-out-t c = omega (arith, legal (c .before) .most)
 
--- what was met in the n-th pattern
-pattern-answer :
-    (c : tie.After-clash-in Inv-loop μ-loop) →
-    let l = c .before .before .before in
-    c .clash-in .result ≡ metAt (patternClash (l .before .args .p) (l .before .args .t2) (l .loop .n))
-unfolding patternAt
-pattern-answer c =
-    let l = c .before .before .before in
-    let t = patternAt (l .before .args .t2) (l .loop .n) in
-    c .clash-in .ensures
-    ∙ met-of-plan (l .before .args .p) (l .loop .n) t (l .before .pre .0)
-    (legal l .each (l .loop .n) (c .before .before .loop-test .taken) .most)
+-- in a turn, where it is known what was met in the n-th pattern
+module _ (c : tie.After-clash-in Inv-loop μ-loop) where
+  abbrev head : tie.At-loop Inv-loop μ-loop
+  head = c .before .before .before
+
+  abbrev n : ℕ
+  n = head .loop .n
+
+  pattern-answer : c .clash-in .result ≡ metAt (patternClash (head .before .args .p) (head .before .args .t2) n)
+  unfolding patternAt
+  pattern-answer =
+      c .clash-in .ensures
+      ∙ met-of-plan (head .before .args .p) n (patternAt (head .before .args .t2) n) (head .before .pre .0)
+      (legal head .each n (c .before .before .loop-test .taken) .most)
 
 returns : tie.Need-returns Inv-loop μ-loop
 unfolding metAt
 returns c =
     let k = c .before .before in
-    let l = k .before .before .before in
     let here = c .enum-told .given .1 in
-    here
-    ∙ ap metAt
-    (sym
-    (clash-at (l .before .args .p) (l .before .args .t2) (l .loop .n) _ (k .before .before .loop-test .taken) (l .loop .inv .1)
-    (at-found _ (pattern-answer k) here)))
+    let below = k .before .before .loop-test .taken in
+    here ∙ ap metAt (sym (clash-at _ _ (n k) _ below (head k .loop .inv .1) (at-found _ (pattern-answer k) here)))
 
 add-n : tie.Need-add-n Inv-loop μ-loop
-add-n c = record { fits = omega (arith, legal (c .before .before .before .before .before) .most) }
-
-loop-less : tie.Need-loop-less Inv-loop μ-loop
-loop-less c = omega arith
+add-n c = record { fits = omega (arith, legal (head (c .before .before)) .most) }
 
 loop-again : tie.Need-loop-again Inv-loop μ-loop
-loop-again c = (
-  omega arith,
-  below-more _ _ (c .before .before .before .before .before .loop .inv .1)
-      (nowhere-found _ (pattern-answer (c .before .before)) (c .enum-told2 .given .1)),
-)
+loop-again c =
+    let k = c .before .before in
+    (omega arith, below-more _ _ (head k .loop .inv .1) (nowhere-found _ (pattern-answer k) (c .enum-told2 .given .1)))
 
 returns-2 : tie.Need-returns-2 Inv-loop μ-loop
 unfolding metAt
 returns-2 c =
-    let l = c .before in
-    ap metAt
-    (sym (clash-nowhere (l .before .args .p) (l .before .args .t2) (λ n h. l .loop .inv .1 n (omega (arith, c .loop-test .left)))))
+    ap metAt (sym (clash-nowhere _ _ (λ n h. c .before .loop .inv .1 n (omega (arith, c .loop-test .left)))))
 
 pub first-clash-spec : {M : Type 1} → statement M
 first-clash-spec =
@@ -94,6 +85,6 @@ first-clash-spec =
     returns
     (λ c. search needs)
     add-n
-    loop-less
+    (λ c. omega arith)
     loop-again
     returns-2)

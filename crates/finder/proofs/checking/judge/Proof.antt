@@ -21,10 +21,8 @@ use Rattle.finder.proofs.checking.judge.Tie as tie
 
 returns : tie.Need-returns
 returns c =
-    let s = c .before .before .before .before in
-    sym
-    (judged-clash (patterns (s .args .book)) (s .args .p) _
-    (at-found _ (c .before .before .before .first-clash .ensures) (c .before .met .given .1)))
+    let m = c .before in
+    sym (judged-clash _ _ _ (at-found _ (m .before .before .first-clash .ensures) (m .met .given .1)))
 
 -- where nothing was met
 module _ (c : tie.After-enum-told) where

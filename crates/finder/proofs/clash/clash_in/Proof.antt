@@ -24,9 +24,6 @@ module _ (p : Plan) (n : ℕ) (t : Pattern) where
   unfolding metIn
   too-many-nowhere e h = let many : leb (t .used) 64 ≡ false = leb-false-iff (t .used) 64 .1 h in rw (e, many)
 
-is-plan-requires : tie.Need-is-plan-requires
-is-plan-requires c κs = tt
-
 returns : tie.Need-returns
 unfolding isPlan
 returns c = no-plan-nowhere _ _ _ (fails (c .before .is-plan .ensures) (c .if1 .taken))
@@ -45,4 +42,4 @@ returns-3 : tie.Need-returns-3
 returns-3 c = c .search .ensures ∙ sym (met-of-plan _ _ _ (plan (c .before .before .before)) (c .before .if2 .left))
 
 pub clash-in-spec : {M : Type 1} → statement M
-clash-in-spec = tie.close (tie.spec is-plan-requires returns returns-2 search-requires returns-3)
+clash-in-spec = tie.close (tie.spec (λ c κs. tt) returns returns-2 search-requires returns-3)

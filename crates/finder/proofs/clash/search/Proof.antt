@@ -31,15 +31,6 @@ abbrev μ-loop : tie.MeasureT-loop
 loop-holds : tie.Need-loop-holds Inv-loop μ-loop
 loop-holds c = (omega arith, none-searched _ _ _)
 
-sub-e : tie.Need-sub-e Inv-loop μ-loop
-sub-e c = omega arith
-
-array-copy-out-bank-in : tie.Need-array-copy-out-bank-in Inv-loop μ-loop
-array-copy-out-bank-in c = omega arith
-
-array-copy-out-bank-in-2 : tie.Need-array-copy-out-bank-in-2 Inv-loop μ-loop
-array-copy-out-bank-in-2 c = omega arith
-
 -- in a turn, at position e of the pattern t, where the pixel's bank is known
 module _ (c : tie.After-bank-in Inv-loop μ-loop) where
   abbrev head : tie.At-loop Inv-loop μ-loop
@@ -82,14 +73,8 @@ array-read-later c = bank-small c
 cast-later : tie.Need-cast-later Inv-loop μ-loop
 cast-later c = record { fits = omega (arith, later-small c) }
 
-cast-next : tie.Need-cast-next Inv-loop μ-loop
-cast-next c = record { fits = omega arith }
-
 array-write-next : tie.Need-array-write-next Inv-loop μ-loop
 array-write-next c = bank-small (c .before)
-
-loop-less : tie.Need-loop-less Inv-loop μ-loop
-loop-less c = omega arith
 
 loop-again : tie.Need-loop-again Inv-loop μ-loop
 loop-again c =
@@ -110,14 +95,11 @@ search-spec =
     Inv-loop
     μ-loop
     loop-holds
-    sub-e
-    array-copy-out-bank-in
-    array-copy-out-bank-in-2
-    (λ c κs. search needs)
+    (λ c. omega arith) (λ c. omega arith) (λ c. omega arith) (λ c κs. search needs)
     array-read-later
     cast-later
-    cast-next
+    (λ c. record { fits = omega arith })
     array-write-next
-    loop-less
+    (λ c. omega arith)
     loop-again
     returns)

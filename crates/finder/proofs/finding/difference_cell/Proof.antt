@@ -17,15 +17,18 @@ use Rattle.finder.proofs.finding.difference_cell.Tie as tie
 
 -- where all four coordinates are raised
 module _ (c : tie.After-raised84) where
+  abbrev first : tie.After-raised8
+  first = c .before .before .before
+
   abbrev start : tie.Start
-  start = c .before .before .before .before
+  start = first .before
 
   -- (i, j) - (x, y)
   abbrev difference : Pixel
   difference = minus (at (start .args .i) (start .args .j)) (at (start .args .x) (start .args .y))
 
   abbrev right : ℕ
-  right = c .before .before .before .raised8 .result + 31
+  right = first .raised8 .result + 31
 
   abbrev left : ℕ
   left = c .before .before .raised82 .result
@@ -39,10 +42,10 @@ module _ (c : tie.After-raised84) where
   column : pos right ≡ difference .column +ℤ pos 31 +ℤ pos left
   unfolding minus at
   column =
-      let h = raised-read 128 (start .fits .i) (c .before .before .before .raised8 .ensures .0) in
+      let h = raised-read 128 (start .fits .i) (first .raised8 .ensures .0) in
       let k = raised-read 128 (start .fits .x) (c .before .before .raised82 .ensures .0) in
       linear ((pos 1 · h) ∷ (negsuc 0 · k) ∷ [])
-      (ring (pos (c .before .before .before .raised8 .result) ∷ pos left ∷ start .args .i ∷ start .args .x ∷ [])
+      (ring (pos (first .raised8 .result) ∷ pos left ∷ start .args .i ∷ start .args .x ∷ [])
       (search reify depth 40 fits 9000) refl)
 
   row : pos upper ≡ difference .row +ℤ pos lower
@@ -59,21 +62,13 @@ module _ (c : tie.After-raised84) where
   inside : InBounds right left upper lower → 63 * (upper - lower) + (right - left) ≡ tableCell difference
   inside = raised-inside difference right left upper lower column row
 
-returns : tie.Need-returns
-returns c = outside (c .before) (λ t. omega (arith, t))
-
-returns-2 : tie.Need-returns-2
-returns-2 c = outside (c .before .before) (λ t. omega (arith, t))
-
-returns-3 : tie.Need-returns-3
-returns-3 c = outside (c .before .before .before) (λ t. omega (arith, t))
-
-returns-4 : tie.Need-returns-4
-returns-4 c = outside (c .before .before .before .before) (λ t. omega (arith, t))
+-- from past the column's tests back to where all four are raised
+abbrev raised : tie.Else2 → tie.After-raised84
+raised c = c .before .before
 
 returns-5 : tie.Need-returns-5
 returns-5 c =
-    inside (c .before .before .before .before)
+    inside (raised (c .before .before))
     (record { column-least = omega arith; column-most = omega arith; row-least = omega arith; row-most = omega arith })
 
 pub difference-cell-spec : {M : Type 1} → statement M
@@ -81,9 +76,9 @@ difference-cell-spec =
     tie.close
     (tie.spec
     (λ c κs. search needs) (λ c. search needs) (λ c κs. search needs) (λ c κs. search needs) (λ c κs. search needs)
-    returns
-    returns-2
-    returns-3
-    returns-4
+    (λ c. outside (c .before) (λ t. omega (arith, t)))
+    (λ c. outside (c .before .before) (λ t. omega (arith, t)))
+    (λ c. outside (raised (c .before)) (λ t. omega (arith, t)))
+    (λ c. outside (raised (c .before .before)) (λ t. omega (arith, t)))
     (λ c. search needs) (λ c. search needs)
     returns-5)

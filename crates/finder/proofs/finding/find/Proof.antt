@@ -47,34 +47,31 @@ module _ (book : Book) (limit : ℕ) where
 
 returns : tie.Need-returns
 returns c =
-    let u = c .before .before .before .before .args in
-    book-refused (u .book) (u .limit) (c .before .outcome .given .0 .0)
-    (record-turned-down (u .book) (c .before .before .before .record-outcome .ensures) (c .before .outcome .given .1))
+    let o = c .before in
+    book-refused _ _ _ (record-turned-down _ (o .before .before .record-outcome .ensures) (o .outcome .given .1))
 
 -- the record's tests found nothing
-legal : (c : tie.After-enum-told) → recordTest (c .before .before .before .args .book) ≡ none
-legal c =
-    record-taken (c .before .before .before .args .book) (c .before .before .record-outcome .ensures) (c .enum-told .given .1)
+legal : (c : tie.After-enum-told) → let o = c .before .before in recordTest (o .before .args .book) ≡ none
+legal c = record-taken _ (c .before .before .record-outcome .ensures) (c .enum-told .given .1)
 
 returns-2 : tie.Need-returns-2
-returns-2 c =
-    let u = c .before .before .before .before .args in
-    limit-refused (u .book) (u .limit) (legal (c .before)) (λ h. omega (arith, c .if1 .taken))
+returns-2 c = limit-refused _ _ (legal (c .before)) (λ h. omega (arith, c .if1 .taken))
 
 returns-3 : tie.Need-returns-3
-returns-3 c =
-    let u = c .before .before .before .before .before .args in
-    limit-refused (u .book) (u .limit) (legal (c .before .before)) (λ h. omega (arith, c .if2 .taken))
+returns-3 c = limit-refused _ _ (legal (c .before .before)) (λ h. omega (arith, c .if2 .taken))
+
+-- from past the limit's tests back to where the record's outcome is told
+abbrev told : tie.Else2 → tie.After-enum-told
+told c = c .before .before
 
 mark-book-requires : tie.Need-mark-book-requires
-mark-book-requires c κs = (legal (c .before .before .before), refl)
+mark-book-requires c κs = (legal (told (c .before)), refl)
 
 returns-4 : tie.Need-returns-4
 returns-4 c =
-    let e = c .before .before .before .before .before in
-    let u = e .before .before .before .before .before .args in
-    c .least-plan .ensures .is (u .book) (legal (e .before .before)) (c .before .before .before .mark-book .ensures)
-    ∙ searched (u .book) (u .limit) (legal (e .before .before)) (omega arith) (omega arith)
+    let m = c .before .before .before in
+    let is-book = legal (told (m .before .before)) in
+    c .least-plan .ensures .is _ is-book (m .mark-book .ensures) ∙ searched _ _ is-book (omega arith) (omega arith)
 
 pub find-spec : {M : Type 1} → statement M
 find-spec =

@@ -21,17 +21,14 @@ abbrev μ-loop : tie.MeasureT-loop
 loop-holds : tie.Need-loop-holds Inv-loop μ-loop
 loop-holds c = (omega arith, omega arith, none-yet _ 1)
 
-rem-if1 : tie.Need-rem-if1 Inv-loop μ-loop
-rem-if1 c = omega arith
-
-div-least-b : tie.Need-div-least-b Inv-loop μ-loop
-div-least-b c = omega arith
+abbrev start : tie.At-loop Inv-loop μ-loop → tie.Start Inv-loop μ-loop
+start c = c .before .before
 
 least-b-requires : tie.Need-least-b-requires Inv-loop μ-loop
 least-b-requires c κs =
     let l = c .before .before in
-    let n = l .before .before .args .n in
-    let h = l .before .before .pre in (
+    let n = start l .args .n in
+    let h = start l .pre in (
       h .0,
       le-div-iff-mul-le (l .loop .inv .0) .1 (omega arith),
       omega (arith, h .1, div-le-self n (l .loop .d)),
@@ -42,30 +39,26 @@ least-b-requires c κs =
 returns : tie.Need-returns Inv-loop μ-loop
 unfolding leastD
 returns c =
-    let l = c .before .before .before .before .before in
-    let n = l .before .before .args .n in
-    found-at (λ ts. leastB ts n) 1 n (l .loop .d) (l .loop .inv .2) (l .loop .inv .0) (omega arith)
-    (divisor-searched n (l .loop .d) (c .before .before .before .if1 .taken) (c .before .before .least-b .ensures))
+    let k = c .before .before in
+    let l = k .before .before .before in
+    found-at _ 1 (start l .args .n) _ (l .loop .inv .2) (l .loop .inv .0) (omega arith)
+    (divisor-searched (start l .args .n) (l .loop .d) (k .before .if1 .taken) (k .least-b .ensures))
     (c .enum-told .given .1)
 
 add-d : tie.Need-add-d Inv-loop μ-loop
-add-d c = omega (arith, c .before .before .before .before .pre)
-
-loop-less : tie.Need-loop-less Inv-loop μ-loop
-loop-less c = omega arith
+add-d c = omega (arith, start (c .before .before) .pre)
 
 loop-again : tie.Need-loop-again Inv-loop μ-loop
 loop-again c =
     let l = c .before .before in
-    let n = l .before .before .args .n in
+    let n = start l .args .n in
     let d = l .loop .d in (
       omega arith,
       omega arith,
       ⊎-elim
           (λ w.
-          one-more-none (λ ts. leastB ts n) 1 d (l .loop .inv .2) (divisor-searched n d (w .0 .taken) (w .1 .ensures))
-          (w .3 .given .1))
-          (λ w. one-more-none (λ ts. leastB ts n) 1 d (l .loop .inv .2) (no-divisor-none n d (w .left)) refl)
+          one-more-none _ 1 _ (l .loop .inv .2) (divisor-searched n d (w .0 .taken) (w .1 .ensures)) (w .3 .given .1))
+          (λ w. one-more-none _ 1 _ (l .loop .inv .2) (no-divisor-none n d (w .left)) refl)
           (c .if1 .came),
     )
 
@@ -73,8 +66,7 @@ returns-2 : tie.Need-returns-2 Inv-loop μ-loop
 unfolding leastD
 returns-2 c =
     let l = c .before in
-    let n = l .before .before .args .n in
-    found-nowhere (λ ts. leastB ts n) 1 n (l .loop .d) (l .loop .inv .2) (omega arith)
+    found-nowhere _ 1 (start l .args .n) _ (l .loop .inv .2) (omega arith)
 
 pub least-d-spec : {M : Type 1} → statement M
 least-d-spec =
@@ -83,13 +75,12 @@ least-d-spec =
     Inv-loop
     μ-loop
     loop-holds
-    rem-if1
-    div-least-b
+    (λ c. omega arith) (λ c. omega arith)
     least-b-requires
     (λ c. search needs)
     returns
     (λ c. search needs)
     add-d
-    loop-less
+    (λ c. omega arith)
     loop-again
     returns-2)

@@ -18,36 +18,36 @@ abbrev μ-loop : tie.MeasureT-loop
 loop-holds : tie.Need-loop-holds Inv-loop μ-loop
 loop-holds c = (omega arith, omega arith, none-yet leastD 1)
 
+abbrev start : tie.At-loop Inv-loop μ-loop → tie.Start Inv-loop μ-loop
+start c = c .before .before
+
 least-d-requires : tie.Need-least-d-requires Inv-loop μ-loop
-least-d-requires c κs = let h = c .before .before .before .pre in (h .0, omega (arith, h .1))
+least-d-requires c κs = let h = start (c .before) .pre in (h .0, omega (arith, h .1))
+
+-- the head of the turn in which n banks were searched
+abbrev head : tie.After-least-d Inv-loop μ-loop → tie.At-loop Inv-loop μ-loop
+head c = c .before .before
 
 returns : tie.Need-returns Inv-loop μ-loop
 unfolding leastPlan
 returns c =
-    let l = c .before .before .before .before in
-    found-at leastD 1 (l .before .before .args .limit) (l .loop .n) (l .loop .inv .2) (l .loop .inv .0) (omega arith)
-    (c .before .before .least-d .ensures)
+    let k = c .before .before in
+    let l = head k in
+    found-at leastD 1 (start l .args .limit) _ (l .loop .inv .2) (l .loop .inv .0) (omega arith) (k .least-d .ensures)
     (c .enum-told .given .1)
 
 add-n : tie.Need-add-n Inv-loop μ-loop
-add-n c = omega (arith, c .before .before .before .before .before .before .pre)
-
-loop-less : tie.Need-loop-less Inv-loop μ-loop
-loop-less c = omega arith
+add-n c = omega (arith, start (head (c .before .before)) .pre)
 
 loop-again : tie.Need-loop-again Inv-loop μ-loop
 loop-again c =
-    let l = c .before .before .before .before in (
-      omega arith,
-      omega arith,
-      one-more-none leastD 1 (l .loop .n) (l .loop .inv .2) (c .before .before .least-d .ensures) (c .enum-told2 .given .1),
-    )
+    let k = c .before .before in
+    let l = head k .loop in
+    (omega arith, omega arith, one-more-none leastD 1 _ (l .inv .2) (k .least-d .ensures) (c .enum-told2 .given .1))
 
 returns-2 : tie.Need-returns-2 Inv-loop μ-loop
 unfolding leastPlan
-returns-2 c =
-    let l = c .before in
-    found-nowhere leastD 1 (l .before .before .args .limit) (l .loop .n) (l .loop .inv .2) (omega arith)
+returns-2 c = let l = c .before in found-nowhere leastD 1 (start l .args .limit) _ (l .loop .inv .2) (omega arith)
 
 pub least-plan-spec : {M : Type 1} → statement M
 least-plan-spec =
@@ -61,6 +61,6 @@ least-plan-spec =
     returns
     (λ c. search needs)
     add-n
-    loop-less
+    (λ c. omega arith)
     loop-again
     returns-2)

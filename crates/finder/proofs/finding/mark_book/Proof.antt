@@ -25,47 +25,44 @@ loop-holds : tie.Need-loop-holds Inv-loop μ-loop
 unfolding markBook
 loop-holds c = (omega arith, c .before .pre .1)
 
--- the record is a book
-legal : (c : tie.At-loop Inv-loop μ-loop) → IsBook (c .before .before .args .t1)
-legal c = book-legal-iff (c .before .before .args .t1) .0 (c .before .before .pre .0)
+-- at the head of the loop: the record is a book, and the table keeps its length
+module _ (c : tie.At-loop Inv-loop μ-loop) where
+  abbrev start : tie.Start Inv-loop μ-loop
+  start = c .before .before
 
--- the table keeps its length
-table-length : (c : tie.At-loop Inv-loop μ-loop) → length (c .loop .marks) ≡ 2017
-table-length c = ap length (c .loop .inv .1) ∙ length-mark-book (c .before .before .args .t1) (c .loop .n)
+  legal : IsBook (start .args .t1)
+  legal = book-legal-iff (start .args .t1) .0 (start .pre .0)
 
-mul-t : tie.Need-mul-t Inv-loop μ-loop
-mul-t c = omega (arith, legal (c .before) .most)
+  table-length : length (c .loop .marks) ≡ 2017
+  table-length = ap length (c .loop .inv .1) ∙ length-mark-book (start .args .t1) (c .loop .n)
 
-element-copy-out-t : tie.Need-element-copy-out-t Inv-loop μ-loop
-element-copy-out-t c = omega (arith, legal (c .before) .most)
+-- the head of the turn in which a pattern is marked
+abbrev head : tie.After-mark-pattern-arg Inv-loop μ-loop → tie.At-loop Inv-loop μ-loop
+head c = c .before .before .before
 
 mark-pattern-requires : tie.Need-mark-pattern-requires Inv-loop μ-loop
 unfolding patternAt
-mark-pattern-requires c κs =
-    let l = c .before .before .before in
-    (legal l .each (l .loop .n) (omega arith) .most, table-length l)
+mark-pattern-requires c κs = (legal (head c) .each (head c .loop .n) (omega arith) .most, table-length (head c))
 
 add-n : tie.Need-add-n Inv-loop μ-loop
-add-n c = omega (arith, legal (c .before .before .before .before .before .before) .most)
-
-loop-less : tie.Need-loop-less Inv-loop μ-loop
-loop-less c = omega arith
+add-n c = let m = c .before .before in omega (arith, legal (head (m .before)) .most)
 
 loop-again : tie.Need-loop-again Inv-loop μ-loop
 unfolding markBook
 loop-again c =
-    let l = c .before .before .before .before .before .before in
-    let t = patternAt (l .before .before .args .t1) (l .loop .n) in
+    let m = c .before .before in
+    let l = head (m .before) in
+    let t = patternAt (start l .args .t1) (l .loop .n) in
     let turn : List ℕ → List ℕ = markPattern t (t .used) in
-    (omega arith, rw (add-one (l .loop .n)) (c .before .before .mark-pattern .ensures ∙ ap turn (l .loop .inv .1)))
+    (omega arith, rw (add-one (l .loop .n)) (m .mark-pattern .ensures ∙ ap turn (l .loop .inv .1)))
 
 same-length : tie.Need-same-length Inv-loop μ-loop
 same-length c =
-    table-length (c .before) ∙ sym (ap length (c .before .before .before .pre .1) ∙ length-replicate {A = ℕ} 2017 0)
+    table-length (c .before) ∙ sym (ap length (start (c .before) .pre .1) ∙ length-replicate {A = ℕ} 2017 0)
 
 returns : tie.Need-returns Inv-loop μ-loop
 returns c =
-    let book = c .before .before .before .args .t1 in
+    let book = start (c .before) .args .t1 in
     let done : c .before .loop .n ≡ book .count = omega arith in
     c .before .loop .inv .1 ∙ ap (markBook book) done
 
@@ -76,11 +73,10 @@ mark-book-spec =
     Inv-loop
     μ-loop
     loop-holds
-    mul-t
-    element-copy-out-t
+    (λ c. omega (arith, legal (c .before) .most)) (λ c. omega (arith, legal (c .before) .most))
     mark-pattern-requires
     add-n
-    loop-less
+    (λ c. omega arith)
     loop-again
     same-length
     returns)

@@ -24,35 +24,28 @@ Inv-loop e marks₀ columns rows used x y l₀ marks l =
 abbrev μ-loop : tie.MeasureT-loop
 μ-loop e marks₀ columns rows used x y l₀ marks l = used - l
 
-array-copy-out-x : tie.Need-array-copy-out-x Inv-loop μ-loop
-array-copy-out-x c = omega arith
-
-array-copy-out-y : tie.Need-array-copy-out-y Inv-loop μ-loop
-array-copy-out-y c = omega arith
-
 loop-holds : tie.Need-loop-holds Inv-loop μ-loop
 unfolding markFrom
 loop-holds c = (omega arith, refl)
 
-array-copy-out-difference-cell : tie.Need-array-copy-out-difference-cell Inv-loop μ-loop
-array-copy-out-difference-cell c = omega arith
+-- at the head of the loop; the table keeps its length
+module _ (c : tie.At-loop Inv-loop μ-loop) where
+  abbrev start : tie.Start Inv-loop μ-loop
+  start = c .before .before .before .before .before .before
 
-array-copy-out-difference-cell-2 : tie.Need-array-copy-out-difference-cell-2 Inv-loop μ-loop
-array-copy-out-difference-cell-2 c = omega arith
+  table-length : length (c .loop .marks) ≡ length (start .args .marks .now)
+  table-length = ap length (c .loop .inv .1) ∙ length-markFrom _ _ (c .loop .l) _
 
 -- in a turn, at position l of the pattern t, where the difference's cell is known
 module _ (c : tie.After-difference-cell Inv-loop μ-loop) where
   abbrev head : tie.At-loop Inv-loop μ-loop
   head = c .before .before .before .before
 
-  abbrev start : tie.Start Inv-loop μ-loop
-  start = head .before .before .before .before .before .before
-
   abbrev t : Pattern
-  t = start .args .t
+  t = start head .args .t
 
   abbrev e : ℕ
-  e = start .args .e
+  e = start head .args .e
 
   abbrev l : ℕ
   l = head .loop .l
@@ -65,22 +58,10 @@ module _ (c : tie.After-difference-cell Inv-loop μ-loop) where
       (entry-handed w8 _ _ (c .before .before .difference-cell-arg .given) (c .before .difference-cell-arg2 .given))
       (entry-handed w8 _ _ (head .before .before .x .given) (head .before .y .given))
 
--- the table keeps its length
-table-length :
-    (c : tie.At-loop Inv-loop μ-loop)
-    → length (c .loop .marks) ≡ length (c .before .before .before .before .before .before .args .marks .now)
-table-length c = ap length (c .loop .inv .1) ∙ length-markFrom _ _ (c .loop .l) _
-
 slice-write-marks : tie.Need-slice-write-marks Inv-loop μ-loop
 slice-write-marks c =
     let cell = cell-below (minus (pixelAt (t c) (l c)) (pixelAt (t c) (e c))) in
     omega (arith, cell-is c, cell, table-length (head c))
-
-add-l : tie.Need-add-l Inv-loop μ-loop
-add-l c = omega arith
-
-loop-less : tie.Need-loop-less Inv-loop μ-loop
-loop-less c = omega arith
 
 loop-again : tie.Need-loop-again Inv-loop μ-loop
 unfolding markFrom
@@ -93,7 +74,7 @@ same-length c = table-length (c .before)
 
 returns : tie.Need-returns Inv-loop μ-loop
 returns c =
-    let u = c .before .before .before .before .before .before .before .args in
+    let u = start (c .before) .args in
     let done : c .before .loop .l ≡ u .t .used = omega arith in
     c .before .loop .inv .1 ∙ ap (λ (n : ℕ). markFrom (u .t) (u .e) n (u .marks .now)) done
 
@@ -103,15 +84,11 @@ mark-from-spec =
     (tie.spec
     Inv-loop
     μ-loop
-    array-copy-out-x
-    array-copy-out-y
+    (λ c. omega arith) (λ c. omega arith)
     loop-holds
-    array-copy-out-difference-cell
-    array-copy-out-difference-cell-2
-    (λ c κs. search needs)
+    (λ c. omega arith) (λ c. omega arith) (λ c κs. search needs)
     slice-write-marks
-    add-l
-    loop-less
+    (λ c. omega arith) (λ c. omega arith)
     loop-again
     same-length
     returns)

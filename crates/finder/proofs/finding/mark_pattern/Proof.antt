@@ -22,36 +22,34 @@ loop-holds : tie.Need-loop-holds Inv-loop μ-loop
 unfolding markPattern
 loop-holds c = (omega arith, refl)
 
--- the table keeps its length
-table-length :
-    (c : tie.At-loop Inv-loop μ-loop) → length (c .loop .marks) ≡ length (c .before .before .args .marks .now)
-table-length c = ap length (c .loop .inv .1) ∙ length-markPattern _ (c .loop .e) _
+-- at the head of the loop; the table keeps its length
+module _ (c : tie.At-loop Inv-loop μ-loop) where
+  abbrev start : tie.Start Inv-loop μ-loop
+  start = c .before .before
+
+  table-length : length (c .loop .marks) ≡ length (start .args .marks .now)
+  table-length = ap length (c .loop .inv .1) ∙ length-markPattern _ (c .loop .e) _
 
 mark-from-requires : tie.Need-mark-from-requires Inv-loop μ-loop
 mark-from-requires c κs =
     let l = c .before .before in
-    (omega arith, omega arith, table-length l ∙ l .before .before .pre .1)
-
-add-e : tie.Need-add-e Inv-loop μ-loop
-add-e c = omega arith
-
-loop-less : tie.Need-loop-less Inv-loop μ-loop
-loop-less c = omega arith
+    (omega arith, omega arith, table-length l ∙ start l .pre .1)
 
 loop-again : tie.Need-loop-again Inv-loop μ-loop
 unfolding markPattern
 loop-again c =
-    let l = c .before .before .before .before .before in
-    let t = l .before .before .args .t in
+    let m = c .before .before in
+    let l = m .before .before .before in
+    let t = start l .args .t in
     let turn : List ℕ → List ℕ = markFrom t (l .loop .e) (t .used) in
-    (omega arith, rw (add-one (l .loop .e)) (c .before .before .mark-from .ensures ∙ ap turn (l .loop .inv .1)))
+    (omega arith, rw (add-one (l .loop .e)) (m .mark-from .ensures ∙ ap turn (l .loop .inv .1)))
 
 same-length : tie.Need-same-length Inv-loop μ-loop
 same-length c = table-length (c .before)
 
 returns : tie.Need-returns Inv-loop μ-loop
 returns c =
-    let u = c .before .before .before .args in
+    let u = start (c .before) .args in
     let done : c .before .loop .e ≡ u .t .used = omega arith in
     c .before .loop .inv .1 ∙ ap (λ (n : ℕ). markPattern (u .t) n (u .marks .now)) done
 
@@ -63,8 +61,7 @@ mark-pattern-spec =
     μ-loop
     loop-holds
     mark-from-requires
-    add-e
-    loop-less
+    (λ c. omega arith) (λ c. omega arith)
     loop-again
     same-length
     returns)

@@ -12,29 +12,18 @@ Inv-loop marks a j s first x₀ x = CellsPassed marks a j s x
 abbrev μ-loop : tie.MeasureT-loop
 μ-loop marks a j s first x₀ x = 63 - x
 
-mul-first : tie.Need-mul-first Inv-loop μ-loop
-mul-first c = omega arith
-
 loop-holds : tie.Need-loop-holds Inv-loop μ-loop
 loop-holds c = no-cell-passed
 
-add-if1 : tie.Need-add-if1 Inv-loop μ-loop
-add-if1 c = omega arith
-
-shared-slice-read-if1 : tie.Need-shared-slice-read-if1 Inv-loop μ-loop
-shared-slice-read-if1 c = omega arith
+-- the head of the turn in which a cell is read
+abbrev head : tie.After-shared-slice-known Inv-loop μ-loop → tie.At-loop Inv-loop μ-loop
+head c = c .before .before
 
 returns : tie.Need-returns Inv-loop μ-loop
-returns c = cell-found (c .before .before .before .loop .inv) (c .before .before .loop-test .taken) (c .if1 .taken)
-
-add-x : tie.Need-add-x Inv-loop μ-loop
-add-x c = omega arith
-
-loop-less : tie.Need-loop-less Inv-loop μ-loop
-loop-less c = omega arith
+returns c = cell-found (head (c .before) .loop .inv) (c .before .before .loop-test .taken) (c .if1 .taken)
 
 loop-again : tie.Need-loop-again Inv-loop μ-loop
-loop-again c = cell-passed (c .before .before .before .loop .inv) (c .if1 .left)
+loop-again c = cell-passed (head (c .before) .loop .inv) (c .if1 .left)
 
 returns-2 : tie.Need-returns-2 Inv-loop μ-loop
 returns-2 c = row-unmarked (c .before .loop .inv) (c .loop-test .left)
@@ -45,12 +34,10 @@ row-marked-spec =
     (tie.spec
     Inv-loop
     μ-loop
-    mul-first
+    (λ c. omega arith)
     loop-holds
-    add-if1
-    shared-slice-read-if1
+    (λ c. omega arith) (λ c. omega arith)
     returns
-    add-x
-    loop-less
+    (λ c. omega arith) (λ c. omega arith)
     loop-again
     returns-2)

@@ -21,32 +21,27 @@ row-marked-requires c κs =
     let k = start-small (c .before .loop .inv) in
     (omega arith, omega arith, omega arith, omega arith, omega arith)
 
+-- the head of the turn in which a row is tested
+abbrev head : tie.After-row-marked Inv-loop μ-loop → tie.At-loop Inv-loop μ-loop
+head c = c .before .before
+
 returns : tie.Need-returns Inv-loop μ-loop
 returns c =
-    row-found (c .before .before .before .loop .inv) (c .before .before .loop-test .taken)
-    (sym (c .if1 .taken) ∙ c .before .row-marked .ensures)
-
-add-j : tie.Need-add-j Inv-loop μ-loop
-add-j c = omega arith
+    let k = c .before in
+    row-found (head k .loop .inv) (k .before .loop-test .taken) (sym (c .if1 .taken) ∙ k .row-marked .ensures)
 
 add-from : tie.Need-add-from Inv-loop μ-loop
-add-from c = omega (arith, start-small (c .before .before .before .loop .inv))
-
-loop-less : tie.Need-loop-less Inv-loop μ-loop
-loop-less c = omega arith
+add-from c = omega (arith, start-small (head (c .before) .loop .inv))
 
 loop-again : tie.Need-loop-again Inv-loop μ-loop
 loop-again c =
-    let rows = c .before .before .before .before .loop .inv in
-    row-passed-around rows (sym (c .before .if1 .left) ∙ c .before .before .row-marked .ensures) (c .if2 .taken)
-
-loop-less-2 : tie.Need-loop-less-2 Inv-loop μ-loop
-loop-less-2 c = omega arith
+    let k = c .before .before in
+    row-passed-around (head k .loop .inv) (sym (c .before .if1 .left) ∙ k .row-marked .ensures) (c .if2 .taken)
 
 loop-again-2 : tie.Need-loop-again-2 Inv-loop μ-loop
 loop-again-2 c =
-    let rows = c .before .before .before .before .loop .inv in
-    row-passed rows (sym (c .before .if1 .left) ∙ c .before .before .row-marked .ensures) (c .if2 .left)
+    let k = c .before .before in
+    row-passed (head k .loop .inv) (sym (c .before .if1 .left) ∙ k .row-marked .ensures) (c .if2 .left)
 
 returns-2 : tie.Need-returns-2 Inv-loop μ-loop
 returns-2 c = rows-unmarked (c .before .loop .inv) (c .loop-test .left)
@@ -60,10 +55,10 @@ rows-marked-spec =
     loop-holds
     row-marked-requires
     returns
-    add-j
+    (λ c. omega arith)
     add-from
-    loop-less
+    (λ c. omega arith)
     loop-again
-    loop-less-2
+    (λ c. omega arith)
     loop-again-2
     returns-2)
