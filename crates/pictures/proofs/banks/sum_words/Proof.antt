@@ -34,24 +34,24 @@ shared-slice-read-total c = search needs
 
 -- in a turn the word is at most 65535, and the words are at most 2^24
 module _ (c : tie.After-shared-slice-known Inv-loop μ-loop) where
+  abbrev head : tie.At-loop Inv-loop μ-loop
+  head = c .before .before
+
   abbrev words : List ℕ
-  words = c .before .before .before .args .words .now
+  words = head .before .args .words .now
 
-  at-most : getD words (c .before .before .loop .n) 0 ≤ 65535
-  at-most = omega (arith, c .shared-slice-known .given (c .before .before .loop .n))
-
-  small : length words ≤ 16777216
-  small = c .before .before .before .pre
+  at-most : getD words (head .loop .n) 0 ≤ 65535
+  at-most = omega (arith, c .shared-slice-known .given (head .loop .n))
 
 cast-total : tie.Need-cast-total Inv-loop μ-loop
 cast-total c = omega (arith, at-most c)
 
 add-total : tie.Need-add-total Inv-loop μ-loop
-add-total c = omega (arith, at-most c, small c)
+add-total c = omega (arith, at-most c, head c .before .pre)
 
 loop-again : tie.Need-loop-again Inv-loop μ-loop
 loop-again c =
-    let l = c .before .before .loop in
+    let l = head c .loop in
     let (bounded, sums, most) = l .inv in
     let one-more = sum-from (words c) (l .n) (shared-slice-read-total c) in
     (omega arith, omega (arith, sums, one-more), omega (arith, most, at-most c))

@@ -10,9 +10,9 @@ returns : tie.Need-returns
 returns c =
     let f = c .before .before in
     let e = f .before .before in
-    let s = e .before .before .before .before in
-    fetch-by-entry _ _ _ _ _ _ _ _ (e .before .record-outcome .ensures) (e .entry-for .ensures)
-    (pixel-handed (s .fits .i) (s .fits .j))
+    let r = e .before in
+    let given = r .before .before .before .fits in
+    fetch-by-entry _ _ _ _ _ _ _ _ (r .record-outcome .ensures) (e .entry-for .ensures) (pixel-handed (given .i) (given .j))
     (f .fetch-pattern .ensures)
 
 pub fetch-spec : {M : Type 1} → statement M

@@ -11,9 +11,10 @@ returns c = too-short _ _ _ _ _ _ _ (c .if1 .taken)
 
 returns-2 : tie.Need-returns-2
 returns-2 c =
-    let e = c .before .before .before .before in
+    let w = c .before .before in
+    let e = w .before .before in
     let f = e .before .before .before .fits in
-    enough-room _ _ _ _ _ _ _ (e .if1 .left) (pixel-handed (f .i) (f .j)) (c .before .before .put-words .ensures)
+    enough-room _ _ _ _ _ _ _ (e .if1 .left) (pixel-handed (f .i) (f .j)) (w .put-words .ensures)
 
 pub deliver-spec : {M : Type 1} → statement M
 deliver-spec = tie.close (tie.spec returns (λ c κs. search needs) (λ c. search needs) returns-2)

@@ -45,15 +45,15 @@ returns-2 c =
     fetch-outside _ _ _ _ _ _ _ _ _ _ (begun (c .before .before) .passed) (fails (inside-answer (c .before)) (c .if1 .taken))
 
 deliver-requires : tie.Need-deliver-requires
-deliver-requires c κs = let b = c .before .before .before in (begun b .picture, begun b .most)
+deliver-requires c κs = let i = c .before .before in let b = begun (i .before) in (b .picture, b .most)
 
 returns-3 : tie.Need-returns-3
 returns-3 c =
-    let e = c .before .before .before .before in
-    let b = e .before .before in
-    let f = start b .fits in
-    fetch-delivers _ _ _ _ _ _ _ _ _ _ (begun b .passed) (holds (inside-answer (e .before)) (e .if1 .left)) (pixel-handed (f .i) (f .j))
-    (c .before .before .deliver .ensures)
+    let d = c .before .before in
+    let e = d .before .before in
+    let f = start (e .before .before) .fits in
+    fetch-delivers _ _ _ _ _ _ _ _ _ _ (begun (e .before .before) .passed) (holds (inside-answer (e .before)) (e .if1 .left))
+    (pixel-handed (f .i) (f .j)) (d .deliver .ensures)
 
 pub fetch-pattern-spec : {M : Type 1} → statement M
 fetch-pattern-spec =

@@ -23,31 +23,29 @@ returns c =
     let refused = c .enum-told .given .1 in
     refused ∙ refused-by-tested _ _ _ _ _ _ _ _ (ap foundBy refused)
 
--- the book's tests found nothing
-legal : (c : tie.After-enum-told2) → foundBy (c .before .before .args .tested) ≡ none
-legal c = ap foundBy (c .enum-told2 .given .1)
-
 returns-2 : tie.Need-returns-2
 returns-2 c =
-    let d = c .before .before .before in
-    refused-by-picture _ _ _ _ _ _ _ _ (legal (d .before))
-    (picture-refusal-shows _ _ _ _ (d .picture-depth .ensures) (c .before .depth .given .1))
+    let o = c .before in
+    let d = o .before .before in
+    refused-by-picture _ _ _ _ _ _ _ _ (ap foundBy (d .before .enum-told2 .given .1))
+    (picture-refusal-shows _ _ _ _ (d .picture-depth .ensures) (o .depth .given .1))
 
--- nor did the picture's
+-- neither the book's tests nor the picture's found anything
 module _ (c : tie.After-enum-told3) where
+  abbrev asked : tie.After-picture-depth
+  asked = c .before .before
+
   abbrev start : tie.Start
-  start = c .before .before .before .before .before
+  start = asked .before .before .before
 
   passed : foundBy (start .args .tested) ≡ none
-  passed = legal (c .before .before .before)
+  passed = ap foundBy (asked .before .enum-told2 .given .1)
 
   is-picture : pictureTest (start .args .p) (start .args .w) (start .args .h) (start .args .words) ≡ none
-  is-picture = picture-shows _ _ _ _ (c .before .before .picture-depth .ensures) (c .enum-told3 .given .1) .0
+  is-picture = picture-shows _ _ _ _ (asked .picture-depth .ensures) (c .enum-told3 .given .1) .0
 
 returns-3 : tie.Need-returns-3
-returns-3 c =
-    let e = c .before in
-    refused-by-number _ _ _ _ _ _ _ _ (passed e) (is-picture e) (c .if1 .taken)
+returns-3 c = let e = c .before in refused-by-number _ _ _ _ _ _ _ _ (passed e) (is-picture e) (c .if1 .taken)
 
 returns-4 : tie.Need-returns-4
 returns-4 c =
@@ -75,10 +73,10 @@ module _ (c : tie.After-clash-in) where
 
 returns-5 : tie.Need-returns-5
 returns-5 c =
-    let k = c .before .before .before in
+    let m = c .before in
+    let k = m .before .before in
     let e = after-tests k in
-    refused-by-clash _ _ _ _ _ _ _ _ (passed e) (is-picture e) (below k) (most k)
-    (at-found _ (met-is k) (c .before .met .given .1))
+    refused-by-clash _ _ _ _ _ _ _ _ (passed e) (is-picture e) (below k) (most k) (at-found _ (met-is k) (m .met .given .1))
 
 returns-6 : tie.Need-returns-6
 returns-6 c =

@@ -2,16 +2,16 @@
 -- Assumes nothing.
 use Prim.Native.Nat.{_-_, _≤_}
 use native.Mathlib.Omega.{arith}
-use mathlib.Core.Path.{_≡_, sym, _∙_, ap}
+use mathlib.Core.Path.{_≡_, sym}
 use mathlib.Core.Bool.{Bool}
-use lib.IntN.{ℤ, pos, _+ℤ_}
+use lib.IntN.{pos, _+ℤ_}
 use lib.ListN.{getD}
 use mir.Syntax.{w8, w16}
 use mir.Val.{toZ, ofZ}
 use borrow.Author.Needs.{needs}
 use Rattle.integers.proofs.Raised.{number-handed}
 use Rattle.scope.specs.Search.{every}
-use Rattle.scope.specs.Plans.{Pixel, at}
+use Rattle.scope.specs.Plans.{at}
 use Rattle.scope.specs.Banks.{within, inside}
 use Rattle.scope.proofs.MethodAnswers.{fails, holds}
 use Rattle.pictures.specs.Fetching.{movedTo}
@@ -26,77 +26,74 @@ Inv-loop w h i j columns rows used e₀ e = (e ≤ used) × InsideBefore w h (pa
 abbrev μ-loop : tie.MeasureT-loop
 μ-loop w h i j columns rows used e₀ e = used - e
 
+-- where the function starts
+abbrev start : tie.At-loop Inv-loop μ-loop → tie.Start Inv-loop μ-loop
+start l = l .before .before .before
+
+-- the position that the loop knows is the one handed to it
+answers :
+    {b : Bool} (l : tie.At-loop Inv-loop μ-loop)
+    → let u = start l .args in
+    every (inside (u .w) (u .h)) (movedTo (u .t) (position (ofZ w16 (u .i)) (ofZ w16 (u .j)))) ≡ b
+    → b ≡ every (inside (u .w) (u .h)) (movedTo (u .t) (at (u .i) (u .j)))
+answers l e = let f = start l .fits in sym (rw (position-handed (f .i) (f .j)) at e)
+
 loop-holds : tie.Need-loop-holds Inv-loop μ-loop
 loop-holds c = (omega arith, none-inside _ _ _ _)
 
 array-copy-out-is-within : tie.Need-array-copy-out-is-within Inv-loop μ-loop
-array-copy-out-is-within c = omega (arith, c .before .before .before .before .pre)
+array-copy-out-is-within c = omega (arith, start (c .before) .pre)
 
 -- what the test of the column told
-column-shows :
-    (c : tie.After-is-within Inv-loop μ-loop)
-    → let l = c .before .before .before in
-    let u = l .before .before .before .args in
-    c .is-within .result ≡ within (toZ w16 (ofZ w16 (u .i)) +ℤ getD (u .t .columns) (l .loop .e) (pos 0)) (u .w)
-column-shows c =
-    let u = c .before .before .before .before .before .before .args in
-    c .is-within .ensures
-    ∙ ap (λ (x : ℤ). within (toZ w16 (ofZ w16 (u .i)) +ℤ x) (u .w))
-    (number-handed w8 (c .before .is-within-arg .given))
+module _ (c : tie.After-is-within Inv-loop μ-loop) where
+  abbrev turn : tie.In-loop Inv-loop μ-loop
+  turn = c .before .before
+
+  column-shows :
+      let u = start (turn .before) .args in
+      c .is-within .result ≡ within (toZ w16 (ofZ w16 (u .i)) +ℤ getD (u .t .columns) (turn .before .loop .e) (pos 0)) (u .w)
+  column-shows = rw (number-handed w8 (c .before .is-within-arg .given)) at (c .is-within .ensures)
 
 -- and that of the row
-row-shows :
-    (c : tie.After-is-within2 Inv-loop μ-loop)
-    → let l = c .before .before .before .before .before .before in
-    let u = l .before .before .before .args in
-    c .is-within2 .result ≡ within (toZ w16 (ofZ w16 (u .j)) +ℤ getD (u .t .rows) (l .loop .e) (pos 0)) (u .h)
-row-shows c =
-    let u = c .before .before .before .before .before .before .before .before .before .args in
-    c .is-within2 .ensures
-    ∙ ap (λ (x : ℤ). within (toZ w16 (ofZ w16 (u .j)) +ℤ x) (u .h))
-    (number-handed w8 (c .before .is-within-arg2 .given))
+module _ (c : tie.After-is-within2 Inv-loop μ-loop) where
+  abbrev first : tie.Else1 Inv-loop μ-loop
+  first = c .before .before
 
--- the position that the loop knows is the one handed to it
-answers :
-    {b : Bool} (s : tie.Start Inv-loop μ-loop)
-    → let u = s .args in
-    every (inside (u .w) (u .h)) (movedTo (u .t) (position (ofZ w16 (u .i)) (ofZ w16 (u .j)))) ≡ b
-    → b ≡ every (inside (u .w) (u .h)) (movedTo (u .t) (at (u .i) (u .j)))
-answers s e =
-    let u = s .args in
-    sym e ∙ ap (λ (o : Pixel). every (inside (u .w) (u .h)) (movedTo (u .t) o)) (position-handed (s .fits .i) (s .fits .j))
+  row-shows :
+      let l = turn (first .before) .before in
+      let u = start l .args in
+      c .is-within2 .result ≡ within (toZ w16 (ofZ w16 (u .j)) +ℤ getD (u .t .rows) (l .loop .e) (pos 0)) (u .h)
+  row-shows = rw (number-handed w8 (c .before .is-within-arg2 .given)) at (c .is-within2 .ensures)
 
 returns : tie.Need-returns Inv-loop μ-loop
 returns c =
-    let l = c .before .before .before .before in
-    answers (l .before .before .before)
-    (column-outside _ _ _ _ (l .loop .e) (c .before .before .before .loop-test .taken) (fails (column-shows (c .before)) (c .if1 .taken)))
+    let i = turn (c .before) in
+    answers (i .before)
+    (column-outside _ _ _ _ (i .before .loop .e) (i .loop-test .taken) (fails (column-shows (c .before)) (c .if1 .taken)))
 
 array-copy-out-is-within-2 : tie.Need-array-copy-out-is-within-2 Inv-loop μ-loop
-array-copy-out-is-within-2 c = array-copy-out-is-within (c .before .before .before)
+array-copy-out-is-within-2 c = array-copy-out-is-within (turn (c .before))
 
 returns-2 : tie.Need-returns-2 Inv-loop μ-loop
 returns-2 c =
-    let i = c .before .before .before .before .before .before in
-    let l = i .before in
-    answers (l .before .before .before)
-    (row-outside _ _ _ _ (l .loop .e) (i .loop-test .taken) (fails (row-shows (c .before)) (c .if2 .taken)))
+    let i = turn (first (c .before) .before) in
+    answers (i .before)
+    (row-outside _ _ _ _ (i .before .loop .e) (i .loop-test .taken) (fails (row-shows (c .before)) (c .if2 .taken)))
 
 loop-again : tie.Need-loop-again Inv-loop μ-loop
 loop-again c =
-    let one = c .before .before .before in
-    let l = one .before .before .before .before in (
+    let o = first (c .before) in
+    let l = turn (o .before) .before .loop in (
       omega arith,
-      one-more-inside _ _ _ _ (l .loop .e) (l .loop .inv .1) (holds (column-shows (one .before)) (one .if1 .left))
+      one-more-inside _ _ _ _ (l .e) (l .inv .1) (holds (column-shows (o .before)) (o .if1 .left))
           (holds (row-shows (c .before)) (c .if2 .left)),
     )
 
 returns-3 : tie.Need-returns-3 Inv-loop μ-loop
 returns-3 c =
     let l = c .before in
-    let s = l .before .before .before in
-    let done : l .loop .e ≡ s .args .t .used = omega arith in
-    answers s (every-inside _ _ _ _ (rw done at (l .loop .inv .1)))
+    let done : l .loop .e ≡ start l .args .t .used = omega arith in
+    answers l (every-inside _ _ _ _ (rw done at (l .loop .inv .1)))
 
 pub all-inside-spec : {M : Type 1} → statement M
 all-inside-spec =

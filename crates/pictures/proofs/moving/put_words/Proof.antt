@@ -2,18 +2,15 @@
 -- Assumes nothing.
 use Prim.Native.Nat.{_-_, _≤_, _<_}
 use native.Mathlib.Omega.{arith}
-use mathlib.Core.Path.{_≡_, sym, _∙_, ap, subst}
-use mathlib.Core.Option.{none}
+use mathlib.Core.Path.{_≡_}
 use lib.ListN.{length}
 use mir.Syntax.{w16}
 use mir.Val.{toZ, ofZ}
 use borrow.Author.Needs.{needs}
-use Rattle.scope.specs.Plans.{Pixel, at, plus}
-use Rattle.scope.specs.Banks.{overStart, wrapped}
-use Rattle.scope.specs.Calls.{wordTest}
+use Rattle.scope.specs.Plans.{at, plus}
+use Rattle.scope.specs.Banks.{wrapped}
 use Rattle.scope.specs.promises.Meaning.{IsPicture}
 use Rattle.checks.proofs.Outputs.{Put}
-use Rattle.pictures.specs.Fetching.{movedTo, wordsAt}
 use Rattle.pictures.proofs.Moved.{position, position-handed}
 use Rattle.pictures.proofs.PictureTests.{picture-test-iff}
 use Rattle.pictures.proofs.Wrapped.{wrapped-has-word, wrapped-handed, pixel}
@@ -28,55 +25,56 @@ Inv-loop p w h mem i j out₀ columns rows used e₀ out e =
 abbrev μ-loop : tie.MeasureT-loop
 μ-loop p w h mem i j out₀ columns rows used e₀ out e = used - e
 
--- in a turn
-module _ (c : tie.In-loop Inv-loop μ-loop) where
+-- at the loop's head
+module _ (c : tie.At-loop Inv-loop μ-loop) where
   abbrev start : tie.Start Inv-loop μ-loop
-  start = c .before .before .before .before .before .before
+  start = c .before .before .before .before .before
 
   picture : let u = start .args in IsPicture (u .p) (u .w) (u .h) (length (u .mem .now))
   picture = picture-test-iff _ _ _ _ .0 (start .pre .0)
 
-  room : c .before .loop .e < length (c .before .loop .out)
-  room = omega (arith, c .before .loop .inv .1 .same-length, start .pre .2)
+-- in a turn
+room : (c : tie.In-loop Inv-loop μ-loop) → c .before .loop .e < length (c .before .loop .out)
+room c = omega (arith, c .before .loop .inv .1 .same-length, start (c .before) .pre .2)
 
 loop-holds : tie.Need-loop-holds Inv-loop μ-loop
 loop-holds c = (omega arith, no-words _ _ _ _ _ _ _ _)
 
 array-copy-out-wrapped-to : tie.Need-array-copy-out-wrapped-to Inv-loop μ-loop
-array-copy-out-wrapped-to c = omega (arith, start c .pre .1)
+array-copy-out-wrapped-to c = omega (arith, start (c .before) .pre .1)
 
 wrapped-to-requires : tie.Need-wrapped-to-requires Inv-loop μ-loop
-wrapped-to-requires c κs = let h = picture (c .before) in omega (arith, h .W-side, h .H-side)
+wrapped-to-requires c κs = omega (arith, picture (c .before .before))
 
 array-copy-out-wrapped-to-2 : tie.Need-array-copy-out-wrapped-to-2 Inv-loop μ-loop
 array-copy-out-wrapped-to-2 c = array-copy-out-wrapped-to (c .before .before)
 
 wrapped-to-requires-2 : tie.Need-wrapped-to-requires-2 Inv-loop μ-loop
-wrapped-to-requires-2 c κs = let h = picture (c .before .before .before) in omega (arith, h .W-side, h .H-side)
+wrapped-to-requires-2 c κs = let w = c .before .before in omega (arith, picture (w .before .before))
 
 -- where the wrapped coordinates are known
 module _ (c : tie.After-wrapped-to2 Inv-loop μ-loop) where
+  abbrev column : tie.After-wrapped-to Inv-loop μ-loop
+  column = c .before .before
+
   abbrev turn : tie.In-loop Inv-loop μ-loop
-  turn = c .before .before .before .before
+  turn = column .before .before
 
   pixel-is :
-      let u = start turn .args in
+      let u = start (turn .before) .args in
       let e = turn .before .loop .e in
-      at (toZ w16 (ofZ w16 (c .before .before .wrapped-to .result))) (toZ w16 (ofZ w16 (c .wrapped-to2 .result)))
+      at (toZ w16 (ofZ w16 (column .wrapped-to .result))) (toZ w16 (ofZ w16 (c .wrapped-to2 .result)))
       ≡ wrapped (u .w) (u .h)
       (plus (position (ofZ w16 (u .i)) (ofZ w16 (u .j))) (pixel (u .t .columns) (u .t .rows) e))
   pixel-is =
-      let u = start turn .args in
+      let u = start (turn .before) .args in
       wrapped-handed (u .w) (u .h) (position (ofZ w16 (u .i)) (ofZ w16 (u .j)))
-      (record { sfits = c .before .before .before .wrapped-to-arg .given }) (record { sfits = c .before .wrapped-to-arg2 .given })
-      (record { sfits = c .before .before .wrapped-to .ok }) (record { sfits = c .wrapped-to2 .ok })
-      (c .before .before .wrapped-to .ensures) (c .wrapped-to2 .ensures)
+      (record { sfits = column .before .wrapped-to-arg .given }) (record { sfits = c .before .wrapped-to-arg2 .given })
+      (record { sfits = column .wrapped-to .ok }) (record { sfits = c .wrapped-to2 .ok }) (column .wrapped-to .ensures)
+      (c .wrapped-to2 .ensures)
 
 word-at-requires : tie.Need-word-at-requires Inv-loop μ-loop
-word-at-requires c κs =
-    let u = start (turn c) .args in
-    subst (λ (v : Pixel). wordTest (u .p) (u .w) (u .h) (length (u .mem .now)) v ≡ none) (sym (pixel-is c))
-    (wrapped-has-word _ _ _ _ (picture (turn c)) _)
+word-at-requires c κs = rw (pixel-is c) (wrapped-has-word _ _ _ _ (picture (turn c .before)) _)
 
 slice-write-out : tie.Need-slice-write-out Inv-loop μ-loop
 slice-write-out c = omega (arith, room (turn (c .before)))
@@ -96,12 +94,9 @@ same-length c = c .before .loop .inv .1 .same-length
 returns : tie.Need-returns Inv-loop μ-loop
 returns c =
     let l = c .before in
-    let s = l .before .before .before .before .before in
-    let u = s .args in
-    let done : l .loop .e ≡ u .t .used = omega arith in
-    (rw done at (l .loop .inv .1 .is))
-    ∙ ap (λ (o : Pixel). overStart (wordsAt (u .p) (u .w) (u .h) (u .mem .now) (movedTo (u .t) o)) (u .out .now))
-    (position-handed (s .fits .i) (s .fits .j))
+    let f = start l .fits in
+    let done : l .loop .e ≡ start l .args .t .used = omega arith in
+    rw (position-handed (f .i) (f .j)) at (rw done at (l .loop .inv .1 .is))
 
 pub put-words-spec : {M : Type 1} → statement M
 put-words-spec =

@@ -57,11 +57,12 @@ cast-x-2 c = widened-fits w8 w32 tt (c .args .c) (c .fits .c)
 add-x : tie.Need-add-x
 add-x c = sum-fits (c .fits .z) (c .fits .c)
 
--- what is handed on where the sum is within the side
-within-is :
-    (c : tie.Then1)
-    → let s = c .before .before in
-    toZ w32 (ofZ w32 (sum (s .fits .z) (s .fits .c))) ≡ pos (floorMod (s .args .z +ℤ s .args .c) (s .args .side))
+-- what is to be handed on
+abbrev right : tie.Start → ℤ
+right s = pos (floorMod (s .args .z +ℤ s .args .c) (s .args .side))
+
+-- it is, where the sum is within the side
+within-is : (c : tie.Then1) → let s = c .before .before in toZ w32 (ofZ w32 (sum (s .fits .z) (s .fits .c))) ≡ right s
 within-is c =
     let s = c .before .before in
     own (s .fits .z) (s .fits .c) (s .args .side) (c .before .is-within .ensures) (c .if1 .taken)
@@ -73,16 +74,15 @@ returns : tie.Need-returns
 returns c = toZ-ofZ (cast-result c) ∙ within-is c
 
 -- and where it is not
-remainder-is :
-    (c : tie.After-remainder)
-    → let s = c .before .before .before in
-    pos (c .remainder .result) ≡ pos (floorMod (s .args .z +ℤ s .args .c) (s .args .side))
-remainder-is c =
-    let s = c .before .before .before in
-    formed (s .fits .z) (s .fits .c) (s .args .side) (s .pre .0) (c .remainder .ensures)
+module _ (c : tie.After-remainder) where
+  abbrev start : tie.Start
+  start = c .before .before .before
+
+  remainder-is : pos (c .remainder .result) ≡ right start
+  remainder-is = formed (start .fits .z) (start .fits .c) (start .args .side) (start .pre .0) (c .remainder .ensures)
 
 cast-result-2 : tie.Need-cast-result-2
-cast-result-2 c = remainder-fits _ _ (c .before .before .before .pre) (remainder-is c)
+cast-result-2 c = remainder-fits _ _ (start c .pre) (remainder-is c)
 
 returns-2 : tie.Need-returns-2
 returns-2 c = toZ-ofZ (cast-result-2 c) ∙ remainder-is c

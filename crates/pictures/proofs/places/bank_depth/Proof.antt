@@ -61,16 +61,14 @@ module _ (p : Plan) (W H words k : ℕ) where
 
 -- the callee gave a number
 module _ (c : tie.After-struct-known) where
-  abbrev start : tie.Start
-  start = c .before .before .before .before
+  abbrev asked : tie.After-picture-depth
+  asked = c .before .before .before
 
-  is-depth :
-      c .before .before .before .picture-depth .result
-      ≡ pictureDepth (start .args .p) (start .args .w) (start .args .h) (start .args .words)
-  is-depth = c .before .before .before .picture-depth .ensures
+  is-depth : let u = asked .before .args in asked .picture-depth .result ≡ pictureDepth (u .p) (u .w) (u .h) (u .words)
+  is-depth = asked .picture-depth .ensures
 
-  count-small : start .args .p .a * start .args .p .d ≤ 1024
-  count-small = count-at-most _ _ _ _ (start .args .k) is-depth (c .before .enum-told .given .1)
+  count-small : let p = asked .before .args .p in p .a * p .d ≤ 1024
+  count-small = count-at-most _ _ _ _ (asked .before .args .k) is-depth (c .before .enum-told .given .1)
 
 mul-if1 : tie.Need-mul-if1
 mul-if1 c = omega (arith, count-small c)

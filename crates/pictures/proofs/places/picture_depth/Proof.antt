@@ -83,25 +83,19 @@ module _ (p : Plan) (W H words : ℕ) where
           ap Counted.Number (sym (depth-shows .1))
           ∙ sym (given (past-depth ∙ memory-decides p W H words .passes (rw (depth-shows .1) h)))
 
--- the plan's call gave a number, n
+-- the plan's call gave a number
 module _ (c : tie.After-struct-known) where
-  abbrev start : tie.Start
-  start = c .before .before .before .before .before
+  abbrev asked : tie.After-depth
+  asked = c .before .before .before .before
 
-  abbrev p : Plan
-  p = start .args .p
+  is : let u = asked .before .args in asked .depth .result ≡ depth (u .p) (u .w) (u .h)
+  is = asked .depth .ensures
 
-  abbrev n : ℕ
-  n = c .before .before .answer .given .0 .0
-
-  is : c .before .before .before .before .depth .result ≡ depth p (start .args .w) (start .args .h)
-  is = c .before .before .before .before .depth .ensures
-
-  number-is : c .before .before .before .before .depth .result ≡ Counted.Number n
+  number-is : asked .depth .result ≡ Counted.Number (c .before .before .answer .given .0 .0)
   number-is = c .before .before .answer .given .1
 
-  count-small : p .a * p .d ≤ 1024
-  count-small = legal p (start .args .w) (start .args .h) (start .args .words) is number-is .0 .most
+  count-small : let p = asked .before .args .p in p .a * p .d ≤ 1024
+  count-small = legal _ _ _ (asked .before .args .words) is number-is .0 .most
 
 mul-if1 : tie.Need-mul-if1
 mul-if1 c = omega (arith, count-small c)
@@ -110,7 +104,7 @@ cast-if1 : tie.Need-cast-if1
 cast-if1 c = omega (arith, count-small c)
 
 mul-if1-2 : tie.Need-mul-if1-2
-mul-if1-2 c = omega (arith, words-at-most _ _ _ (start c .args .words) (is c) (number-is c))
+mul-if1-2 c = omega (arith, words-at-most _ _ _ (asked c .before .args .words) (is c) (number-is c))
 
 returns : tie.Need-returns
 returns c = memory-short _ _ _ _ (is (c .before)) (number-is (c .before)) (c .if1 .taken)

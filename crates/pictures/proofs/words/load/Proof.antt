@@ -44,7 +44,7 @@ place-given :
 place-given c = let f = c .before .before .fits in rw (pixel-handed (f .i) (f .j)) at (c .word-place .ensures)
 
 -- it is in the memory
-in-memory : (c : tie.After-place) → c .place .given .0 .0 < length (c .before .before .before .before .args .mem .now)
+in-memory : (c : tie.After-place) → let a = c .before .before in c .place .given .0 .0 < length (a .before .before .args .mem .now)
 in-memory c = place-in-memory _ _ _ _ _ (place-given (c .before .before)) (c .place .given .1)
 
 mul-t13 : tie.Need-mul-t13
@@ -54,10 +54,10 @@ shared-slice-read-t15 : tie.Need-shared-slice-read-t15
 shared-slice-read-t15 c = in-memory (c .before .before)
 
 returns : tie.Need-returns
-returns c = loaded _ _ _ _ _ (place-given (c .before .before .before .before)) (c .before .before .place .given .1)
+returns c = let p = c .before .before in loaded _ _ _ _ _ (place-given (p .before .before)) (p .place .given .1)
 
 returns-2 : tie.Need-returns-2
-returns-2 c = refused _ _ _ _ _ (place-given (c .before .before .before)) (c .before .place2 .given .1)
+returns-2 c = let p = c .before in refused _ _ _ _ _ (place-given (p .before .before)) (p .place2 .given .1)
 
 pub load-spec : {M : Type 1} → statement M
 load-spec =

@@ -50,7 +50,7 @@ place-given :
 place-given c = let f = c .before .before .fits in rw (pixel-handed (f .i) (f .j)) at (c .word-place .ensures)
 
 -- it is in the memory
-in-memory : (c : tie.After-place) → c .place .given .0 .0 < length (c .before .before .before .before .args .mem .now)
+in-memory : (c : tie.After-place) → let a = c .before .before in c .place .given .0 .0 < length (a .before .before .args .mem .now)
 in-memory c = place-in-memory _ _ _ _ _ (place-given (c .before .before)) (c .place .given .1)
 
 mul-mem : tie.Need-mul-mem
@@ -60,10 +60,10 @@ slice-write-mem : tie.Need-slice-write-mem
 slice-write-mem c = in-memory (c .before)
 
 returns : tie.Need-returns
-returns c = stored _ _ _ _ _ _ (place-given (c .before .before .before)) (c .before .place .given .1)
+returns c = let p = c .before in stored _ _ _ _ _ _ (place-given (p .before .before)) (p .place .given .1)
 
 returns-2 : tie.Need-returns-2
-returns-2 c = refused _ _ _ _ _ _ (place-given (c .before .before .before)) (c .before .place2 .given .1)
+returns-2 c = let p = c .before in refused _ _ _ _ _ _ (place-given (p .before .before)) (p .place2 .given .1)
 
 pub store-spec : {M : Type 1} → statement M
 store-spec =
