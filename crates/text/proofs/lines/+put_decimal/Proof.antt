@@ -61,7 +61,7 @@ slice-write-out : (t : ℕ) → lts.Need-slice-write-out (below t, reads.Post) (
 slice-write-out t c = room-for-last (but-last t c)
 
 add-result : (t : ℕ) → lts.Need-add-result (below t, reads.Post) (at t) reads.Post
-add-result t c = omega (arith, all-digits t (c .before) .place, c .before .before .before .pre .1)
+add-result t c = let j = c .before in omega (arith, all-digits t j .place, j .before .before .pre .1)
 
 same-length : (t : ℕ) → lts.Need-same-length (below t, reads.Post) (at t) reads.Post
 same-length t c = length-set (c .before .if1 .out) (c .before .if1 .at) _ ∙ but-last t (c .before) .put-to .put .same-length

@@ -1,33 +1,39 @@
 -- `text::lines::put_plan` meets its contract: the four numbers are put, each with the words before it to the part after those
 -- that stand, and then the end of the second line.
 -- Assumes nothing.
-use Prim.Native.Nat.{ℕ, _+_}
+use Prim.Native.Nat.{ℕ, _+_, _-_}
 use native.Mathlib.Omega.{arith}
+use mathlib.Core.Path.{_≡_}
 use mathlib.Core.List.{List, _∷_}
+use lib.ListN.{length, take, drop}
 use borrow.Author.Needs.{needs}
 use Rattle.integers.proofs.Sizes.{product-fits-64}
+use Rattle.scope.specs.Banks.{overStart}
 use Rattle.scope.specs.Program.{ascii, planLines}
 use Rattle.scope.specs.declared.Plan.{Plan}
 use Rattle.text.proofs.PutLines.{RoomFor, PutBut, withPart, first-part-fits, first-part-put, ends-inside}
 use Rattle.text.proofs.PutLines.{part-starts, room-in-part, next-part-put, room-for-last, last-put}
-use Rattle.text.proofs.LineParts.{banksPart, afterBanks, afterA, afterB, afterD, plan-lines-are}
+use Rattle.text.proofs.LineParts.{banksPart, aPart, bPart, dPart, afterBanks, afterA, afterB, afterD, plan-lines-are}
 use Rattle.text.proofs.lines.put_plan.Statement.{statement}
 use Rattle.text.proofs.lines.put_plan.Tie as tie
 
 mul-put-number : tie.Need-mul-put-number
 mul-put-number c = product-fits-64 _ _ (omega arith) (omega arith)
 
--- the call, how many bytes were put, and what the output is then
-abbrev Standing : Type 0
-Standing = tie.Start × ℕ × List ℕ
+-- the plan's lines were put but for the parts after one of its numbers: up to where, and what the output is then
+record Standing (left : Plan → List (List ℕ)) : Type 0 where
+  start : tie.Start
+  at : ℕ
+  out : List ℕ
+  put : PutBut (planLines (start .args .p)) (left (start .args .p)) at (start .args .out .now) out
 
--- the plan's lines were put but for the parts after one of its numbers
-abbrev Left : (Plan → List (List ℕ)) → Standing → Type 0
-Left parts (u, at, out) = PutBut (planLines (u .args .p)) (parts (u .args .p)) at (u .args .out .now) out
-
--- and k more to the part after them
-abbrev more : Standing → ℕ → List ℕ → Standing
-more (u, at, out) k part = (u, at + k, withPart at out part)
+-- and a call puts one part more, to what comes after those that stand
+abbrev next :
+    (part : Plan → List ℕ) (left : Plan → List (List ℕ)) (s : Standing (λ p. part p ∷ left p)) {k : ℕ} {come : List ℕ} →
+    let xs = part (s .start .args .p) in
+    (k ≡ length xs) × (come ≡ overStart xs (take (length (s .out) - s .at) (drop (s .at) (s .out)))) → Standing left
+next part left s {k} {come} ensures =
+    record { start = s .start; at = s .at + k; out = withPart (s .at) (s .out) come; put = next-part-put (s .put) ensures }
 
 -- there is room for them
 room-for-lines :
@@ -35,133 +41,60 @@ room-for-lines :
     → RoomFor (planLines (u .args .p)) (banksPart (u .args .p) ∷ afterBanks (u .args .p)) (u .args .out .now)
 room-for-lines u = record { is = plan-lines-are (u .args .p); room = u .pre }
 
-put-number-requires : tie.Need-put-number-requires
+-- where the function starts
+abbrev entry : tie.After-put-number-arg2 → tie.Start
+entry c = c .before .before .before .before .before .before
+
+-- the first call puts the count of banks,
+abbrev stands₁ : tie.After-slice-known2 → Standing afterBanks
 unfolding ascii
-put-number-requires c κs = first-part-fits (room-for-lines (c .before .before .before .before .before .before))
+stands₁ c =
+    let n = c .before .before in
+    record {
+      start = entry (n .before);
+      at = n .put-number .result;
+      out = n .put-number .last .1 .1 .0;
+      put = first-part-put (room-for-lines (entry (n .before))) (n .put-number .ensures);
+    }
 
--- the first call puts the count of banks
-module _ (c : tie.After-put-number) where
-  abbrev stands₁ : Standing
-  stands₁ = (c .before .before .before .before .before .before .before, c .put-number .result, c .put-number .last .1 .1 .0)
-
-  put₁ : Left afterBanks stands₁
-  unfolding ascii
-  put₁ = first-part-put (room-for-lines (stands₁ .0)) (c .put-number .ensures)
-
-sub-put-number : tie.Need-sub-put-number
-sub-put-number c = part-starts (put₁ (c .before .before .before))
-
-part-put-number-start : tie.Need-part-put-number-start
-part-put-number-start c = sub-put-number c
-
-put-number-requires-2 : tie.Need-put-number-requires-2
+-- the second a,
+abbrev stands₂ : tie.After-slice-known3 → Standing afterA
 unfolding ascii
-put-number-requires-2 c κs = room-in-part (put₁ (c .before .before .before .before))
+stands₂ c = let n = c .before .before in next aPart afterA (stands₁ (n .before .before .before)) (n .put-number2 .ensures)
 
--- the second call puts a
-module _ (c : tie.After-put-number2) where
-  abbrev before₂ : tie.After-put-number
-  before₂ = c .before .before .before .before .before
-
-  abbrev stands₂ : Standing
-  stands₂ = more (stands₁ before₂) (c .put-number2 .result) (c .put-number2 .last .1 .1 .0)
-
-  put₂ : Left afterA stands₂
-  unfolding ascii
-  put₂ = next-part-put (put₁ before₂) (c .put-number2 .ensures)
-
-add-at : tie.Need-add-at
-add-at c = record { fits = omega (arith, ends-inside (put₂ (c .before .before))) }
-
-sub-put-number-2 : tie.Need-sub-put-number-2
-sub-put-number-2 c = part-starts (put₂ (c .before .before .before))
-
-part-put-number-start-2 : tie.Need-part-put-number-start-2
-part-put-number-start-2 c = sub-put-number-2 c
-
-put-number-requires-3 : tie.Need-put-number-requires-3
+-- the third b,
+abbrev stands₃ : tie.After-slice-known4 → Standing afterB
 unfolding ascii
-put-number-requires-3 c κs = room-in-part (put₂ (c .before .before .before .before))
+stands₃ c = let n = c .before .before in next bPart afterB (stands₂ (n .before .before .before)) (n .put-number3 .ensures)
 
--- the third b
-module _ (c : tie.After-put-number3) where
-  abbrev before₃ : tie.After-put-number2
-  before₃ = c .before .before .before .before .before
-
-  abbrev stands₃ : Standing
-  stands₃ = more (stands₂ before₃) (c .put-number3 .result) (c .put-number3 .last .1 .1 .0)
-
-  put₃ : Left afterB stands₃
-  unfolding ascii
-  put₃ = next-part-put (put₂ before₃) (c .put-number3 .ensures)
-
-add-at-2 : tie.Need-add-at-2
-add-at-2 c = record { fits = omega (arith, ends-inside (put₃ (c .before .before))) }
-
-sub-put-number-3 : tie.Need-sub-put-number-3
-sub-put-number-3 c = part-starts (put₃ (c .before .before .before))
-
-part-put-number-start-3 : tie.Need-part-put-number-start-3
-part-put-number-start-3 c = sub-put-number-3 c
-
-put-number-requires-4 : tie.Need-put-number-requires-4
+-- and the fourth d
+abbrev stands₄ : tie.After-slice-known5 → Standing afterD
 unfolding ascii
-put-number-requires-4 c κs = room-in-part (put₃ (c .before .before .before .before))
-
--- the fourth d
-module _ (c : tie.After-put-number4) where
-  abbrev before₄ : tie.After-put-number3
-  before₄ = c .before .before .before .before .before
-
-  abbrev stands₄ : Standing
-  stands₄ = more (stands₃ before₄) (c .put-number4 .result) (c .put-number4 .last .1 .1 .0)
-
-  put₄ : Left afterD stands₄
-  unfolding ascii
-  put₄ = next-part-put (put₃ before₄) (c .put-number4 .ensures)
-
-add-at-3 : tie.Need-add-at-3
-add-at-3 c = record { fits = omega (arith, ends-inside (put₄ (c .before .before))) }
-
-slice-write-out : tie.Need-slice-write-out
-slice-write-out c = room-for-last (put₄ (c .before .before))
-
-add-result : tie.Need-add-result
-add-result c = record { fits = omega (arith, room-for-last (put₄ (c .before .before))) }
-
-same-length : tie.Need-same-length
-same-length c = last-put (put₄ (c .before .before)) .put .same-length
+stands₄ c = let n = c .before .before in next dPart afterD (stands₃ (n .before .before .before)) (n .put-number4 .ensures)
 
 -- and then the end of the second line
 returns : tie.Need-returns
-returns c = let p = last-put (put₄ (c .before .before)) in (p .place, p .put .is)
+unfolding ascii
+returns c = let p = last-put (stands₄ c .put) in (p .place, p .put .is)
 
 pub put-plan-spec : {M : Type 1} → statement M
+unfolding ascii
 put-plan-spec =
     tie.close
     (tie.spec
     (λ c. search needs) (λ c. search needs) (λ c. search needs) (λ c. search needs)
     mul-put-number
-    put-number-requires
-    (λ c. search needs)
-    sub-put-number
-    part-put-number-start
-    (λ c. search needs)
-    put-number-requires-2
-    add-at
-    (λ c. search needs)
-    sub-put-number-2
-    part-put-number-start-2
-    (λ c. search needs)
-    put-number-requires-3
-    add-at-2
-    (λ c. search needs)
-    sub-put-number-3
-    part-put-number-start-3
-    (λ c. search needs)
-    put-number-requires-4
-    add-at-3
-    slice-write-out
-    add-result
-    same-length
+    (λ c κs. first-part-fits (room-for-lines (entry c)))
+    (λ c. search needs) (λ c. part-starts (stands₁ (c .before) .put)) (λ c. part-starts (stands₁ (c .before) .put))
+    (λ c. search needs) (λ c κs. room-in-part (stands₁ (c .before .before) .put))
+    (λ c. record { fits = omega (arith, ends-inside (stands₂ c .put)) })
+    (λ c. search needs) (λ c. part-starts (stands₂ (c .before) .put)) (λ c. part-starts (stands₂ (c .before) .put))
+    (λ c. search needs) (λ c κs. room-in-part (stands₂ (c .before .before) .put))
+    (λ c. record { fits = omega (arith, ends-inside (stands₃ c .put)) })
+    (λ c. search needs) (λ c. part-starts (stands₃ (c .before) .put)) (λ c. part-starts (stands₃ (c .before) .put))
+    (λ c. search needs) (λ c κs. room-in-part (stands₃ (c .before .before) .put))
+    (λ c. record { fits = omega (arith, ends-inside (stands₄ c .put)) })
+    (λ c. room-for-last (stands₄ c .put))
+    (λ c. record { fits = omega (arith, room-for-last (stands₄ c .put)) })
+    (λ c. last-put (stands₄ c .put) .put .same-length)
     returns)

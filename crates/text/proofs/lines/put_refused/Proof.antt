@@ -10,25 +10,25 @@ use Rattle.text.proofs.lines.put_refused.Statement.{statement}
 use Rattle.text.proofs.lines.put_refused.Tie as tie
 
 -- there is room for the line
-room-for-line :
-    (u : tie.Start)
-    → RoomFor (refusedLine (u .args .r)) (refusedPart (u .args .r) ∷ (10 ∷ []) ∷ []) (u .args .out .now)
-room-for-line u = record { is = refused-line-is (u .args .r); room = u .pre }
+module _ (c : tie.After-number-of) where
+  abbrev start : tie.Start
+  start = c .before .before .before
+
+  room-for-line : let u = start .args in RoomFor (refusedLine (u .r)) (refusedPart (u .r) ∷ (10 ∷ []) ∷ []) (u .out .now)
+  room-for-line = record { is = refused-line-is (start .args .r); room = start .pre }
 
 put-number-requires : tie.Need-put-number-requires
 unfolding ascii
-put-number-requires c κs =
-    rw (c .before .number-of .ensures) (first-part-fits (room-for-line (c .before .before .before .before)))
+put-number-requires c κs = let n = c .before in rw (n .number-of .ensures) (first-part-fits (room-for-line n))
 
 -- after the call the line is put but for its end
 number-put :
     (c : tie.After-put-number)
-    → let u = c .before .before .before .before .before .args in
+    → let u = start (c .before .before) .args in
     PutBut (refusedLine (u .r)) ((10 ∷ []) ∷ []) (c .put-number .result) (u .out .now) (c .put-number .last .1 .1 .0)
 unfolding ascii
 number-put c =
-    first-part-put (room-for-line (c .before .before .before .before .before))
-    (rw (c .before .before .number-of .ensures) at (c .put-number .ensures))
+    let n = c .before .before in first-part-put (room-for-line n) (rw (n .number-of .ensures) at (c .put-number .ensures))
 
 slice-write-out : tie.Need-slice-write-out
 slice-write-out c = room-for-last (number-put (c .before .before))

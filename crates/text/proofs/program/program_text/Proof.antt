@@ -23,17 +23,17 @@ module _ (c : tie.After-read-book) where
 
 returns : tie.Need-returns
 returns c =
-    let r = c .before .before .before .before in
-    also-of-longer (bytes r) _
-    (c .refused-text .ensures ∙ ap textOf (text-of-refused (bytes r) (outcome-is r (c .before .before .outcome .given .1))))
+    let o = c .before .before in
+    let r = o .before .before in
+    also-of-longer (bytes r) _ (c .refused-text .ensures ∙ ap textOf (text-of-refused (bytes r) (outcome-is r (o .outcome .given .1))))
 
 returns-2 : tie.Need-returns-2
 returns-2 c =
-    let r = c .before .before .before .before .before in
+    let e = c .before .before .before in
+    let r = e .before .before in
     also-of-longer (bytes r) _
-    (c .planned-text .ensures
-    ∙ ap (λ p. textOf (planText p)) (rw (r .read-book .ensures) at (c .before .find .ensures))
-    ∙ ap textOf (text-of-read (bytes r) (outcome-is r (c .before .before .before .enum-told .given .1))))
+    (c .planned-text .ensures ∙ ap (λ p. textOf (planText p)) (rw (r .read-book .ensures) at (c .before .find .ensures))
+    ∙ ap textOf (text-of-read (bytes r) (outcome-is r (e .enum-told .given .1))))
 
 pub program-text-spec : {M : Type 1} → statement M
 program-text-spec =
