@@ -5,12 +5,14 @@ use mathlib.Core.Path.{_≡_, sym, _∙_, ap, subst}
 use mathlib.Core.Option.{Option}
 use mathlib.Core.List.{List, _∷_}
 use Rattle.scope.specs.Numbers.{Answer, value, refusal, turnedDown, ofOutcome}
+use Rattle.scope.specs.Calls.{Result}
 use Rattle.scope.specs.declared.Book.{Book}
 use Rattle.scope.specs.declared.Refusal.{Refusal}
 use Rattle.scope.specs.declared.Clash.{Clash}
 use Rattle.scope.specs.declared.Outcome.{Outcome}
 use Rattle.scope.specs.declared.Outcome.the-variants.{Done, Refused}
 use Rattle.scope.specs.declared.Reading.{Reading}
+use Rattle.checks.proofs.Chains.{Gives}
 use Rattle.capi.specs.Told.{Tells, numberTold, clashRow, rowIn, noRow, putFrom}
 use Rattle.capi.specs.Flat.{ofReading, whenRead}
 
@@ -18,6 +20,13 @@ pub told-of :
     {A B : Type 0} {row : A → List ℕ} (of : B → Answer A) {x y : B} {before after : List ℕ} {n : ℕ} → x ≡ y
     → Tells row (of x) before after n → Tells row (of y) before after n
 told-of {row} of {before} {after} {n} e told = subst (λ z. Tells row (of z) before after n) e told
+
+-- the same of a call that changes what it was lent
+pub told-given :
+    {A B C : Type 0} {row : A → List ℕ} (of : B → Answer A) {result : Result B C} {x : B} {content : C}
+    {before after : List ℕ} {n : ℕ} → Gives result x content → Tells row (of x) before after n
+    → Tells row (of (result .answer)) before after n × (content ≡ result .content)
+told-given of (answer, same) told = (told-of of answer told, same)
 
 -- a value, and a refusal
 pub told-value :

@@ -9,9 +9,9 @@ use Rattle.capi.proofs.bankplan_pattern_part.Tie as tie
 
 returns : tie.Need-returns
 returns c =
-    let refused = c .before .before .enum-told .given .1 in
-    told-refusal refused (ap ofOutcome (rw (c .before .before .before .before .part-outcome .ensures) at refused))
-    (c .tell-outcome .ensures)
+    let t = c .before .before in
+    let refused = t .enum-told .given .1 in
+    told-refusal refused (ap ofOutcome (rw (t .before .before .part-outcome .ensures) at refused)) (c .tell-outcome .ensures)
 
 returns-2 : tie.Need-returns-2
 returns-2 c =

@@ -9,17 +9,18 @@ use Rattle.capi.proofs.bankplan_read_book.Tie as tie
 
 returns : tie.Need-returns
 returns c =
-    let told = c .before .before .enum-told .given .1 in
-    let refused = rw (c .before .before .before .before .read-book .ensures) at told in (
-      told-refusal told (reading-refused _ refused) (c .tell-outcome .ensures),
+    let t = c .before .before in
+    let refused = rw (t .before .before .read-book .ensures) at (t .enum-told .given .1) in (
+      told-refusal (t .enum-told .given .1) (reading-refused _ refused) (c .tell-outcome .ensures),
       (kept-refused _ flatColumns _ refused, (kept-refused _ flatRows _ refused, kept-refused _ flatUsed _ refused)),
     )
 
 returns-2 : tie.Need-returns-2
 returns-2 c =
     let p = c .before .before in
-    let e = p .before .before .before .before .before .before .read-book .ensures in
-    let done = rw e at (p .before .before .before .before .enum-told2 .given .1) in (
+    let t = p .before .before .before .before in
+    let e = t .before .before .read-book .ensures in
+    let done = rw e at (t .enum-told2 .given .1) in (
       told-value (reading-done _ done) (rw e refl),
       (
         (rw e at (p .put-pixels .ensures .0)) ∙ filled-read _ flatColumns _ done,

@@ -34,9 +34,6 @@ returns-2 c = count-not-taken (record-of (c .before .before)) (λ h. omega arith
 loop-holds : tie.Need-loop-holds Inv-loop μ-loop
 loop-holds c = (omega arith, λ m h. absurd (omega arith))
 
-pattern-of-requires : tie.Need-pattern-of-requires Inv-loop μ-loop
-pattern-of-requires c κs = omega arith
-
 -- in a turn, where the n-th pattern was tested
 module _ (c : tie.After-pattern-outcome Inv-loop μ-loop) where
   abbrev head : tie.At-loop Inv-loop μ-loop
@@ -57,12 +54,6 @@ returns-3 c =
     let t = c .before .before in
     pattern-not-taken (record-of (start t)) (t .pattern-outcome .ensures) (pattern-is t) (head t .loop .inv .1) (omega arith)
     (omega arith) (c .enum-told .given .1)
-
-add-n : tie.Need-add-n Inv-loop μ-loop
-add-n c = omega arith
-
-loop-less : tie.Need-loop-less Inv-loop μ-loop
-loop-less c = omega arith
 
 loop-again : tie.Need-loop-again Inv-loop μ-loop
 loop-again c =
@@ -87,11 +78,8 @@ tested-of-spec =
     returns
     returns-2
     loop-holds
-    pattern-of-requires
-    (λ c κs. search needs) (λ c. search needs)
+    (λ c κs. omega arith) (λ c κs. search needs) (λ c. search needs)
     returns-3
-    (λ c. search needs)
-    add-n
-    loop-less
+    (λ c. search needs) (λ c. omega arith) (λ c. omega arith)
     loop-again
     returns-4)

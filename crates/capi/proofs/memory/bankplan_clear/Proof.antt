@@ -3,7 +3,7 @@
 use borrow.Author.Needs.{needs}
 use Rattle.scope.specs.Plans.{plan}
 use Rattle.scope.specs.Numbers.{ofOutcome}
-use Rattle.capi.proofs.Passed.{told-of}
+use Rattle.capi.proofs.Passed.{told-given}
 use Rattle.capi.proofs.memory.bankplan_clear.Statement.{statement}
 use Rattle.capi.proofs.memory.bankplan_clear.Tie as tie
 
@@ -11,7 +11,7 @@ returns : tie.Need-returns
 unfolding plan
 returns c =
     let b = c .before .before .before .before in
-    (told-of ofOutcome (b .clear .ensures .0) (c .tell-outcome .ensures), b .clear .ensures .1)
+    told-given ofOutcome (b .clear .ensures) (c .tell-outcome .ensures)
 
 pub bankplan-clear-spec : {M : Type 1} → statement M
 bankplan-clear-spec = tie.close (tie.spec (λ c κs. search needs) (λ c κs. search needs) (λ c. search needs) returns)

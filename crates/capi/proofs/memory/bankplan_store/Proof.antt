@@ -4,7 +4,7 @@ use borrow.Author.Needs.{needs}
 use Rattle.scope.specs.Plans.{plan}
 use Rattle.scope.specs.Numbers.{ofOutcome}
 use Rattle.scope.proofs.PlanFacts.{pixel-handed}
-use Rattle.capi.proofs.Passed.{told-of}
+use Rattle.capi.proofs.Passed.{told-given}
 use Rattle.capi.proofs.memory.bankplan_store.Statement.{statement}
 use Rattle.capi.proofs.memory.bankplan_store.Tie as tie
 
@@ -13,8 +13,7 @@ unfolding plan
 returns c =
     let b = c .before .before .before .before in
     let f = b .before .before .before .fits in
-    let stored = rw (pixel-handed (f .i) (f .j)) at (b .store .ensures) in
-    (told-of ofOutcome (stored .0) (c .tell-outcome .ensures), stored .1)
+    told-given ofOutcome (rw (pixel-handed (f .i) (f .j)) at (b .store .ensures)) (c .tell-outcome .ensures)
 
 pub bankplan-store-spec : {M : Type 1} → statement M
 bankplan-store-spec = tie.close (tie.spec (λ c κs. search needs) (λ c κs. search needs) (λ c. search needs) returns)

@@ -24,10 +24,10 @@ sizes-put xs i j p q e f =
 
 returns : tie.Need-returns
 returns c =
-    let v = c .before .before .before .l .given in
-    let fits = c .before .before .known-told .given in
-    told-value (ap ofLocated (v .1))
-    (sizes-put (c .before .before .before .before .before .args .answer .now) (v .0 .0) (v .0 .1 .0) (fits .0 .1)
+    let k = c .before .before in
+    let v = k .before .l .given in
+    let fits = k .known-told .given in
+    told-value (ap ofLocated (v .1)) (sizes-put (k .before .before .before .args .answer .now) (v .0 .0) (v .0 .1 .0) (fits .0 .1)
     (fits .1 .0 .1) (c .before .size .ensures) (c .size2 .ensures))
 
 returns-2 : tie.Need-returns-2

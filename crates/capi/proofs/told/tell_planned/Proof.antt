@@ -8,7 +8,7 @@ use Rattle.capi.proofs.told.tell_planned.Statement.{statement}
 use Rattle.capi.proofs.told.tell_planned.Tie as tie
 
 returns : tie.Need-returns
-returns c = told-value (ap ofPlanned (c .before .before .before .before .p .given .1)) refl
+returns c = let s = c .before .before in told-value (ap ofPlanned (s .before .before .p .given .1)) refl
 
 returns-2 : tie.Need-returns-2
 returns-2 c = told-turned-down (ap ofPlanned (c .before .before .before .p2 .given .1)) (c .tell-refusal .ensures)

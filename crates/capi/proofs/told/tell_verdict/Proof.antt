@@ -8,13 +8,13 @@ use Rattle.capi.proofs.told.tell_verdict.Statement.{statement}
 use Rattle.capi.proofs.told.tell_verdict.Tie as tie
 
 returns : tie.Need-returns
-returns c = told-value (ap ofVerdict (c .before .before .before .before .before .v .given .1)) refl
+returns c = let s = c .before .before .before in told-value (ap ofVerdict (s .before .before .v .given .1)) refl
 
 returns-2 : tie.Need-returns-2
-returns-2 c = told-turned-down (ap ofVerdict (c .before .before .before .v2 .given .1)) (c .tell-refusal .ensures)
+returns-2 c = let t = c .before .before in told-turned-down (ap ofVerdict (t .before .v2 .given .1)) (c .tell-refusal .ensures)
 
 returns-3 : tie.Need-returns-3
-returns-3 c = told-turned-down (ap ofVerdict (c .before .before .before .v3 .given .1)) (c .tell-refusal2 .ensures)
+returns-3 c = let t = c .before .before in told-turned-down (ap ofVerdict (t .before .v3 .given .1)) (c .tell-refusal2 .ensures)
 
 pub tell-verdict-spec : {M : Type 1} → statement M
 tell-verdict-spec =
