@@ -57,13 +57,8 @@ module _ (book : Book) (p : Plan) (W H : ℕ) (mem out : List ℕ) where
       → Steps call (Demand.loaded (ofLoaded r)) mem out
   unfolding Demand.reply Demand.after
   load-steps {i} {j} e f g answer =
-      rw e (
-        record {
-          replied = ap (λ l. Demand.loaded (ofLoaded l)) (answer ∙ ap (Calls.load p W H mem) (entry-handed w16 i j f g));
-          left = refl;
-        },
-        refl,
-      )
+      let same = answer ∙ ap (Calls.load p W H mem) (entry-handed w16 i j f g) in
+      rw e (record { replied = ap (λ l. Demand.loaded (ofLoaded l)) same; left = refl }, refl)
 
   fetch-steps :
       {call : Call} {n : ℕ} {i j : ℤ} {r : Counted} {end : List ℕ} → call ≡ Fetch n i j → mag i < 2 ^ 15 → mag j < 2 ^ 15
@@ -76,22 +71,26 @@ module _ (book : Book) (p : Plan) (W H : ℕ) (mem out : List ℕ) where
 
 returns : tie.Need-returns
 returns c =
-    let t = c .before .before .before .before in
-    let v = t .before .call .given in
-    store-steps _ _ _ _ _ _ (v .1) (t .known-told .given .0 .1) (t .known-told .given .1 .0 .1) (c .before .before .store .ensures)
+    let s = c .before .before in
+    let t = s .before .before in
+    let fits = t .known-told .given in
+    store-steps _ _ _ _ _ _ (t .before .call .given .1) (fits .0 .1) (fits .1 .0 .1) (s .store .ensures)
 
 returns-2 : tie.Need-returns-2
-returns-2 c = clear-steps _ _ _ _ _ _ (c .before .before .before .before .before .call2 .given .1) (c .before .before .clear .ensures)
+returns-2 c = let k = c .before .before in clear-steps _ _ _ _ _ _ (k .before .before .before .call2 .given .1) (k .clear .ensures)
 
 returns-3 : tie.Need-returns-3
 returns-3 c =
     let t = c .before .before in
-    load-steps _ _ _ _ _ _ (t .before .call3 .given .1) (t .known-told3 .given .0 .1) (t .known-told3 .given .1 .0 .1) (c .load .ensures)
+    let fits = t .known-told3 .given in
+    load-steps _ _ _ _ _ _ (t .before .call3 .given .1) (fits .0 .1) (fits .1 .0 .1) (c .load .ensures)
 
 returns-4 : tie.Need-returns-4
 returns-4 c =
-    let t = c .before .before .before .before .before in
-    fetch-steps _ _ _ _ _ _ (t .before .call4 .given .1) (t .known-told4 .given .1 .0 .1) (t .known-told4 .given .1 .1 .0 .1) (c .before .before .fetch .ensures)
+    let f = c .before .before in
+    let t = f .before .before .before in
+    let fits = t .known-told4 .given in
+    fetch-steps _ _ _ _ _ _ (t .before .call4 .given .1) (fits .1 .0 .1) (fits .1 .1 .0 .1) (f .fetch .ensures)
 
 pub step-spec : {M : Type 1} → statement M
 step-spec =

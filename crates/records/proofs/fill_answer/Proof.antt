@@ -9,7 +9,7 @@ use borrow.Author.Needs.{needs}
 use Rattle.scope.specs.Search.{whenever, firstOf}
 use Rattle.scope.specs.Banks.{depthOf}
 use Rattle.scope.specs.Numbers.{planTest, sidesTest}
-use Rattle.scope.specs.Calls.{answered, depth}
+use Rattle.scope.specs.Calls.{depth}
 use Rattle.scope.specs.declared.Plan.{Plan}
 use Rattle.scope.specs.declared.Refusal.{Refusal}
 use Rattle.scope.specs.declared.Counted.{Counted}
@@ -65,13 +65,13 @@ module _ (p : Plan) (W H : ℕ) (inside : Bool) where
       one-outside e = refused Refusal.Outside (past-depth ∙ ap (λ (b : Bool). whenever (not b) Refusal.Outside) e)
 
 returns : tie.Need-returns
-returns c = no-depth _ _ _ _ (c .before .before .before .depth .ensures) _ (c .before .r .given .1)
+returns c = let r = c .before in no-depth _ _ _ _ (r .before .before .depth .ensures) _ (r .r .given .1)
 
 returns-2 : tie.Need-returns-2
-returns-2 c = all-inside _ _ _ _ (c .before .before .before .depth .ensures) (c .before .enum-told .given .1) (c .if1 .taken)
+returns-2 c = let t = c .before in all-inside _ _ _ _ (t .before .before .depth .ensures) (t .enum-told .given .1) (c .if1 .taken)
 
 returns-3 : tie.Need-returns-3
-returns-3 c = one-outside _ _ _ _ (c .before .before .before .depth .ensures) (c .before .enum-told .given .1) (c .if1 .left)
+returns-3 c = let t = c .before in one-outside _ _ _ _ (t .before .before .depth .ensures) (t .enum-told .given .1) (c .if1 .left)
 
 pub fill-answer-spec : {M : Type 1} → statement M
 fill-answer-spec = tie.close (tie.spec (λ c κs. search needs) (λ c. search needs) returns (λ c. search needs) returns-2 returns-3)

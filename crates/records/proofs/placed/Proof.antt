@@ -2,12 +2,11 @@
 -- Assumes nothing.
 use Prim.Native.Nat.{ℕ, _<_, _^_}
 use native.Mathlib.Omega.{arith}
-use mathlib.Core.Path.{_≡_, _∙_, subst}
+use mathlib.Core.Path.{_≡_, _∙_}
 use lib.Signed.{mag}
 use borrow.Author.Needs.{needs}
 use mir.Syntax.{w16}
 use mir.Val.{hbits}
-use Rattle.scope.specs.Plans.{Pixel}
 use Rattle.scope.specs.Calls.{bank, address, recordPixel}
 use Rattle.scope.specs.declared.Counted.{Counted}
 use Rattle.records.proofs.Placing.{record-pixel-handed, record-put, kept, address-small, no-bank, bank-small, is-placed}
@@ -27,10 +26,7 @@ module _ (c : tie.After-address) where
 
   address-given :
       c .address .result ≡ address (start .args .p) (start .args .w) (start .args .h) (recordPixel (start .args .r))
-  address-given =
-      subst (λ (v : Pixel). c .address .result ≡ address (start .args .p) (start .args .w) (start .args .h) v)
-      (record-pixel-handed (start .args .r) column-fits row-fits)
-      (c .address .ensures)
+  address-given = rw (record-pixel-handed (start .args .r) column-fits row-fits) at (c .address .ensures)
 
 -- it is u, and the bank was asked for
 module _ (c : tie.After-bank) where
@@ -45,15 +41,17 @@ module _ (c : tie.After-bank) where
 
   bank-given : c .bank .result ≡ bank (start addressed .args .p) (recordPixel (start addressed .args .r))
   bank-given =
-      subst (λ (v : Pixel). c .bank .result ≡ bank (start addressed .args .p) v)
-      (record-pixel-handed (start addressed .args .r) (column-fits addressed) (row-fits addressed))
-      (c .bank .ensures)
+      rw (record-pixel-handed (start addressed .args .r) (column-fits addressed) (row-fits addressed)) at (c .bank .ensures)
 
-  address-fits : u < 4294967296
-  address-fits = address-small _ _ _ _ (address-given addressed) u-given
+-- and was told
+module _ (c : tie.After-bank2) where
+  abbrev banked : tie.After-bank
+  banked = c .before .before
 
-  bank-fits : {k : ℕ} → c .bank .result ≡ Counted.Number k → k < 4294967296
-  bank-fits e = bank-small _ _ _ _ (address-given addressed) u-given bank-given e
+  both-fit : (c .bank2 .given .0 .0 < 4294967296) × (u banked < 4294967296)
+  both-fit =
+      let a = address-given (addressed banked) in
+      (bank-small _ _ _ _ a (u-given banked) (bank-given banked) (c .bank2 .given .1), address-small _ _ _ _ a (u-given banked))
 
 returns : tie.Need-returns
 returns c = kept _ _ _ _ (address-given (c .before .before)) (c .enum-told .given .1)
@@ -65,20 +63,17 @@ returns-2 c =
 
 -- each from both bounds, so that an exchange of the two numbers is refused where the record is returned
 cast-t11 : tie.Need-cast-t11
-cast-t11 c =
-    let b = c .before .before .before in
-    record { fits = omega (arith, bank-fits b (c .before .bank2 .given .1), address-fits b) }
+cast-t11 c = record { fits = omega (arith, both-fit (c .before)) }
 
 cast-t12 : tie.Need-cast-t12
-cast-t12 c =
-    let b = c .before .before .before in
-    record { fits = omega (arith, bank-fits b (c .before .bank2 .given .1), address-fits b) }
+cast-t12 c = record { fits = omega (arith, both-fit (c .before)) }
 
 returns-3 : tie.Need-returns-3
 returns-3 c =
-    let b = c .before .before .before in
-    record-put (start (addressed b) .args .r) _ _ (column-fits (addressed b)) (row-fits (addressed b))
-    ∙ is-placed _ _ _ _ (address-given (addressed b)) (u-given b) (bank-given b) (c .before .bank2 .given .1)
+    let b = banked (c .before) in
+    let a = addressed b in
+    record-put (start a .args .r) _ _ (column-fits a) (row-fits a)
+    ∙ is-placed _ _ _ _ (address-given a) (u-given b) (bank-given b) (c .before .bank2 .given .1)
 
 pub placed-spec : {M : Type 1} → statement M
 placed-spec =
