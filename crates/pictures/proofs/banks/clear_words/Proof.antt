@@ -18,17 +18,12 @@ abbrev μ-loop : tie.MeasureT-loop
 loop-holds : tie.Need-loop-holds Inv-loop μ-loop
 loop-holds c = (omega arith, filled-none _)
 
-mul-words : tie.Need-mul-words Inv-loop μ-loop
-mul-words c = omega (arith, c .before .loop .inv .1 .size)
-
-slice-write-words : tie.Need-slice-write-words Inv-loop μ-loop
-slice-write-words c = omega (arith, c .before .loop .inv .1 .size)
-
-add-e : tie.Need-add-e Inv-loop μ-loop
-add-e c = omega (arith, c .before .loop .inv .1 .size)
+-- in a turn the word that is written is in the slice
+in-slice : tie.Need-slice-write-words Inv-loop μ-loop
+in-slice c = omega (arith, c .before .loop .inv .1 .size)
 
 loop-again : tie.Need-loop-again Inv-loop μ-loop
-loop-again c = (omega (arith, c .before .loop .inv .1 .size), filled-more (c .before .loop .inv .1) refl)
+loop-again c = (omega arith, filled-more (c .before .loop .inv .1) refl)
 
 same-length : tie.Need-same-length Inv-loop μ-loop
 same-length c = c .before .loop .inv .1 .size
@@ -47,10 +42,9 @@ clear-words-spec =
     Inv-loop
     μ-loop
     loop-holds
-    mul-words
-    slice-write-words
-    add-e
-    (λ c. search needs)
+    (λ c. omega (arith, in-slice c))
+    in-slice
+    (λ c. omega (arith, in-slice c)) (λ c. search needs)
     loop-again
     same-length
     returns)

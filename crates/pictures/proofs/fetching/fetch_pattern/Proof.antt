@@ -30,9 +30,6 @@ module _ (c : tie.After-enum-told) where
       Started (foundBy (u .tested)) (u .count) (u .t) (u .p) (u .w) (u .h) (length (u .mem .now)) (u .n)
   begun = started _ _ _ _ _ _ _ _ (c .before .before .start-outcome .ensures) (c .enum-told .given .1)
 
-all-inside-requires : tie.Need-all-inside-requires
-all-inside-requires c κs = begun c .most
-
 -- whether every pixel is inside
 inside-answer :
     (c : tie.After-all-inside) →
@@ -61,8 +58,7 @@ fetch-pattern-spec =
     (tie.spec
     (λ c κs. search needs) (λ c. search needs)
     returns
-    (λ c. search needs)
-    all-inside-requires
+    (λ c. search needs) (λ c κs. begun c .most)
     returns-2
     deliver-requires
     (λ c. search needs)

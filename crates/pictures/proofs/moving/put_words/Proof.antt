@@ -43,15 +43,6 @@ loop-holds c = (omega arith, no-words _ _ _ _ _ _ _ _)
 array-copy-out-wrapped-to : tie.Need-array-copy-out-wrapped-to Inv-loop μ-loop
 array-copy-out-wrapped-to c = omega (arith, start (c .before) .pre .1)
 
-wrapped-to-requires : tie.Need-wrapped-to-requires Inv-loop μ-loop
-wrapped-to-requires c κs = omega (arith, picture (c .before .before))
-
-array-copy-out-wrapped-to-2 : tie.Need-array-copy-out-wrapped-to-2 Inv-loop μ-loop
-array-copy-out-wrapped-to-2 c = array-copy-out-wrapped-to (c .before .before)
-
-wrapped-to-requires-2 : tie.Need-wrapped-to-requires-2 Inv-loop μ-loop
-wrapped-to-requires-2 c κs = let w = c .before .before in omega (arith, picture (w .before .before))
-
 -- where the wrapped coordinates are known
 module _ (c : tie.After-wrapped-to2 Inv-loop μ-loop) where
   abbrev column : tie.After-wrapped-to Inv-loop μ-loop
@@ -106,9 +97,9 @@ put-words-spec =
     μ-loop
     loop-holds
     array-copy-out-wrapped-to
-    wrapped-to-requires
-    array-copy-out-wrapped-to-2
-    wrapped-to-requires-2
+    (λ c κs. omega (arith, picture (c .before .before)))
+    (λ c. array-copy-out-wrapped-to (c .before .before))
+    (λ c κs. let w = c .before .before in omega (arith, picture (w .before .before)))
     word-at-requires
     (λ c. search needs)
     slice-write-out
