@@ -115,8 +115,8 @@ module _ {X : Type 0} where
       (t : Option Refusal) (refused : Refusal → X) (x : X) (r : Refusal) → ((s : Refusal) → refused s ≡ refused r → s ≡ r)
       → (x ≡ refused r → ⊥) → answered t refused x ≡ refused r → t ≡ some r
   unfolding answered
-  answered-refused none refused x r told no-refusal e = absurd (no-refusal e)
-  answered-refused (some s) refused x r told no-refusal e = ap some (told s e)
+  answered-refused none refused x r says no-refusal e = absurd (no-refusal e)
+  answered-refused (some s) refused x r says no-refusal e = ap some (says s e)
 
 -- A call gives this answer and leaves this content.
 abbrev pub Gives : {X Y : Type 0} → Result X Y → X → Y → Type 0

@@ -57,7 +57,7 @@ module _ (ts : List (List Pixel)) where
   unfolding trial plan
   trial-none q e s = true-not-false (sym (s .suiting) ∙ whenever-none (suitsAll q ts) q e)
 
-  -- the same, where a and d are told by the count
+  -- the same, where a and d come with the count
   trial-of-count :
       (a d : ℕ) (q : Plan) → 1 ≤ d → Suiting ts q → banks q ≡ a * d → q .d ≡ d → trial ts a d (q .b) ≡ none → ⊥
   unfolding banks

@@ -27,7 +27,7 @@ same-map {B} f g (x ∷ xs) h =
 
 -- the tests t and s find the same
 module _ {t s : Option Refusal} (same : t ≡ s) where
-  -- what is given where they find nothing may be told otherwise
+  -- what is given where they find nothing may be worked out otherwise
   same-answers : {A : Type 0} (refused : Refusal → A) {x y : A} → (s ≡ none → x ≡ y) → answered t refused x ≡ answered s refused y
   unfolding answered
   same-answers refused {x} {y} h = ap (λ (u : Option Refusal). answered u refused x) same ∙ by-test s h

@@ -22,7 +22,7 @@ use Rattle.pictures.proofs.PictureTests.{bank-shows}
 
 -- Bank k has `deep` words. There are at most 1024 banks of at most 2^24 words, so its end is at most 2^34, and it is in the
 -- memory.
-pub record BankTold (p : Plan) (W H : ℕ) (mem : List ℕ) (k deep : ℕ) : Type 0 where
+pub record BankIn (p : Plan) (W H : ℕ) (mem : List ℕ) (k deep : ℕ) : Type 0 where
   pub passed : wholeBankTest p W H (length mem) k ≡ none
   pub depth-is : depthOf p W H ≡ deep
   pub below : k < 1024
@@ -31,10 +31,10 @@ pub record BankTold (p : Plan) (W H : ℕ) (mem : List ℕ) (k deep : ℕ) : Typ
   pub end-in-memory : (k + 1) * deep ≤ length mem
 
 module _ {p : Plan} {W H : ℕ} {mem : List ℕ} {k deep : ℕ} where
-  pub bank-told :
-      {answer : Counted} → answer ≡ bankDepth p W H (length mem) k → answer ≡ Counted.Number deep → BankTold p W H mem k deep
+  pub bank-in :
+      {answer : Counted} → answer ≡ bankDepth p W H (length mem) k → answer ≡ Counted.Number deep → BankIn p W H mem k deep
   unfolding banks
-  bank-told is number =
+  bank-in is number =
       let (passed, depth-is) = bank-shows p W H (length mem) k is number in
       let (picture, there) = bank-test-iff p W H (length mem) k .0 passed in
       let below : k < 1024 = omega (arith, picture .plan .most) in
@@ -49,7 +49,7 @@ module _ {p : Plan} {W H : ℕ} {mem : List ℕ} {k deep : ℕ} where
       }
 
   -- The part is the bank's words, deep of them, from k × deep on.
-  module _ (told : BankTold p W H mem k deep) where
+  module _ (bank : BankIn p W H mem k deep) where
     abbrev part : List ℕ
     part = take ((k + 1) * deep - k * deep) (drop (k * deep) mem)
 
@@ -58,18 +58,18 @@ module _ {p : Plan} {W H : ℕ} {mem : List ℕ} {k deep : ℕ} where
 
     pub part-is-bank : part ≡ bankWords p W H mem k
     unfolding bankWords
-    part-is-bank = rw (size, told .depth-is)
+    part-is-bank = rw (size, bank .depth-is)
 
     length-of-part : length part ≡ deep
     length-of-part =
-        rw size (length-take-le deep (drop (k * deep) mem) (omega (arith, length-drop (k * deep) mem, told .end-in-memory)))
+        rw size (length-take-le deep (drop (k * deep) mem) (omega (arith, length-drop (k * deep) mem, bank .end-in-memory)))
 
     pub part-at-most : length part ≤ 16777216
-    part-at-most = rw length-of-part (told .deep-at-most)
+    part-at-most = rw length-of-part (bank .deep-at-most)
 
     -- the memory where the part comes back with 0 in each word
     pub part-cleared :
         {come : List ℕ} → come ≡ replicate (length part) 0
         → take (k * deep) mem ++ (come ++ drop ((k + 1) * deep - k * deep) (drop (k * deep) mem)) ≡ afterClear p W H mem k
     unfolding afterClear
-    part-cleared zeros = rw (zeros, length-of-part, size, drop-drop, told .depth-is)
+    part-cleared zeros = rw (zeros, length-of-part, size, drop-drop, bank .depth-is)

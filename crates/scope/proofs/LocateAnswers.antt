@@ -79,15 +79,15 @@ module _ (p : Plan) (W H k i : ℕ) (plan : isPlan p ≡ true) (sides : isSide W
       × (y ≡ cond none (pos 0) (pos (cellRow a d W k i % 32768)))
 
   module _ {t : Bool} {x y : ℤ} (given : Given (p .a - 1 + 1) (p .d - 1 + 1) t x y) where
-    told : Given (p .a) (p .d) t x y
-    told = let m = plan-means p plan in rw (sub-add-cancel (m .a-least), sub-add-cancel (m .d-least)) at given
+    known : Given (p .a) (p .d) t x y
+    known = let m = plan-means p plan in rw (sub-add-cancel (m .a-least), sub-add-cancel (m .d-least)) at given
 
     pub answer-lacking : t ≡ true → Refused Cell ≡ locate p W H k i
-    answer-lacking h = sym (no-cell (sym (told .0) ∙ h))
+    answer-lacking h = sym (no-cell (sym (known .0) ∙ h))
 
     pub answer-pixel : t ≡ false → PixelAt (toZ w16 (ofZ w16 x)) (toZ w16 (ofZ w16 y)) ≡ locate p W H k i
     answer-pixel h =
-        let there : lacking ≡ false = sym (told .0) ∙ h in
-        let column : x ≡ pos (cellColumn (p .a) (p .b) W k i % 32768) = told .1 ∙ rw there in
-        let row : y ≡ pos (cellRow (p .a) (p .d) W k i % 32768) = told .2 ∙ rw there in
+        let there : lacking ≡ false = sym (known .0) ∙ h in
+        let column : x ≡ pos (cellColumn (p .a) (p .b) W k i % 32768) = known .1 ∙ rw there in
+        let row : y ≡ pos (cellRow (p .a) (p .d) W k i % 32768) = known .2 ∙ rw there in
         rw (column, row, read-back (cellColumn (p .a) (p .b) W k i), read-back (cellRow (p .a) (p .d) W k i)) (sym (cell-given there))

@@ -43,7 +43,7 @@ module _ (c : tie.After-bank) where
   bank-given =
       rw (record-pixel-handed (start addressed .args .r) (column-fits addressed) (row-fits addressed)) at (c .bank .ensures)
 
--- and was told
+-- and was given
 module _ (c : tie.After-bank2) where
   abbrev banked : tie.After-bank
   banked = c .before .before

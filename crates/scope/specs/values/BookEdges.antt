@@ -84,7 +84,7 @@ reading-hold : Hold reading
 unfolding reading
 reading-hold = refl
 
--- Two conditions at once: the one that document 01 tests first is told, "in book order" and "left to right".
+-- Two conditions at once: the one that document 01 tests first is given, "in book order" and "left to right".
 bookOrders : List Row
 unfolding row refused finds checks writes reads two px
 bookOrders =

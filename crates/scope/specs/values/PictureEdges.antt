@@ -138,7 +138,7 @@ lists-hold : Hold lists
 unfolding lists
 lists-hold = refl
 
--- Two conditions at once: the one that document 01 tests first is told. 5000 is no side, and needs more memory than there is.
+-- Two conditions at once: the one that document 01 tests first is given. 5000 is no side, and needs more memory than there is.
 orders : List Row
 unfolding row refused finds checks done counted loaded located depth address locate load clear fillRecords plan px upTo recordAt store sum
 orders =

@@ -39,12 +39,6 @@ abbrev μ-loop : tie.MeasureT-loop
 loop-holds : tie.Need-loop-holds Inv-loop μ-loop
 loop-holds c = (omega arith, below-none _, none-seen _)
 
-array-copy-out-cell : tie.Need-array-copy-out-cell Inv-loop μ-loop
-array-copy-out-cell c = omega arith
-
-array-copy-out-cell-2 : tie.Need-array-copy-out-cell-2 Inv-loop μ-loop
-array-copy-out-cell-2 c = omega arith
-
 -- in a turn, at position e of the pattern t, where the pixel's cell is known
 module _ (c : tie.After-cell Inv-loop μ-loop) where
   abbrev head : tie.At-loop Inv-loop μ-loop
@@ -78,12 +72,6 @@ returns-2 c =
     let k = c .before .before in
     refused k (repeat-found (seen k) (cell-is k) 0 0 (c .before .if1 .left) (c .if2 .taken))
 
-add-e : tie.Need-add-e Inv-loop μ-loop
-add-e c = omega arith
-
-loop-less : tie.Need-loop-less Inv-loop μ-loop
-loop-less c = omega arith
-
 loop-again : tie.Need-loop-again Inv-loop μ-loop
 loop-again c =
     let k = c .before .before in
@@ -103,14 +91,10 @@ pixels-outcome-spec =
     Inv-loop
     μ-loop
     loop-holds
-    array-copy-out-cell
-    array-copy-out-cell-2
-    (λ c κs. search needs)
+    (λ c. omega arith) (λ c. omega arith) (λ c κs. search needs)
     returns
     (λ c. search needs)
     returns-2
-    (λ c. search needs)
-    add-e
-    loop-less
+    (λ c. search needs) (λ c. omega arith) (λ c. omega arith)
     loop-again
     returns-3)

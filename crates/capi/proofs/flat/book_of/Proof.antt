@@ -18,16 +18,10 @@ Inv-loop columns rows used count patterns₀ n₀ patterns n =
 abbrev μ-loop : tie.MeasureT-loop
 μ-loop columns rows used count patterns₀ n₀ patterns n = 16 - n
 
-pattern-of-requires : tie.Need-pattern-of-requires Inv-loop μ-loop
-pattern-of-requires c κs = omega arith
-
 loop-holds : tie.Need-loop-holds Inv-loop μ-loop
 loop-holds c =
     let first = replicate 16 (c .pattern-of .result) in
     (omega arith, refl, filled-more {xs = first} (filled-none first) (c .pattern-of .ensures))
-
-pattern-of-requires-2 : tie.Need-pattern-of-requires-2 Inv-loop μ-loop
-pattern-of-requires-2 c κs = omega arith
 
 loop-again : tie.Need-loop-again Inv-loop μ-loop
 loop-again c =
@@ -44,9 +38,8 @@ book-of-spec =
     (tie.spec
     Inv-loop
     μ-loop
-    pattern-of-requires
+    (λ c κs. omega arith)
     loop-holds
-    pattern-of-requires-2
-    (λ c. search needs) (λ c. search needs) (λ c. search needs) (λ c. search needs)
+    (λ c κs. omega arith) (λ c. search needs) (λ c. search needs) (λ c. search needs) (λ c. search needs)
     loop-again
     returns)

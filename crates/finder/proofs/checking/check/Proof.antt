@@ -43,7 +43,7 @@ module _ (x y : Pixel) where
   abbrev formTests : List (Option Refusal)
   formTests = dependentTest x y ∷ largeTest x y ∷ []
 
-  -- a normal form that is told is a plan
+  -- a normal form that is given is a plan
   form-is-plan : (p : Plan) → normal x y ≡ Planned.Plan p → isPlan p ≡ true
   unfolding normal
   form-is-plan p e =

@@ -60,17 +60,17 @@ returns-2 c = limit-refused _ _ (legal (c .before)) (λ h. omega (arith, c .if1 
 returns-3 : tie.Need-returns-3
 returns-3 c = limit-refused _ _ (legal (c .before .before)) (λ h. omega (arith, c .if2 .taken))
 
--- from past the limit's tests back to where the record's outcome is told
-abbrev told : tie.Else2 → tie.After-enum-told
-told c = c .before .before
+-- from past the limit's tests back to where the record's outcome is known
+abbrev tested : tie.Else2 → tie.After-enum-told
+tested c = c .before .before
 
 mark-book-requires : tie.Need-mark-book-requires
-mark-book-requires c κs = (legal (told (c .before)), refl)
+mark-book-requires c κs = (legal (tested (c .before)), refl)
 
 returns-4 : tie.Need-returns-4
 returns-4 c =
     let m = c .before .before .before in
-    let is-book = legal (told (m .before .before)) in
+    let is-book = legal (tested (m .before .before)) in
     c .least-plan .ensures .is _ is-book (m .mark-book .ensures) ∙ searched _ _ is-book (omega arith) (omega arith)
 
 pub find-spec : {M : Type 1} → statement M

@@ -17,11 +17,11 @@ use Rattle.scope.specs.declared.Refusal.{Refusal}
 use Rattle.checks.proofs.Chains.{Gives, value-given, refusal-given}
 use Rattle.pictures.specs.Places.{bankDepth}
 use Rattle.pictures.proofs.PictureTests.{bank-refusal-shows}
-use Rattle.pictures.proofs.WholeBanks.{BankTold, bank-told, part-cleared}
+use Rattle.pictures.proofs.WholeBanks.{BankIn, bank-in, part-cleared}
 use Rattle.pictures.proofs.banks.clear.Statement.{statement}
 use Rattle.pictures.proofs.banks.clear.Tie as tie
 
--- What the call answers and what stands in the memory, by the depth that is told.
+-- What the call answers and what stands in the memory, by the depth that is given.
 module _ (p : Plan) (W H : ℕ) (mem : List ℕ) (k : ℕ) where
   abbrev tests : Option Refusal
   tests = wholeBankTest p W H (length mem) k
@@ -30,31 +30,31 @@ module _ (p : Plan) (W H : ℕ) (mem : List ℕ) (k : ℕ) where
   zeroed = afterClear p W H mem k
 
   cleared :
-      {deep : ℕ} {content : List ℕ} → BankTold p W H mem k deep → content ≡ zeroed
+      {deep : ℕ} {content : List ℕ} → BankIn p W H mem k deep → content ≡ zeroed
       → Gives (clear p W H mem k) Outcome.Done content
   unfolding clear
-  cleared told e =
-      let (done, zeros) = value-given tests Outcome.Refused mem Outcome.Done zeroed (told .passed) in (done, e ∙ zeros)
+  cleared bank e =
+      let (done, zeros) = value-given tests Outcome.Refused mem Outcome.Done zeroed (bank .passed) in (done, e ∙ zeros)
 
   refused :
       {answer : Counted} {r : Refusal} → answer ≡ bankDepth p W H (length mem) k → answer ≡ Counted.Refused r
       → Gives (clear p W H mem k) (Outcome.Refused r) mem
   unfolding clear
-  refused {r} is told =
-      refusal-given tests Outcome.Refused mem Outcome.Done zeroed r (bank-refusal-shows p W H (length mem) k is told)
+  refused {r} is no-depth =
+      refusal-given tests Outcome.Refused mem Outcome.Done zeroed r (bank-refusal-shows p W H (length mem) k is no-depth)
 
--- the bank's depth was told
+-- the bank's depth was given
 module _ (c : tie.After-depth) where
   abbrev asked : tie.After-bank-depth
   asked = c .before .before
 
-  told : let u = asked .before .before .args in BankTold (u .p) (u .w) (u .h) (u .mem .now) (u .k) (c .depth .given .0 .0)
-  told = bank-told (asked .bank-depth .ensures) (c .depth .given .1)
+  bank : let u = asked .before .before .args in BankIn (u .p) (u .w) (u .h) (u .mem .now) (u .k) (c .depth .given .0 .0)
+  bank = bank-in (asked .bank-depth .ensures) (c .depth .given .1)
 
 returns : tie.Need-returns
 returns c =
     let w = c .before .before in
-    let d = told (w .before .before .before) in
+    let d = bank (w .before .before .before) in
     cleared _ _ _ _ _ d (part-cleared d (w .clear-words .ensures))
 
 returns-2 : tie.Need-returns-2
@@ -64,8 +64,8 @@ pub clear-spec : {M : Type 1} → statement M
 clear-spec =
     tie.close
     (tie.spec
-    (λ c κs. search needs) (λ c. search needs) (λ c. omega (arith, told (c .before))) (λ c. omega (arith, told (c .before)))
-    (λ c. omega (arith, told (c .before))) (λ c. omega (arith, told (c .before))) (λ c. search needs) (λ c. search needs)
-    (λ c. omega (arith, told (c .before))) (λ c κs. search needs) (λ c. search needs) (λ c. search needs)
+    (λ c κs. search needs) (λ c. search needs) (λ c. omega (arith, bank (c .before))) (λ c. omega (arith, bank (c .before)))
+    (λ c. omega (arith, bank (c .before))) (λ c. omega (arith, bank (c .before))) (λ c. search needs) (λ c. search needs)
+    (λ c. omega (arith, bank (c .before))) (λ c κs. search needs) (λ c. search needs) (λ c. search needs)
     returns
     returns-2)

@@ -16,11 +16,11 @@ use Rattle.scope.specs.declared.Refusal.{Refusal}
 use Rattle.checks.proofs.Chains.{answered-none, answered-some}
 use Rattle.pictures.specs.Places.{bankDepth}
 use Rattle.pictures.proofs.PictureTests.{bank-refusal-shows}
-use Rattle.pictures.proofs.WholeBanks.{BankTold, bank-told, part-is-bank, part-at-most}
+use Rattle.pictures.proofs.WholeBanks.{BankIn, bank-in, part-is-bank, part-at-most}
 use Rattle.pictures.proofs.banks.sum.Statement.{statement}
 use Rattle.pictures.proofs.banks.sum.Tie as tie
 
--- What the call answers, by the depth that is told.
+-- What the call answers, by the depth that is given.
 module _ (p : Plan) (W H : ℕ) (mem : List ℕ) (k : ℕ) where
   abbrev tests : Option Refusal
   tests = wholeBankTest p W H (length mem) k
@@ -29,33 +29,33 @@ module _ (p : Plan) (W H : ℕ) (mem : List ℕ) (k : ℕ) where
   total = Counted.Number (bankSum p W H mem k)
 
   summed :
-      {deep n : ℕ} → BankTold p W H mem k deep → n ≡ foldr _+_ 0 (take ((k + 1) * deep - k * deep) (drop (k * deep) mem))
+      {deep n : ℕ} → BankIn p W H mem k deep → n ≡ foldr _+_ 0 (take ((k + 1) * deep - k * deep) (drop (k * deep) mem))
       → Counted.Number n ≡ sum p W H mem k
   unfolding sum bankSum
-  summed told e =
-      ap Counted.Number (e ∙ ap (foldr _+_ 0) (part-is-bank told))
-      ∙ sym (answered-none tests Counted.Refused total (told .passed))
+  summed bank e =
+      ap Counted.Number (e ∙ ap (foldr _+_ 0) (part-is-bank bank))
+      ∙ sym (answered-none tests Counted.Refused total (bank .passed))
 
   refused :
       {answer : Counted} {r : Refusal} → answer ≡ bankDepth p W H (length mem) k → answer ≡ Counted.Refused r
       → Counted.Refused r ≡ sum p W H mem k
   unfolding sum
-  refused {r} is told =
-      sym (answered-some tests Counted.Refused total r (bank-refusal-shows p W H (length mem) k is told))
+  refused {r} is no-depth =
+      sym (answered-some tests Counted.Refused total r (bank-refusal-shows p W H (length mem) k is no-depth))
 
--- the bank's depth was told
+-- the bank's depth was given
 module _ (c : tie.After-depth) where
   abbrev asked : tie.After-bank-depth
   asked = c .before .before
 
-  told : let u = asked .before .before .args in BankTold (u .p) (u .w) (u .h) (u .mem .now) (u .k) (c .depth .given .0 .0)
-  told = bank-told (asked .bank-depth .ensures) (c .depth .given .1)
+  bank : let u = asked .before .before .args in BankIn (u .p) (u .w) (u .h) (u .mem .now) (u .k) (c .depth .given .0 .0)
+  bank = bank-in (asked .bank-depth .ensures) (c .depth .given .1)
 
 sum-words-requires : tie.Need-sum-words-requires
-sum-words-requires c κs = part-at-most (told (c .before .before))
+sum-words-requires c κs = part-at-most (bank (c .before .before))
 
 returns : tie.Need-returns
-returns c = summed _ _ _ _ _ (told (c .before .before .before)) (c .sum-words .ensures)
+returns c = summed _ _ _ _ _ (bank (c .before .before .before)) (c .sum-words .ensures)
 
 returns-2 : tie.Need-returns-2
 returns-2 c = let d = c .before in refused _ _ _ _ _ (d .before .before .bank-depth .ensures) (d .depth2 .given .1)
@@ -64,9 +64,9 @@ pub sum-spec : {M : Type 1} → statement M
 sum-spec =
     tie.close
     (tie.spec
-    (λ c κs. search needs) (λ c. search needs) (λ c. omega (arith, told (c .before))) (λ c. omega (arith, told (c .before)))
-    (λ c. omega (arith, told (c .before))) (λ c. omega (arith, told (c .before))) (λ c. search needs) (λ c. search needs)
-    (λ c. omega (arith, told (c .before)))
+    (λ c κs. search needs) (λ c. search needs) (λ c. omega (arith, bank (c .before))) (λ c. omega (arith, bank (c .before)))
+    (λ c. omega (arith, bank (c .before))) (λ c. omega (arith, bank (c .before))) (λ c. search needs) (λ c. search needs)
+    (λ c. omega (arith, bank (c .before)))
     sum-words-requires
     (λ c. search needs)
     returns

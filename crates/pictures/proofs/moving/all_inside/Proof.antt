@@ -44,7 +44,7 @@ loop-holds c = (omega arith, none-inside _ _ _ _)
 array-copy-out-is-within : tie.Need-array-copy-out-is-within Inv-loop μ-loop
 array-copy-out-is-within c = omega (arith, start (c .before) .pre)
 
--- what the test of the column told
+-- what the test of the column says
 module _ (c : tie.After-is-within Inv-loop μ-loop) where
   abbrev turn : tie.In-loop Inv-loop μ-loop
   turn = c .before .before

@@ -105,25 +105,25 @@ module _ (p : Plan) (W H words : ℕ) (v : Pixel) where
 
 -- the picture's depth is n, and the pixel's address was asked for
 module _ (c : tie.After-address) where
-  abbrev told : tie.After-answer
-  told = c .before .before
+  abbrev known : tie.After-answer
+  known = c .before .before
 
   abbrev start : tie.Start
-  start = told .before .before .before
+  start = known .before .before .before
 
   abbrev pixel : Pixel
   pixel = at (start .args .i) (start .args .j)
 
   abbrev n : ℕ
-  n = told .answer .given .0 .0
+  n = known .answer .given .0 .0
 
   depth-given :
-      told .before .before .picture-depth .result
+      known .before .before .picture-depth .result
       ≡ pictureDepth (start .args .p) (start .args .w) (start .args .h) (start .args .words)
-  depth-given = told .before .before .picture-depth .ensures
+  depth-given = known .before .before .picture-depth .ensures
 
-  n-given : told .before .before .picture-depth .result ≡ Counted.Number n
-  n-given = told .answer .given .1
+  n-given : known .before .before .picture-depth .result ≡ Counted.Number n
+  n-given = known .answer .given .1
 
   address-given : c .address .result ≡ address (start .args .p) (start .args .w) (start .args .h) pixel
   address-given = c .address .ensures ∙ ap (address _ _ _) (pixel-handed (start .fits .i) (start .fits .j))

@@ -147,8 +147,8 @@ module _ (g : Lent) where
   entry m = placedIf (g .pl) (g .wd) (g .ht) (getD (g .ys) m noRecord)
 
   -- the answer and the final records are those of the definition
-  abbrev pub Told : Outcome → List PixelRecord → Type 0
-  Told y zs = Gives (fillRecords (g .pl) (g .wd) (g .ht) (g .ys)) y zs
+  abbrev pub AsDefined : Outcome → List PixelRecord → Type 0
+  AsDefined y zs = Gives (fillRecords (g .pl) (g .wd) (g .ht) (g .ys)) y zs
 
 -- ---- the callees' contracts
 module _ {M : Type 1} (𝓤 : URA M) (H : Heap 𝓤) (A : Atoms 𝓤) (mem : Memory → SProp 𝓤) (run : Routine → Fun 𝓤) where
@@ -206,7 +206,7 @@ module _ {M : Type 1} (𝓤 : URA M) (H : Heap 𝓤) (A : Atoms 𝓤) (W : Given
       qed W [] ∵ nothing ! $ owned ! bool (Is bool) (bool-makes 𝓤 H A W) z (vbool z ∷ []) refl $ fjoin ! $ use1 W (‵ (owns (P.the-row ∷ u32 ∷ u32 ∷ bool ∷ []) (g .pl, (g .wd, (g .ht, (z, tt)))) (vp g ∷ [], (vint w32 (g .wd) ∷ [], (vint w32 (g .ht) ∷ [], (vbool z ∷ [], tt)))))) (given-first bool z (vbool z ∷ [])) $ nothing ! $ join ! $ frame ! $ done !
 
   -- the walk ends: the slice is owned at its last records
-  pub exits : (y : Outcome) (v : Val) → Is O.the-row y (v ∷ []) → (zs : List PixelRecord) → Told g y zs → length zs ≡ n g
+  pub exits : (y : Outcome) (v : Val) → Is O.the-row y (v ∷ []) → (zs : List PixelRecord) → AsDefined g y zs → length zs ≡ n g
       → ent 𝓤 (⋆ 𝓤 H A (‵ (fobs (g .γ) (codedHoleys R .code (heres R zs))) ∷ ‵ (fbor (g .κ) (Held R (length zs) (g .b) (g .o) (g .γ))) ∷ ‵ (flft (g .κ) (g .q)) ∷ [])) (Post 𝓤 H A mem run g v)
   exits y v is zs e l =
       qed W (‵ (fobs (g .γ) (codedHoleys R .code (heres R zs))) ∷ ‵ (fbor (g .κ) (Held R (length zs) (g .b) (g .o) (g .γ))) ∷ ‵ (flft (g .κ) (g .q)) ∷ []) ∵

@@ -63,7 +63,7 @@ use package.mir.Syntax.{Opd as Operand, opdTrue, opdFalse, seq, call, return}
 use prog.Wp.{returns as returned}
 use types.Kit.{Post as Ends, Go, post}
 use types.Run.{Opd}
-use Rattle.records.proofs.fill_records.Proof.Frame.{decide, is-true, is-false, not-not, R, τS, τR, τP, τO, τ32, τ64, mach, Lent, n, s, vp, Ready, entry, Told, Tested, Placed, Answered, tested-of, placed-of, answered-of, Post, to-tested, to-placed, to-answered, goes-tested, goes-placed, goes-answered, exits}
+use Rattle.records.proofs.fill_records.Proof.Frame.{decide, is-true, is-false, not-not, R, τS, τR, τP, τO, τ32, τ64, mach, Lent, n, s, vp, Ready, entry, AsDefined, Tested, Placed, Answered, tested-of, placed-of, answered-of, Post, to-tested, to-placed, to-answered, goes-tested, goes-placed, goes-answered, exits}
 
 -- the last statement of the first loop's turn
 abbrev more : Body
@@ -135,7 +135,7 @@ module _ {M : Type 1} (𝓤 : URA M) (H : Heap 𝓤) (A : Atoms 𝓤) (W : Given
   Turned₂ t = afterTurn 𝓤 H (Below 𝓤 H A (Nearer′ g) At₂ t) (afterBlock 𝓤 H (afterSeq 𝓤 H (Wp 𝓤 H C Λ En mir.t-5 (atReturn 𝓤 H En (Post 𝓤 H A mem run g))) (atReturn 𝓤 H En (Post 𝓤 H A mem run g))))
 
   -- the function has returned: its locals are freed
-  freed : (y : Outcome) (v : Val) → Is O.the-row y (v ∷ []) → (zs : List PixelRecord) → Told g y zs → length zs ≡ n g → Sq W (‵ (fobs (g .γ) (codedHoleys R .code (heres R zs))) ∷ ‵ (fbor (g .κ) (Held R (length zs) (g .b) (g .o) (g .γ))) ∷ ‵ (flft (g .κ) (g .q))
+  freed : (y : Outcome) (v : Val) → Is O.the-row y (v ∷ []) → (zs : List PixelRecord) → AsDefined g y zs → length zs ≡ n g → Sq W (‵ (fobs (g .γ) (codedHoleys R .code (heres R zs))) ∷ ‵ (fbor (g .κ) (Held R (length zs) (g .b) (g .o) (g .γ))) ∷ ‵ (flft (g .κ) (g .q))
       ∷ ‵ (froom τO l₀ 0) ∷ ‵ (froom τP l₁ 0) ∷ ‵ (froom τ32 l₂ 0) ∷ ‵ (froom τ32 l₃ 0) ∷ ‵ (froom τS l₄ 0) ∷ ‵ (froom τ64 l₅ 0) ∷ ‵ (froom τR l₆ 0) ∷ ‵ (froom τR l₇ 0) ∷ ‵ (froom τ64 l₈ 0) ∷ ‵ (froom tyBool l₉ 0) ∷ ‵ (froom tyPtr l₁₀ 0) ∷ ‵ (froom τR l₁₁ 0) ∷ ‵ (froom tyBool l₁₂ 0) ∷ ‵ (froom τ64 l₁₃ 0) ∷ ‵ (froom tyBool l₁₄ 0) ∷ ‵ (froom tyPtr l₁₅ 0) ∷ ‵ (froom τR l₁₆ 0) ∷ ‵ (froom tyPtr l₁₇ 0)
       ∷ dying) (frees En (prop (Post 𝓤 H A mem run g v)))
   freed y v is zs e l =
@@ -143,7 +143,7 @@ module _ {M : Type 1} (𝓤 : URA M) (H : Heap 𝓤) (A : Atoms 𝓤) (W : Given
       free0 ! $ by ! (exits 𝓤 H A W mem run g y v is zs e l)
 
   -- the answer is asked for, the borrow is closed at cs, and the function returns
-  ends : (z : Bool) (cs : List PixelRecord) (i : ℕ) → length cs ≡ n g → ((y : Outcome) → y ≡ fillAnswer (g .pl) (g .wd) (g .ht) z → Told g y cs)
+  ends : (z : Bool) (cs : List PixelRecord) (i : ℕ) → length cs ≡ n g → ((y : Outcome) → y ≡ fillAnswer (g .pl) (g .wd) (g .ht) z → AsDefined g y cs)
       → (e : Operand) (Q : Ends 𝓤 H) → post 𝓤 H Q returned ≡ atReturn 𝓤 H En (Post 𝓤 H A mem run g) returned → Opd (Go {0}) W (raw (Answered 𝓤 H A mem run .pre (to-answered 𝓤 H A mem run g z)) ∷ At cs i) En e (vbool z)
       → Sq W (At cs i) (runs C Λ En (seq (call #records·fill-answer (copy (place 1 []) ∷ copy (place 2 []) ∷ copy (place 3 []) ∷ e ∷ []) (place 0 [])) return) Q)
   ends z cs i l gives e Q stops literal =
@@ -218,7 +218,7 @@ module _ {M : Type 1} (𝓤 : URA M) (H : Heap 𝓤) (A : Atoms 𝓤) (W : Given
       exec ! C Λ En mir.t-5 (atRet En (Post 𝓤 H A mem run g)) $ forget ! 17 refl $ forget ! 18 refl $
       ends true (t .1) (t .0) (t .3 .size) (λ y said. (said ∙ given .0, filled-all (t .3) (nltb→le (t .0) (n g) over) ∙ given .1)) opdTrue (atRet En (Post 𝓤 H A mem run g)) refl (true-lit !)
     where
-      given : Told g (fillAnswer (g .pl) (g .wd) (g .ht) true) (gather 0 (n g) (entry g))
+      given : AsDefined g (fillAnswer (g .pl) (g .wd) (g .ht) true) (gather 0 (n g) (entry g))
       given = all-filled (g .pl) (g .wd) (g .ht) (g .ys) each
 
   turns₂ : ((m : ℕ) → m < (n g) → Ready g m) → (t : Done g) → Sq W (At₂ t) (runs C Λ En mir.turn-2 (anyQ (Turned₂ t)))
@@ -264,7 +264,7 @@ module _ {M : Type 1} (𝓤 : URA M) (H : Heap 𝓤) (A : Atoms 𝓤) (W : Given
       lt : i < (n g)
       lt = ltb→lt i (n g) less
 
-      bad : isPlaceable (g .pl) (g .wd) (g .ht) h ≡ false → Told g (fillAnswer (g .pl) (g .wd) (g .ht) false) (g .ys)
+      bad : isPlaceable (g .pl) (g .wd) (g .ht) h ≡ false → AsDefined g (fillAnswer (g .pl) (g .wd) (g .ht) false) (g .ys)
       bad = none-filled (g .pl) (g .wd) (g .ht) (g .ys) i lt
 
       next : isPlaceable (g .pl) (g .wd) (g .ht) h ≡ true → Checked g

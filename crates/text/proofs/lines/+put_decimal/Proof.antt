@@ -51,12 +51,6 @@ module _ (t : ℕ) (c : lts.Joined1 (below t, reads.Post) (at t) reads.Post) whe
       PutTo (decimal (s .n)) (c .if1 .at + 1) (s .out .now) (set (c .if1 .out) (c .if1 .at) (lastDigit (s .n)))
   all-digits = last-put but-last
 
-add-out : (t : ℕ) → lts.Need-add-out (below t, reads.Post) (at t) reads.Post
-add-out t c = omega arith
-
-cast-out : (t : ℕ) → lts.Need-cast-out (below t, reads.Post) (at t) reads.Post
-cast-out t c = omega arith
-
 slice-write-out : (t : ℕ) → lts.Need-slice-write-out (below t, reads.Post) (at t) reads.Post
 slice-write-out t c = room-for-last (but-last t c)
 
@@ -78,8 +72,7 @@ pub +put-decimal-spec : {M : Type 1} → statement M
     (at t)
     reads.Post
     (put-decimal-requires t)
-    (add-out t)
-    (cast-out t)
+    (λ c. omega arith) (λ c. omega arith)
     (slice-write-out t)
     (add-result t)
     (same-length t)
