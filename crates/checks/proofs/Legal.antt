@@ -40,6 +40,14 @@ pub write-test-iff :
     ↔ (IsBook book × (length (bookBytes book) ≤ room))
 write-test-iff book room = test-before (book-legal-iff book) (last-test (output-enough-iff (length (bookBytes book)) room)) .iff
 
+-- the tests of a record list, and of the address of one pixel: a plan, the sides, and every pixel inside
+pub fill-test-iff :
+    (p : Plan) (W H : ℕ) (vs : List Pixel)
+    → (firstOf (planTest p ∷ sidesTest W H ∷ outsideTest W H vs ∷ []) ≡ none)
+    ↔ (IsPlan p × ((IsSide W × IsSide H) × AllInside W H vs))
+fill-test-iff p W H vs =
+    test-before (plan-legal-iff p) (test-before (sides-legal-iff W H) (last-test (all-inside-iff W H vs))) .iff
+
 record-answers : (book : Book) → IsBook book → ofOutcome (recordOutcome book) ≡ value tt
 unfolding recordOutcome
 record-answers book legal =
@@ -79,8 +87,7 @@ unfolding address
 address-answers p W H v plan w h inside =
     ap ofCounted
     (answered-none _ Counted.Refused (Counted.Number (addressOf p W H v))
-    (test-before (plan-legal-iff p) (test-before (sides-legal-iff W H) (last-test (all-inside-iff W H (v ∷ [])))) .iff .1
-    (plan, ((w, h), one-inside W H v inside))))
+    (fill-test-iff p W H (v ∷ []) .1 (plan, ((w, h), one-inside W H v inside))))
 
 -- A legal call, of the test of a record, the writer or plans, gives its value.
 pub legal-calls-answer : LegalCallsAnswer

@@ -1,19 +1,20 @@
 -- Each pixel of a picture of any size has a word of its own: bank and address by naturals, and the reverse map undoes them.
 -- Assumes nothing.
-use Prim.Native.Nat.{ℕ, _+_, _*_, _/_, _%_, _<_}
+use Prim.Native.Nat.{ℕ, _+_, _*_, _/_, _%_, _≤_, _<_}
 use mathlib.Core.Path.{_≡_, refl, sym, _∙_, ap}
 use mathlib.Core.List.{[], _∷_}
 use native.Mathlib.Omega.{arith}
-use native.Mathlib.Nat.{div-add-mod', mod-lt, div-lt-iff-lt-mul, mul-comm}
+use native.Mathlib.Nat.{div-add-mod', mod-lt, div-lt-iff-lt-mul, mul-comm, mul-le-mul, le-trans}
 use lib.IntN.{pos, negsuc, _+ℤ_}
 use Rattle.integers.specs.Division.{floorDiv, ceilDiv}
 use Rattle.integers.proofs.Ring.{ring, linear, _·_, reify}
 use Rattle.integers.proofs.Divisions.{quotient-of-pos, remainder-of-pos, remainder-is, ceiling-division}
 use Rattle.scope.specs.Plans.{Pixel, banks}
 use Rattle.scope.specs.Banks.{quotient, remainder, bankOf, across, addressOf, depthOf, wordOf, pixelOf}
-use Rattle.scope.specs.promises.Meaning.{IsPlan, Inside}
+use Rattle.scope.specs.promises.Meaning.{IsPlan, IsSide, Inside}
 use Rattle.scope.specs.promises.PicturePromises.{PixelsHaveWords}
 use Rattle.scope.specs.declared.Plan.{Plan}
+use Rattle.scope.proofs.Ceilings.{ceiling-at-most}
 use Rattle.integers.proofs.Digits.{upper-digit, lower-digit, digits-below}
 use Rattle.lattice.proofs.SameBank.{lap, lane, remainder-of-bank, lane-of-bank, column-division, bank-below-count}
 
@@ -105,6 +106,12 @@ module _ (p : Plan) (plan : IsPlan p) {W H : ℕ} {v : Pixel} (u : Inside W H v)
 
   pixel-of-word : pixelOf p W H (wordOf p W H v / depthOf p W H) (wordOf p W H v % depthOf p W H) ≡ v
   pixel-of-word = rw (bank-of-word, address-of-word) reverse-undoes
+
+-- The depth of a picture is at most 4096 × 4096.
+pub depth-at-most : (p : Plan) (W H : ℕ) → IsPlan p → IsSide W → IsSide H → depthOf p W H ≤ 4096 * 4096
+unfolding depthOf across
+depth-at-most p W H plan (_, W-most) (_, H-most) =
+    mul-le-mul (le-trans (ceiling-at-most W (p .a) (plan .a-least)) W-most) (le-trans (ceiling-at-most H (p .d) (plan .d-least)) H-most)
 
 -- Each pixel of a picture has a word of its own in the memory.
 pub pixels-have-words : PixelsHaveWords

@@ -9,9 +9,9 @@ use mathlib.Core.List.{List, [], _∷_, List·Memᴰ·head}
 use Rattle.integers.specs.Gcd.{Multiple}
 use Rattle.scope.specs.Search.{firstOf}
 use Rattle.scope.specs.Plans.{Pixel, pixels, patternAt, banks, suits}
-use Rattle.scope.specs.Numbers.{planTest, sidesTest, memoryTest, suitsTest, outsideTest}
+use Rattle.scope.specs.Numbers.{planTest, sidesTest, memoryTest, suitsTest}
 use Rattle.scope.specs.Calls.{wordTest, wholeBankTest, moved, fetchTest, ringFetchTest}
-use Rattle.scope.specs.promises.Meaning.{IsPlan, IsSide, IsBook, IsPicture, Inside, AllInside}
+use Rattle.scope.specs.promises.Meaning.{IsBook, IsPicture, Inside, AllInside}
 use Rattle.scope.specs.promises.PicturePromises.{LegalFetch}
 use Rattle.scope.specs.declared.Plan.{Plan}
 use Rattle.scope.specs.declared.Book.{Book}
@@ -103,11 +103,3 @@ module _ (p : Plan) (W H words : ℕ) where
     unfolding ringFetchTest
     ring-fetch-test-iff room =
         fetch-before (test-before (ring-multiple-iff p W H) (last-test (output-enough-iff (patternAt book n .used) room))) .iff
-
--- Fill a record list: a plan, the sides, and every pixel inside.
-pub fill-test-iff :
-    (p : Plan) (W H : ℕ) (vs : List Pixel)
-    → (firstOf (planTest p ∷ sidesTest W H ∷ outsideTest W H vs ∷ []) ≡ none)
-    ↔ (IsPlan p × ((IsSide W × IsSide H) × AllInside W H vs))
-fill-test-iff p W H vs =
-    test-before (plan-legal-iff p) (test-before (sides-legal-iff W H) (last-test (all-inside-iff W H vs))) .iff

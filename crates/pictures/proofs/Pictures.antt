@@ -19,12 +19,13 @@ use Rattle.scope.specs.declared.Counted.{Counted}
 use Rattle.scope.specs.declared.Loaded.{Loaded}
 use Rattle.scope.specs.declared.Outcome.{Outcome}
 use Rattle.checks.proofs.Lists.{getD-map}
+use Rattle.checks.proofs.Legal.{fill-test-iff}
 use Rattle.checks.proofs.Chains.{value-injective, answered-none, changed-none-answer, changed-none-content, answered-value}
-use Rattle.lattice.proofs.Words.{pixels-have-words}
+use Rattle.lattice.proofs.Words.{pixels-have-words, depth-at-most}
 use Rattle.pictures.proofs.Memory.{bankEnd, bank-in-picture, store-puts, store-elsewhere, store-past, store-length}
 use Rattle.pictures.proofs.Memory.{clear-zeros, clear-before, clear-after, clear-past, clear-length}
-use Rattle.pictures.proofs.Sums.{bank-sum-is-total, total-below, depth-at-most}
-use Rattle.pictures.proofs.CallTests.{word-test-iff, bank-test-iff, fill-test-iff}
+use Rattle.pictures.proofs.Sums.{bank-sum-is-total, total-below}
+use Rattle.pictures.proofs.CallTests.{word-test-iff, bank-test-iff}
 use Rattle.pictures.proofs.Fetches.{fetch-gives, ring-fetch-gives}
 
 -- a call that changes what it was lent and whose tests found nothing is done, and leaves the new content

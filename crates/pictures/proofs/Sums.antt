@@ -1,15 +1,12 @@
 -- The sum of a bank is the total of its words, and it stays far below 2^64.
 -- Assumes nothing.
 use Prim.Native.Nat.{ℕ, zero, suc, _+_, _*_, _≤_, _<_}
-use native.Mathlib.Nat.{mul-le-mul, le-trans}
 use native.Mathlib.Omega.{arith}
 use mathlib.Core.Path.{_≡_, refl, _∙_, ap}
 use mathlib.Core.List.{List, [], _∷_, foldr}
 use lib.ListN.{length, getD, take, drop, length-drop}
 use lib.Seq.{length-take-le}
-use Rattle.scope.proofs.Ceilings.{ceiling-at-most}
-use Rattle.scope.specs.Banks.{across, depthOf, bankWords, bankSum}
-use Rattle.scope.specs.promises.Meaning.{IsPlan, IsSide}
+use Rattle.scope.specs.Banks.{depthOf, bankWords, bankSum}
 use Rattle.scope.specs.promises.PicturePromises.{totalBelow}
 use Rattle.scope.specs.declared.Plan.{Plan}
 use Rattle.checks.proofs.Lists.{getD-take, getD-drop}
@@ -56,9 +53,3 @@ pub total-below : (n m : ℕ) (f : ℕ → ℕ) → ((i : ℕ) → f i < m) → 
 unfolding totalBelow
 total-below zero m f h = omega arith
 total-below (suc n) m f h = omega (arith, total-below n m f h, h n)
-
--- The depth of a picture is at most 4096 × 4096.
-pub depth-at-most : (p : Plan) (W H : ℕ) → IsPlan p → IsSide W → IsSide H → depthOf p W H ≤ 4096 * 4096
-unfolding depthOf across
-depth-at-most p W H plan (_, W-most) (_, H-most) =
-    mul-le-mul (le-trans (ceiling-at-most W (p .a) (plan .a-least)) W-most) (le-trans (ceiling-at-most H (p .d) (plan .d-least)) H-most)

@@ -16,7 +16,7 @@ use Rattle.scope.specs.declared.Plan.{Plan}
 use Rattle.scope.specs.declared.Counted.{Counted}
 use Rattle.pictures.proofs.CallTests.{bank-test-iff}
 use Rattle.pictures.proofs.Memory.{bank-in-picture}
-use Rattle.pictures.proofs.Sums.{depth-at-most}
+use Rattle.lattice.proofs.Words.{depth-at-most}
 use Rattle.pictures.specs.Places.{bankDepth}
 use Rattle.pictures.proofs.PictureTests.{bank-shows}
 

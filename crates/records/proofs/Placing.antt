@@ -24,10 +24,9 @@ use Rattle.scope.proofs.PlanFacts.{entry-handed}
 use Rattle.checks.proofs.Searches.{none-not-some}
 use Rattle.checks.proofs.Tests.{plan-legal-iff}
 use Rattle.lattice.proofs.SameBank.{bank-below-count}
-use Rattle.lattice.proofs.Words.{address-below-depth}
-use Rattle.pictures.proofs.Sums.{depth-at-most}
-use Rattle.pictures.proofs.CallTests.{fill-test-iff}
+use Rattle.lattice.proofs.Words.{address-below-depth, depth-at-most}
 use Rattle.checks.proofs.CountedAnswers.{number-shows, refusal-shows}
+use Rattle.checks.proofs.Legal.{fill-test-iff}
 use Rattle.records.specs.Filling.{isNumber, isPlaceable, placedIf}
 
 -- a record's pixel handed to a callee is its pixel

@@ -20,7 +20,7 @@ use Rattle.checks.proofs.Booleans.{last-test, test-before}
 use Rattle.checks.proofs.Chains.{chain-refuses, chain-goes-on, chain-of-one, answered-none, answered-some}
 use Rattle.checks.proofs.Deciding.{memory-decides}
 use Rattle.checks.proofs.Tests.{plan-legal-iff, sides-legal-iff}
-use Rattle.pictures.proofs.Sums.{depth-at-most}
+use Rattle.lattice.proofs.Words.{depth-at-most}
 use Rattle.pictures.specs.Places.{pictureTest, pictureDepth}
 use Rattle.checks.proofs.CountedAnswers.{number-shows, refusal-shows}
 use Rattle.pictures.proofs.PictureTests.{depth-before-memory}
