@@ -1,4 +1,4 @@
-// One call of demand 3's list, made by the code.
+// One call of demand 3's list, made by the code. proofs/ has every promise, kept in one value.
 use pictures::clear;
 use pictures::fetch;
 use pictures::load;
