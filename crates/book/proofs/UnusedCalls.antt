@@ -1,24 +1,26 @@
 -- The unused entries of a record don't count: every call that is given a record answers alike on two that agree where it counts.
 -- Assumes nothing.
 use Prim.Native.Nat.{ℕ, _<_}
-use mathlib.Core.Path.{_≡_, refl}
+use mathlib.Core.Path.{_≡_, refl, sym, _∙_, ap}
+use mathlib.Core.Bool.{Bool, true, false}
 use mathlib.Core.Option.{Option, none, some}
 use mathlib.Core.List.{List, [], _∷_, _++_, map, List·Memᴰ·head, List·Memᴰ·tail}
 use lib.ListN.{length}
 use Rattle.scope.specs.Search.{firstOf}
 use Rattle.scope.specs.Plans.{Pixel, plus, patternAt, pixels}
 use Rattle.scope.specs.Finding.{clashIn}
-use Rattle.scope.specs.Banks.{wordIn, overStart, wrapped}
+use Rattle.scope.specs.Banks.{wordIn, overStart}
 use Rattle.scope.specs.Books.{bookBytes}
-use Rattle.scope.specs.Numbers.{recordTest, planTest, sidesTest, memoryTest, numberTest, suitsTest, outsideTest, ringTest, outputTest}
+use Rattle.scope.specs.Numbers.{recordTest, planTest, sidesTest, memoryTest, numberTest, suitsTest, outputTest}
 use Rattle.scope.specs.Calls.{changed, Result, writeBook, findTest, find, checkTest, check}
-use Rattle.scope.specs.Calls.{moved, fetchTest, fetch, ringFetchTest, ringMoved, ringFetch}
+use Rattle.scope.specs.Calls.{moved, edgeTest, pixelsRead, restTest, fetchRest, eitherFetch, fetch, ringFetch}
 use Rattle.scope.specs.promises.BookPromises.{SameUsed, UnusedDontCount}
 use Rattle.scope.specs.declared.Plan.{Plan}
 use Rattle.scope.specs.declared.Book.{Book}
+use Rattle.scope.specs.declared.Pattern.{Pattern}
 use Rattle.scope.specs.declared.Refusal.{Refusal}
 use Rattle.scope.specs.declared.Counted.{Counted}
-use Rattle.checks.proofs.Chains.{chain-is-first, changed-alike}
+use Rattle.checks.proofs.Chains.{chain-is-first, changed-alike, fetch-one-by-one}
 use Rattle.checks.proofs.Tests.{number-in-book-iff}
 use Rattle.book.proofs.Unused.{same-record-tests, same-pixels, same-patterns, rebuilt-same}
 
@@ -64,37 +66,44 @@ module _
     same-seen : n < book .count → pattern-seen book ≡ pattern-seen other
     same-seen h = cc (same-pixels book other same n h, same .used n h)
 
-    -- Both fetches: `own-test` is the test that only one of them has, `move` puts the pixels where they are fetched.
-    module _ (own-test : List Pixel → Option Refusal) (move : List Pixel → List Pixel) where
+    -- The fetch, plain or ring, with its tests one by one.
+    module _ (ring : Bool) where
       abbrev pattern-tests : List Pixel × ℕ → List (Option Refusal)
       pattern-tests (vs, used) =
-          elim (clashIn p n vs) [ none ↦ none | some c ↦ some (Refusal.Unsuited c) ] ∷ own-test vs ∷ outputTest used (length out) ∷ []
+          elim (clashIn p n vs) [ none ↦ none | some c ↦ some (Refusal.Unsuited c) ]
+          ∷ edgeTest ring p W H (map (plus o) vs)
+          ∷ outputTest used (length out)
+          ∷ []
 
       abbrev number-fetched : List Pixel × ℕ → Counted
-      number-fetched (vs, used) = Counted.Number (length (move vs))
+      number-fetched (vs, used) = Counted.Number (length (pixelsRead ring W H (map (plus o) vs)))
 
       abbrev output-after : List Pixel × ℕ → List ℕ
-      output-after (vs, used) = overStart (map (wordIn p W H mem) (move vs)) out
+      output-after (vs, used) = overStart (map (wordIn p W H mem) (pixelsRead ring W H (map (plus o) vs))) out
 
       abbrev fetched : Book → Result Counted (List ℕ)
       fetched given =
           let seen : List Pixel × ℕ = pattern-seen given in
           changed (firstOf (before-pattern given ++ pattern-tests seen)) Counted.Refused out (number-fetched seen) (output-after seen)
 
-      same-fetched : fetched book ≡ fetched other
+      is-fetched : (given : Book) → eitherFetch ring given p W H mem n o out ≡ fetched given
+      unfolding eitherFetch fetchRest restTest moved suitsTest
+      is-fetched given =
+          let t : Pattern = patternAt given n in
+          ap
+          (λ (tests : Option Refusal). changed tests Counted.Refused out (number-fetched (pattern-seen given)) (output-after (pattern-seen given)))
+          (fetch-one-by-one p W H (length mem) given n
+          (edgeTest ring p W H (moved t o) ∷ outputTest (t .used) (length out) ∷ []))
+
+      same-fetched : eitherFetch ring book p W H mem n o out ≡ eitherFetch ring other p W H mem n o out
       same-fetched =
-          changed-alike pattern-tests Counted.Refused out number-fetched output-after same-before (λ e. same-seen (number-in-book e))
-
-    same-fetches : fetch book p W H mem n o out ≡ fetch other p W H mem n o out
-    unfolding fetch fetchTest suitsTest moved
-    same-fetches = same-fetched (λ vs. outsideTest W H (map (plus o) vs)) (map (plus o))
-
-    same-ring-fetches : ringFetch book p W H mem n o out ≡ ringFetch other p W H mem n o out
-    unfolding ringFetch ringFetchTest suitsTest ringMoved
-    same-ring-fetches = same-fetched (λ vs. ringTest p W H) (λ vs. map (wrapped W H) (map (plus o) vs))
+          is-fetched book
+          ∙ changed-alike pattern-tests Counted.Refused out number-fetched output-after same-before (λ e. same-seen (number-in-book e))
+          ∙ sym (is-fetched other)
 
 -- "The unused entries don't count": such records are refused alike, have the same patterns, and every call answers alike.
 pub unused-dont-count : UnusedDontCount
+unfolding fetch ringFetch
 unused-dont-count =
     record {
       refused = same-record-tests;
@@ -103,6 +112,6 @@ unused-dont-count =
       finds = same-finds;
       checks = same-checks;
       writes = same-writes;
-      fetches = same-fetches;
-      ring-fetches = same-ring-fetches;
+      fetches = λ book other same p W H mem n o out. same-fetched book other same p W H mem n o out false;
+      ring-fetches = λ book other same p W H mem n o out. same-fetched book other same p W H mem n o out true;
     }

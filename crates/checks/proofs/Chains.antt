@@ -8,8 +8,9 @@ use mathlib.Core.Option.{Option, none, some}
 use mathlib.Core.List.{List, [], _∷_, _++_, List·Memᴰ, List·Memᴰ·head, List·Memᴰ·tail, List·Memᴰ·not-nil, List·Memᴰ·cases-cons}
 use Rattle.scope.specs.Search.{firstOf}
 use Rattle.scope.specs.Numbers.{Answer, value, refusal, numberOf, placeOf, clashOf, turnedDown}
+use Rattle.scope.specs.Plans.{patternAt}
 use Rattle.scope.specs.Numbers.{recordTest, planTest, sidesTest, memoryTest, numberTest, suitsTest}
-use Rattle.scope.specs.Calls.{Result, answered, changed}
+use Rattle.scope.specs.Calls.{Result, answered, changed, pictureTest, fetchStart}
 use Rattle.scope.specs.promises.Meaning.{ChainIsFirst}
 use Rattle.scope.specs.declared.Book.{Book}
 use Rattle.scope.specs.declared.Clash.{Clash}
@@ -244,13 +245,25 @@ changed-alike {before} {before′} {v} {v′} after refused old x new same alike
     by-tests (some r) e =
         rw (chain-stops before (after v) r e, chain-stops before′ (after v′) r (ap firstOf (sym same) ∙ e)) refl
 
--- The tests of a fetch up to 10, and those after it.
-abbrev pub fetchTests : Book → Plan → ℕ → ℕ → ℕ → ℕ → List (Option Refusal) → List (Option Refusal)
-fetchTests book p W H words n ts =
-    recordTest book
-    ∷ planTest p
-    ∷ sidesTest W H
-    ∷ memoryTest p W H words
-    ∷ numberTest (book .count) n
-    ∷ suitsTest p book n
-    ∷ ts
+-- The tests that a call on a picture and a fetch begin with, one by one, and those after them.
+module _ (p : Plan) (W H words : ℕ) where
+  abbrev pub pictureTests : List (Option Refusal) → List (Option Refusal)
+  pictureTests ts = planTest p ∷ sidesTest W H ∷ memoryTest p W H words ∷ ts
+
+  pub picture-one-by-one : (ts : List (Option Refusal)) → firstOf (pictureTest p W H words ∷ ts) ≡ firstOf (pictureTests ts)
+  unfolding pictureTest
+  picture-one-by-one ts = sym (tests-as-one [] (planTest p ∷ sidesTest W H ∷ memoryTest p W H words ∷ []) ts)
+
+  module _ (book : Book) (n : ℕ) where
+    abbrev pub numberAnd10 : List (Option Refusal) → List (Option Refusal)
+    numberAnd10 ts = numberTest (book .count) n ∷ suitsTest p n (patternAt book n) ∷ ts
+
+    abbrev pub fetchTests : List (Option Refusal) → List (Option Refusal)
+    fetchTests ts = recordTest book ∷ pictureTests (numberAnd10 ts)
+
+    pub fetch-one-by-one : (ts : List (Option Refusal)) → firstOf (fetchStart book p W H words n ∷ ts) ≡ firstOf (fetchTests ts)
+    unfolding fetchStart pictureTest
+    fetch-one-by-one ts =
+        sym (tests-as-one [] (recordTest book ∷ pictureTest p W H words ∷ numberAnd10 []) ts)
+        ∙ sym
+        (tests-as-one (recordTest book ∷ []) (planTest p ∷ sidesTest W H ∷ memoryTest p W H words ∷ []) (numberAnd10 ts))

@@ -7,14 +7,13 @@ use mathlib.Core.Bool.{Bool, not, _&&_}
 use mathlib.Core.Option.{Option, none, some}
 use mathlib.Core.List.{List, _∷_}
 use lib.Dec.{leb, ltb, eqb}
-use Rattle.integers.specs.Gcd.{Multiple}
 use Rattle.scope.specs.Search.{whenever, firstOf, every}
 use Rattle.scope.specs.Plans.{Pixel, banks, isPlan, determinantSize}
 use Rattle.scope.specs.Banks.{inside, depthOf}
 use Rattle.scope.specs.Numbers.{Answer, turnedDown, limitTest, dependentTest, largeTest, planTest, isSide, sidesTest}
 use Rattle.scope.specs.Numbers.{memoryTest, outsideTest, bankTest, outputTest, numberTest, ringTest}
 use Rattle.scope.specs.Calls.{answered, changed}
-use Rattle.scope.specs.promises.Meaning.{IsPlan, IsSide, AllInside, Independent}
+use Rattle.scope.specs.promises.Meaning.{IsPlan, IsSide, AllInside, Independent, RingAllowed}
 use Rattle.scope.specs.declared.Plan.{Plan}
 use Rattle.scope.specs.declared.Refusal.{Refusal}
 use Rattle.scope.specs.declared.Refusal.the-variants.{Limit, Dependent, Large, NotPlan, Sides, Memory}
@@ -22,7 +21,7 @@ use Rattle.scope.specs.declared.Refusal.the-variants.{Outside, Cell, Output, No
 use Rattle.checks.proofs.Searches.{whenever-some, whenever-not-none}
 use Rattle.checks.proofs.Chains.{chain-refuses, chain-goes-on, answered-some, changed-answer}
 use Rattle.checks.proofs.Tests.{limit-legal-iff, independent-iff, size-within-iff, plan-legal-iff, sides-legal-iff, memory-enough-iff}
-use Rattle.checks.proofs.Tests.{all-inside-iff, bank-below-iff, output-enough-iff, number-in-book-iff, ring-multiple-iff}
+use Rattle.checks.proofs.Tests.{all-inside-iff, bank-below-iff, output-enough-iff, number-in-book-iff, ring-allowed-iff}
 
 -- The test t finds nothing exactly where P holds, r where it does not, and never another refusal.
 pub record Decides (t : Option Refusal) (r : Refusal) (P : Type 0) : Type 0 where
@@ -80,9 +79,9 @@ pub number-decides : (count n : ℕ) → Decides (numberTest count n) NoPattern 
 unfolding numberTest
 number-decides count n = whenever-decides (leb count n) NoPattern (number-in-book-iff count n)
 
-pub ring-decides : (p : Plan) (W H : ℕ) → Decides (ringTest p W H) Ring (Multiple (banks p) W × Multiple (banks p) H)
+pub ring-decides : (p : Plan) (W H : ℕ) → Decides (ringTest p W H) Ring (RingAllowed p W H)
 unfolding ringTest
-ring-decides p W H = whenever-decides (not (eqb (W % banks p) 0 && eqb (H % banks p) 0)) Ring (ring-multiple-iff p W H)
+ring-decides p W H = whenever-decides (not (eqb (W % banks p) 0 && eqb (H % banks p) 0)) Ring (ring-allowed-iff p W H)
 
 -- The answer is the refusal that the chain of tests finds, if it finds one.
 pub record Follows {A : Type 0} (tests : List (Option Refusal)) (answer : Answer A) : Type 0 where

@@ -4,17 +4,18 @@
 use Prim.Native.Nat.{ℕ, _≤_}
 use mathlib.Core.Path.{_≡_, ap}
 use mathlib.Core.Logic.{_↔_}
+use mathlib.Core.Bool.{Bool, true, false}
 use mathlib.Core.Option.{Option, none}
 use mathlib.Core.List.{List, [], _∷_, map, List·Memᴰ·eq-of-singleton}
 use lib.ListN.{length}
 use Rattle.scope.specs.Search.{firstOf}
-use Rattle.scope.specs.Plans.{Pixel, determinantSize, normalForm}
-use Rattle.scope.specs.Banks.{bankOf, addressOf, depthOf, wordIn, afterStore, afterClear, overStart}
+use Rattle.scope.specs.Plans.{Pixel, patternAt, determinantSize, normalForm}
+use Rattle.scope.specs.Banks.{bankOf, addressOf, depthOf, wordIn, overStart}
 use Rattle.scope.specs.Books.{bookBytes}
 use Rattle.scope.specs.Numbers.{value, refusal, ofPlanned, ofCounted, ofOutcome, recordTest, planTest, sidesTest, outsideTest}
 use Rattle.scope.specs.Numbers.{outputTest}
 use Rattle.scope.specs.Calls.{changed, recordOutcome, writeBook, normal, bank, depth, address, wordTest, store, wholeBankTest, clear}
-use Rattle.scope.specs.Calls.{moved, fetchTest, fetch, ringFetchTest, ringMoved, ringFetch, recordPixel, placed, fillRecords}
+use Rattle.scope.specs.Calls.{lent, moved, pixelsRead, fetchTest, fetchRest, eitherFetch, fetch, ringFetch, recordPixel, placed, fillRecords}
 use Rattle.scope.specs.promises.Meaning.{IsPlan, IsSide, Inside, AllInside, IsBook, Independent, LegalCallsAnswer}
 use Rattle.scope.specs.promises.PicturePromises.{RefusalsChangeNothing}
 use Rattle.scope.specs.declared.Plan.{Plan}
@@ -115,6 +116,15 @@ done-unchanged :
     → changed t Outcome.Refused old Outcome.Done new .content ≡ old
 done-unchanged t old new n i c e = refusal-keeps-content ofOutcome t Outcome.Refused old Outcome.Done new n i c e value-not-refusal
 
+either-unchanged :
+    (ring : Bool) (book : Book) (p : Plan) (W H : ℕ) (mem : List ℕ) (m : ℕ) (o : Pixel) (out : List ℕ) (n i : ℕ) (c : Option Clash)
+    → ofCounted (eitherFetch ring book p W H mem m o out .answer) ≡ refusal n i c
+    → eitherFetch ring book p W H mem m o out .content ≡ out
+unfolding eitherFetch fetchRest fetchTest
+either-unchanged ring book p W H mem m o out =
+    counted-unchanged (fetchTest ring book p W H (length mem) m o (length out)) out _
+    (overStart (map (wordIn p W H mem) (pixelsRead ring W H (moved (patternAt book m) o))) out)
+
 -- On a refusal, buffers and lists stay unchanged.
 pub refusals-change-nothing : RefusalsChangeNothing
 unfolding writeBook store clear fetch ringFetch fillRecords
@@ -125,16 +135,10 @@ refusals-change-nothing =
           counted-unchanged (firstOf (recordTest book ∷ outputTest (length (bookBytes book)) (length out) ∷ [])) out
           (length (bookBytes book))
           (overStart (bookBytes book) out);
-      stores = λ p W H mem v x. done-unchanged (wordTest p W H (length mem) v) mem (afterStore p W H mem v x);
-      clears = λ p W H mem k. done-unchanged (wholeBankTest p W H (length mem) k) mem (afterClear p W H mem k);
-      fetches =
-          λ book p W H mem n o out.
-          counted-unchanged (fetchTest book p W H (length mem) n o (length out)) out (length (moved book n o))
-          (overStart (map (wordIn p W H mem) (moved book n o)) out);
-      ring-fetches =
-          λ book p W H mem n o out.
-          counted-unchanged (ringFetchTest book p W H (length mem) n (length out)) out (length (ringMoved book W H n o))
-          (overStart (map (wordIn p W H mem) (ringMoved book W H n o)) out);
+      stores = λ p W H mem v x. done-unchanged (wordTest p W H (length mem) v) (lent mem) _;
+      clears = λ p W H mem k. done-unchanged (wholeBankTest p W H (length mem) k) (lent mem) _;
+      fetches = either-unchanged false;
+      ring-fetches = either-unchanged true;
       fills =
           λ p W H rs.
           done-unchanged (firstOf (planTest p ∷ sidesTest W H ∷ outsideTest W H (map recordPixel rs) ∷ [])) rs (map (placed p W H) rs);

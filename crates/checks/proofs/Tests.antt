@@ -17,7 +17,7 @@ use Rattle.scope.specs.Plans.{Pixel, banks, isPlan, determinant, determinantSiz
 use Rattle.scope.specs.Banks.{inside, depthOf, pixelOf}
 use Rattle.scope.specs.Numbers.{limitTest, dependentTest, largeTest, planTest, isSide, sidesTest, memoryTest, outsideTest}
 use Rattle.scope.specs.Numbers.{bankTest, cellTest, outputTest, numberTest, ringTest}
-use Rattle.scope.specs.promises.Meaning.{IsPlan, IsSide, Inside, AllInside, Independent}
+use Rattle.scope.specs.promises.Meaning.{IsPlan, IsSide, Inside, AllInside, Independent, RingAllowed}
 use Rattle.scope.specs.declared.Plan.{Plan}
 use Rattle.scope.specs.declared.Refusal.the-variants.{Limit, Dependent, Large, NotPlan, Sides, Memory}
 use Rattle.scope.specs.declared.Refusal.the-variants.{Outside, Cell, Output, NoPattern, Ring}
@@ -97,8 +97,12 @@ number-in-book-iff count n = refuses-iff (leb count n) NoPattern (leb-false-iff 
 multiple-iff : (n g : ℕ) → (eqb (n % g) 0 ≡ true) ↔ Multiple g n
 multiple-iff n g = Iff·trans (eqb-iff (n % g) 0) (no-remainder-iff n g)
 
-pub ring-multiple-iff : (p : Plan) (W H : ℕ) → (ringTest p W H ≡ none) ↔ (Multiple (banks p) W × Multiple (banks p) H)
+pub ring-allowed-iff : (p : Plan) (W H : ℕ) → (ringTest p W H ≡ none) ↔ RingAllowed p W H
 unfolding ringTest
-ring-multiple-iff p W H =
-    demands-iff (eqb (W % banks p) 0 && eqb (H % banks p) 0) Ring
-    (and-iff _ _ (multiple-iff W (banks p)) (multiple-iff H (banks p)))
+ring-allowed-iff p W H =
+    Iff·trans
+    (demands-iff (eqb (W % banks p) 0 && eqb (H % banks p) 0) Ring
+    (and-iff _ _ (multiple-iff W (banks p)) (multiple-iff H (banks p)))) (
+      λ h. record { W-multiple = h .0; H-multiple = h .1 },
+      λ h. (h .W-multiple, h .H-multiple),
+    )

@@ -4,6 +4,7 @@ use Prim.Native.Nat.{ℕ, _≤_, _<_}
 use native.Mathlib.Omega.{arith}
 use mathlib.Core.Path.{_≡_, refl, sym, _∙_, ap}
 use mathlib.Core.Logic.{_⊎_, inl, inr}
+use mathlib.Core.Bool.{Bool, true, false}
 use mathlib.Core.Option.{Option, none, some}
 use mathlib.Core.List.{List, [], _∷_}
 use lib.ListN.{length}
@@ -11,19 +12,21 @@ use Rattle.scope.specs.Search.{firstOf}
 use Rattle.scope.specs.Plans.{Pixel, patternAt, patterns, normalForm}
 use Rattle.scope.specs.Finding.{clash}
 use Rattle.scope.specs.Numbers.{refusal, ofVerdict, ofCounted, clashOf, recordTest, suitsTest, planTest, sidesTest, memoryTest}
-use Rattle.scope.specs.Numbers.{outsideTest, outputTest, numberTest, ringTest}
-use Rattle.scope.specs.Calls.{changed, checkTest, judged, check, moved, fetchTest, fetch, ringFetchTest, ringFetch}
+use Rattle.scope.specs.Numbers.{outputTest, numberTest}
+use Rattle.scope.specs.Calls.{changed, checkTest, judged, check, moved, edgeTest, fetchStart, restTest, fetchRest}
+use Rattle.scope.specs.Calls.{eitherFetch, fetch, ringFetch}
 use Rattle.scope.specs.promises.Meaning.{IsPlan, Independent}
 use Rattle.scope.specs.promises.PlanPromises.{Meets, FirstClashIn, ClashIsFirst}
 use Rattle.scope.specs.declared.Plan.{Plan}
 use Rattle.scope.specs.declared.Book.{Book}
+use Rattle.scope.specs.declared.Pattern.{Pattern}
 use Rattle.scope.specs.declared.Clash.{Clash}
 use Rattle.scope.specs.declared.Verdict.{Verdict}
 use Rattle.scope.specs.declared.Counted.{Counted}
 use Rattle.scope.specs.declared.Refusal.{Refusal}
 use Rattle.checks.proofs.Searches.{some-injective}
 use Rattle.checks.proofs.Chains.{value-not-refusal, refusal-clash, RefusedBy, chain-some, answered-none, answered-refusal, changed-refusal}
-use Rattle.checks.proofs.Chains.{fetchTests}
+use Rattle.checks.proofs.Chains.{fetchTests, fetch-one-by-one}
 use Rattle.checks.proofs.Tests.{plan-legal-iff, number-in-book-iff}
 use Rattle.checks.proofs.Deciding.{plan-decides, sides-decide, memory-decides, inside-decides, output-decides, number-decides, ring-decides}
 use Rattle.checks.proofs.RefusalNumbers.{Numbers, ChainNumbers, decided-numbers, numbers-before, last-numbers, record-numbers}
@@ -80,7 +83,7 @@ after-other t ts c h (r, e, ten, at-0, is) = by-test (chain-some t ts r e)
 module _ (book : Book) (p : Plan) (W H words n : ℕ) (c : Clash) where
   clash-of-tests :
       (ts : List (Option Refusal)) → ChainNumbers NotTen ts
-      → RefusedBy (firstOf (fetchTests book p W H words n ts)) 10 0 (some c)
+      → RefusedBy (firstOf (fetchTests p W H words book n ts)) 10 0 (some c)
       → FirstClashIn book p c × (c .pattern ≡ n)
   clash-of-tests ts others k =
       let (_, after-book) =
@@ -93,15 +96,15 @@ module _ (book : Book) (p : Plan) (W H words n : ℕ) (c : Clash) where
       after-other (numberTest (book .count) n) _ c (decided-numbers (number-decides (book .count) n) (λ e. omega arith)) after-memory in
       of-suits-test (plan-legal-iff p .0 is-plan) (number-in-book-iff (book .count) n .0 in-book) after-number
     where
-      of-suits-test : IsPlan p → n < book .count → RefusedBy (firstOf (suitsTest p book n ∷ ts)) 10 0 (some c)
+      of-suits-test : IsPlan p → n < book .count → RefusedBy (firstOf (suitsTest p n (patternAt book n) ∷ ts)) 10 0 (some c)
           → FirstClashIn book p c × (c .pattern ≡ n)
-      of-suits-test legal in-book (r, e, ten, _, is) = by-test (chain-some (suitsTest p book n) ts r e)
+      of-suits-test legal in-book (r, e, ten, _, is) = by-test (chain-some (suitsTest p n (patternAt book n)) ts r e)
         where
-          by-test : (suitsTest p book n ≡ some r) ⊎ ((suitsTest p book n ≡ none) × (firstOf ts ≡ some r))
+          by-test : (suitsTest p n (patternAt book n) ≡ some r) ⊎ ((suitsTest p n (patternAt book n) ≡ none) × (firstOf ts ≡ some r))
               → FirstClashIn book p c × (c .pattern ≡ n)
           by-test (inr (_, h)) = absurd (others .chain .each r h ten)
           by-test (inl h) =
-              let (k, found, s) = suits-test-some p book n r h in
+              let (k, found, s) = suits-test-some p n (patternAt book n) r h in
               let same : k ≡ c = some-injective (ap clashOf (sym s) ∙ is) in
               first-clash-in-pattern book p (legal .a-least) (legal .d-least) n in-book c (found ∙ ap some same)
 
@@ -119,26 +122,36 @@ refused-by-tests t n old new c h =
     by-source (inl k) = k
     by-source (inr k) = absurd (value-not-refusal (k .1))
 
+-- the test of the edge never gives 10
+edge-not-ten : (ring : Bool) (p : Plan) (W H : ℕ) (vs : List Pixel) → Numbers NotTen (edgeTest ring p W H vs)
+unfolding edgeTest
+edge-not-ten false p W H vs = decided-numbers (inside-decides W H vs) (λ e. omega arith)
+edge-not-ten true p W H vs = decided-numbers (ring-decides p W H) (λ e. omega arith)
+
+clash-of-fetch :
+    (ring : Bool) (book : Book) (p : Plan) (W H : ℕ) (mem : List ℕ) (n : ℕ) (o : Pixel) (out : List ℕ) (c : Clash)
+    → ofCounted (eitherFetch ring book p W H mem n o out .answer) ≡ refusal 10 0 (some c)
+    → FirstClashIn book p c × (c .pattern ≡ n)
+unfolding eitherFetch fetchRest restTest
+clash-of-fetch ring book p W H mem n o out c h =
+    let t : Pattern = patternAt book n in
+    let after : List (Option Refusal) = edgeTest ring p W H (moved t o) ∷ outputTest (t .used) (length out) ∷ [] in
+    clash-of-tests book p W H (length mem) n c after
+    (numbers-before (edge-not-ten ring p W H (moved t o))
+    (last-numbers (decided-numbers (output-decides (t .used) (length out)) (λ e. omega arith))))
+    (rw (fetch-one-by-one p W H (length mem) book n after) at
+    (refused-by-tests (firstOf (fetchStart book p W H (length mem) n ∷ after)) _ _ _ c h))
+
 -- The clash of a check is the first of the lowest pattern that has one, and a fetch's the first of its own pattern.
 pub clash-is-first : ClashIsFirst
-unfolding fetch fetchTest ringFetch ringFetchTest
+unfolding fetch ringFetch
 clash-is-first =
     record {
       is-clash = λ book x y c h. clash-of-check book x y c h .2;
       in-pattern = λ book x y c h. of-check book x y c h .0;
       lowest = λ book x y c h. of-check book x y c h .1;
-      of-fetch =
-          λ book p W H mem n o out c h. clash-of-tests book p W H (length mem) n c
-          (outsideTest W H (moved book n o) ∷ outputTest (patternAt book n .used) (length out) ∷ [])
-          (numbers-before (decided-numbers (inside-decides W H (moved book n o)) (λ e. omega arith))
-          (last-numbers (decided-numbers (output-decides (patternAt book n .used) (length out)) (λ e. omega arith))))
-          (refused-by-tests (fetchTest book p W H (length mem) n o (length out)) _ _ _ c h);
-      of-ring-fetch =
-          λ book p W H mem n o out c h. clash-of-tests book p W H (length mem) n c
-          (ringTest p W H ∷ outputTest (patternAt book n .used) (length out) ∷ [])
-          (numbers-before (decided-numbers (ring-decides p W H) (λ e. omega arith))
-          (last-numbers (decided-numbers (output-decides (patternAt book n .used) (length out)) (λ e. omega arith))))
-          (refused-by-tests (ringFetchTest book p W H (length mem) n (length out)) _ _ _ c h);
+      of-fetch = clash-of-fetch false;
+      of-ring-fetch = clash-of-fetch true;
     }
   where
     of-check :

@@ -8,13 +8,13 @@ use mathlib.Core.List.{List, [], _∷_, map}
 use lib.IntN.{ℤ, _-ℤ_, _+ℤ_}
 use lib.ListN.{length, getD, length-map, List·getD-map}
 use Rattle.integers.proofs.Ring.{ring, reify}
-use Rattle.scope.specs.Plans.{Pixel, plus, minus, pixels, patternAt, suits}
+use Rattle.scope.specs.Plans.{Pixel, plus, minus, pixels, suits}
 use Rattle.scope.specs.Banks.{bankOf}
 use Rattle.scope.specs.Calls.{moved}
-use Rattle.scope.specs.promises.Meaning.{IsPlan, IsBook}
+use Rattle.scope.specs.promises.Meaning.{IsPlan, IsPattern}
 use Rattle.scope.specs.promises.Demand.{AllDifferent}
 use Rattle.scope.specs.declared.Plan.{Plan}
-use Rattle.scope.specs.declared.Book.{Book}
+use Rattle.scope.specs.declared.Pattern.{Pattern}
 use Rattle.checks.proofs.Lists.{mem-getD, getD-map}
 use Rattle.checks.proofs.Patterns.{origin, same-coordinates, Different, pattern-different}
 use Rattle.lattice.proofs.SameBank.{same-bank-means-lattice}
@@ -58,9 +58,7 @@ moved-banks-differ p t o plan different suiting e l h k same =
 
 -- The banks that a fetch of a pattern reads are all different, wherever the pattern is moved.
 pub fetched-banks-differ :
-    (p : Plan) (book : Book) (n : ℕ) (o : Pixel) → IsPlan p → IsBook book → n < book .count
-    → suits p (pixels (patternAt book n)) ≡ true
-    → AllDifferent (map (bankOf p) (moved book n o))
+    (p : Plan) (t : Pattern) (o : Pixel) → IsPlan p → IsPattern t → suits p (pixels t) ≡ true
+    → AllDifferent (map (bankOf p) (moved t o))
 unfolding moved
-fetched-banks-differ p book n o plan legal number suiting =
-    moved-banks-differ p (pixels (patternAt book n)) o plan (pattern-different (patternAt book n) (legal .each n number)) suiting
+fetched-banks-differ p t o plan legal = moved-banks-differ p (pixels t) o plan (pattern-different t legal)

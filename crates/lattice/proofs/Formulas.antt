@@ -10,13 +10,13 @@ use lib.ListN.{length, getD, length-map}
 use Rattle.integers.specs.Division.{ceilDiv}
 use Rattle.integers.proofs.Digits.{upper-digit}
 use Rattle.integers.proofs.Divisions.{floor-division, ceiling-division}
-use Rattle.scope.specs.Plans.{Pixel, at, plus, minus, pixelAt, patternAt, pixels, differences}
+use Rattle.scope.specs.Plans.{Pixel, at, plus, minus, pixelAt, pixels, differences}
 use Rattle.scope.specs.Banks.{quotient, across, addressOf, depthOf, wrapped}
 use Rattle.scope.specs.Calls.{moved, ringMoved, recordPixel}
 use Rattle.scope.specs.promises.Meaning.{IsPlan, PatternsAre}
 use Rattle.scope.specs.promises.PicturePromises.{RoundedUp, FormulasAre}
 use Rattle.scope.specs.declared.Plan.{Plan}
-use Rattle.scope.specs.declared.Book.{Book}
+use Rattle.scope.specs.declared.Pattern.{Pattern}
 use Rattle.checks.proofs.Lists.{getD-map}
 use Rattle.checks.proofs.Patterns.{origin, length-pixels, getD-pixels, length-patterns, getD-patterns}
 use Rattle.lattice.proofs.SameBank.{bank-by-divisions}
@@ -33,18 +33,17 @@ difference-iff t v = (
 )
 
 -- a moved pattern: how many pixels, and the one at a position
-pub moved-size : (book : Book) (n : ℕ) (o : Pixel) → length (moved book n o) ≡ patternAt book n .used
+pub moved-size : (t : Pattern) (o : Pixel) → length (moved t o) ≡ t .used
 unfolding moved
-moved-size book n o = length-map (pixels (patternAt book n)) (plus o) ∙ length-pixels (patternAt book n)
+moved-size t o = length-map (pixels t) (plus o) ∙ length-pixels t
 
 moved-pixel :
-    (book : Book) (n : ℕ) (o : Pixel) (e : ℕ) → e < patternAt book n .used
-    → getD (moved book n o) e origin
-    ≡ at (o .column +ℤ pixelAt (patternAt book n) e .column) (o .row +ℤ pixelAt (patternAt book n) e .row)
+    (t : Pattern) (o : Pixel) (e : ℕ) → e < t .used
+    → getD (moved t o) e origin ≡ at (o .column +ℤ pixelAt t e .column) (o .row +ℤ pixelAt t e .row)
 unfolding moved plus at
-moved-pixel book n o e h =
-    getD-map (plus o) (pixels (patternAt book n)) e origin origin (omega (arith, length-pixels (patternAt book n)))
-    ∙ ap (plus o) (getD-pixels (patternAt book n) e origin h)
+moved-pixel t o e h =
+    getD-map (plus o) (pixels t) e origin origin (omega (arith, length-pixels t))
+    ∙ ap (plus o) (getD-pixels t e origin h)
 
 -- The lists that the promises speak of are the record's patterns and pixels, and their differences.
 pub patterns-are : PatternsAre
@@ -90,6 +89,6 @@ formulas-are =
       address = address-formula;
       wrapped-column = λ W H h v q c e. ap pos (sym (floor-division (v .column) W h q c .0 e .1));
       wrapped-row = λ W H h v q c e. ap pos (sym (floor-division (v .row) H h q c .0 e .1));
-      ring-moved = λ book W H n o. refl;
+      ring-moved = λ W H t o. refl;
       record-pixel = λ r. refl;
     }

@@ -39,7 +39,9 @@ pub ring-keeps-banks : RingKeepsBanks
 unfolding wrapped minus
 ring-keeps-banks =
     record {
-      same-bank = λ p W H plan W-least H-least (x, W-is) (y, H-is) v.
+      same-bank = λ p W H plan W-least H-least allowed v.
+          let (x, W-is) = allowed .W-multiple in
+          let (y, H-is) = allowed .H-multiple in
           lattice-means-same-bank p plan (wrapped W H v) v
           (multiples-in-lattice p (minus (wrapped W H v) v) (negsuc 0 *ℤ floorDiv (v .column) W *ℤ pos x)
           (negsuc 0 *ℤ floorDiv (v .row) H *ℤ pos y)

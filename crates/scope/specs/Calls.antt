@@ -2,6 +2,7 @@
 -- 15, 16, with 7 last", its answer, and the final content of what it was lent. "buffers and lists stay unchanged" on a refusal.
 -- Assumes nothing.
 use Prim.Native.Nat.{ℕ, _-_}
+use mathlib.Core.Bool.{Bool, true, false}
 use mathlib.Core.Option.{Option, none, some}
 use mathlib.Core.List.{List, [], _∷_, map}
 use lib.IntN.{ℤ}
@@ -14,6 +15,7 @@ use Rattle.scope.specs.Books.{byte, place, partIn, bookIn, bookOf, bookB
 use Rattle.scope.specs.Numbers.{bytesTest, recordTest, limitTest, dependentTest, largeTest, suitsTest, planTest, sidesTest, memoryTest, outsideTest, bankTest, cellTest, outputTest, numberTest, ringTest}
 use Rattle.scope.specs.declared.Plan.{Plan}
 use Rattle.scope.specs.declared.Book.{Book}
+use Rattle.scope.specs.declared.Pattern.{Pattern}
 use Rattle.scope.specs.declared.PixelRecord.{PixelRecord}
 use Rattle.scope.specs.declared.Refusal.{Refusal}
 use Rattle.scope.specs.declared.Verdict.{Verdict}
@@ -138,16 +140,28 @@ locate p W H k i =
     answered (firstOf (planTest p ∷ sidesTest W H ∷ cellTest p W H k i ∷ [])) Located.Refused
     (Located.Pixel (pixelOf p W H k i .column) (pixelOf p W H k i .row))
 
--- Store and load a word: 11, 12, 13, 14. `words` is the memory's length.
-unfoldable pub wordTest : Plan → ℕ → ℕ → ℕ → Pixel → Option Refusal
-unfolding firstOf planTest sidesTest memoryTest outsideTest
-wordTest p W H words v =
-    firstOf (planTest p ∷ sidesTest W H ∷ memoryTest p W H words ∷ outsideTest W H (v ∷ []) ∷ [])
+-- The tests that every call on a picture begins with: 11, 12, 13. `words` is the memory's length.
+unfoldable pub pictureTest : Plan → ℕ → ℕ → ℕ → Option Refusal
+unfolding firstOf planTest sidesTest memoryTest
+pictureTest p W H words = firstOf (planTest p ∷ sidesTest W H ∷ memoryTest p W H words ∷ [])
 
-unfoldable pub store : Plan → ℕ → ℕ → List ℕ → Pixel → ℕ → Result Outcome (List ℕ)
+-- What a call that writes a picture is lent, and leaves
+pub record Lent : Type 0 where
+  pub memory : List ℕ
+
+abbrev pub lent : List ℕ → Lent
+lent mem = record { memory = mem }
+
+-- Store and load a word: 11, 12, 13, 14.
+unfoldable pub wordTest : Plan → ℕ → ℕ → ℕ → Pixel → Option Refusal
+unfolding firstOf pictureTest outsideTest
+wordTest p W H words v = firstOf (pictureTest p W H words ∷ outsideTest W H (v ∷ []) ∷ [])
+
+unfoldable pub store : Plan → ℕ → ℕ → Lent → Pixel → ℕ → Result Outcome Lent
 unfolding changed wordTest afterStore
-store p W H mem v x =
-    changed (wordTest p W H (length mem) v) Outcome.Refused mem Outcome.Done (afterStore p W H mem v x)
+store p W H l v x =
+    changed (wordTest p W H (length (l .memory)) v) Outcome.Refused l Outcome.Done
+    (record { memory = afterStore p W H (l .memory) v x })
 
 unfoldable pub load : Plan → ℕ → ℕ → List ℕ → Pixel → Loaded
 unfolding answered wordTest wordIn
@@ -155,72 +169,81 @@ load p W H mem v = answered (wordTest p W H (length mem) v) Loaded.Refused (Load
 
 -- Clear bank k, and the sum of bank k: 11, 12, 13, 15.
 unfoldable pub wholeBankTest : Plan → ℕ → ℕ → ℕ → ℕ → Option Refusal
-unfolding firstOf planTest sidesTest memoryTest bankTest
-wholeBankTest p W H words k =
-    firstOf (planTest p ∷ sidesTest W H ∷ memoryTest p W H words ∷ bankTest p k ∷ [])
+unfolding firstOf pictureTest bankTest
+wholeBankTest p W H words k = firstOf (pictureTest p W H words ∷ bankTest p k ∷ [])
 
-unfoldable pub clear : Plan → ℕ → ℕ → List ℕ → ℕ → Result Outcome (List ℕ)
+unfoldable pub clear : Plan → ℕ → ℕ → Lent → ℕ → Result Outcome Lent
 unfolding changed wholeBankTest afterClear
-clear p W H mem k =
-    changed (wholeBankTest p W H (length mem) k) Outcome.Refused mem Outcome.Done (afterClear p W H mem k)
+clear p W H l k =
+    changed (wholeBankTest p W H (length (l .memory)) k) Outcome.Refused l Outcome.Done
+    (record { memory = afterClear p W H (l .memory) k })
 
 unfoldable pub sum : Plan → ℕ → ℕ → List ℕ → ℕ → Counted
 unfolding answered wholeBankTest bankSum
 sum p W H mem k =
     answered (wholeBankTest p W H (length mem) k) Counted.Refused (Counted.Number (bankSum p W H mem k))
 
--- "a pattern with (0, 0) moved to a signed 16-bit position", pattern n to position o, "in the book's pixel order"
-unfoldable pub moved : Book → ℕ → Pixel → List Pixel
-unfolding plus pixels patternAt
-moved book n o = map (plus o) (pixels (patternAt book n))
+-- "a pattern with (0, 0) moved to a signed 16-bit position", to position o, "in the book's pixel order"
+unfoldable pub moved : Pattern → Pixel → List Pixel
+unfolding plus pixels
+moved t o = map (plus o) (pixels t)
 
--- Fetch, and tell how many words: 2, 3, 4, 11, 12, 13, 17, "10 for its own pattern only", 14, 16. `room` is the output's length.
-unfoldable pub fetchTest : Book → Plan → ℕ → ℕ → ℕ → ℕ → Pixel → ℕ → Option Refusal
-unfolding firstOf recordTest planTest sidesTest memoryTest numberTest suitsTest outsideTest outputTest moved patternAt
-fetchTest book p W H words n o room =
+-- "A ring fetch reduces columns modulo W and rows modulo H."
+unfoldable pub ringMoved : ℕ → ℕ → Pattern → Pixel → List Pixel
+unfolding wrapped moved
+ringMoved W H t o = map (wrapped W H) (moved t o)
+
+-- The tests that both fetches begin with: 2, 3, 4, 11, 12, 13, 17, "10 for its own pattern only".
+unfoldable pub fetchStart : Book → Plan → ℕ → ℕ → ℕ → ℕ → Option Refusal
+unfolding firstOf recordTest pictureTest numberTest suitsTest patternAt
+fetchStart book p W H words n =
     firstOf
-    (recordTest book
-    ∷ planTest p
-    ∷ sidesTest W H
-    ∷ memoryTest p W H words
-    ∷ numberTest (book .count) n
-    ∷ suitsTest p book n
-    ∷ outsideTest W H (moved book n o)
-    ∷ outputTest (patternAt book n .used) room
-    ∷ [])
+    (recordTest book ∷ pictureTest p W H words ∷ numberTest (book .count) n ∷ suitsTest p n (patternAt book n) ∷ [])
+
+-- "a ring fetch has 18 and no 14": the test of the edge, and the pixels that are read
+unfoldable pub edgeTest : (ring : Bool) → Plan → ℕ → ℕ → List Pixel → Option Refusal
+unfolding outsideTest ringTest
+edgeTest false p W H vs = outsideTest W H vs
+edgeTest true p W H vs = ringTest p W H
+
+unfoldable pub pixelsRead : (ring : Bool) → ℕ → ℕ → List Pixel → List Pixel
+unfolding wrapped
+pixelsRead false W H vs = vs
+pixelsRead true W H vs = map (wrapped W H) vs
+
+-- What both fetches of a pattern t go on with, where `start` is what the tests before found: the edge, then 16, and the
+-- words at the start of the output. `room` is the output's length.
+unfoldable pub restTest : Option Refusal → (ring : Bool) → Pattern → Plan → ℕ → ℕ → Pixel → ℕ → Option Refusal
+unfolding firstOf edgeTest outputTest moved
+restTest start ring t p W H o room =
+    firstOf (start ∷ edgeTest ring p W H (moved t o) ∷ outputTest (t .used) room ∷ [])
+
+unfoldable pub fetchRest :
+    Option Refusal → (ring : Bool) → Pattern → Plan → ℕ → ℕ → List ℕ → Pixel → List ℕ → Result Counted (List ℕ)
+unfolding changed restTest overStart wordIn pixelsRead moved
+fetchRest start ring t p W H mem o out =
+    changed (restTest start ring t p W H o (length out)) Counted.Refused out
+    (Counted.Number (length (pixelsRead ring W H (moved t o))))
+    (overStart (map (wordIn p W H mem) (pixelsRead ring W H (moved t o))) out)
+
+-- Fetch, and tell how many words: 2, 3, 4, 11, 12, 13, 17, 10, 14, 16. Ring fetch: 18 in the place of 14.
+unfoldable pub fetchTest : (ring : Bool) → Book → Plan → ℕ → ℕ → ℕ → ℕ → Pixel → ℕ → Option Refusal
+unfolding restTest fetchStart patternAt
+fetchTest ring book p W H words n o room = restTest (fetchStart book p W H words n) ring (patternAt book n) p W H o room
+
+unfoldable pub eitherFetch :
+    (ring : Bool) → Book → Plan → ℕ → ℕ → List ℕ → ℕ → Pixel → List ℕ → Result Counted (List ℕ)
+unfolding fetchRest fetchStart patternAt
+eitherFetch ring book p W H mem n o out =
+    fetchRest (fetchStart book p W H (length mem) n) ring (patternAt book n) p W H mem o out
 
 unfoldable pub fetch : Book → Plan → ℕ → ℕ → List ℕ → ℕ → Pixel → List ℕ → Result Counted (List ℕ)
-unfolding changed fetchTest overStart wordIn moved
-fetch book p W H mem n o out =
-    changed (fetchTest book p W H (length mem) n o (length out)) Counted.Refused out
-    (Counted.Number (length (moved book n o)))
-    (overStart (map (wordIn p W H mem) (moved book n o)) out)
-
--- Ring fetch: "a ring fetch has 18 and no 14".
-unfoldable pub ringFetchTest : Book → Plan → ℕ → ℕ → ℕ → ℕ → ℕ → Option Refusal
-unfolding firstOf recordTest planTest sidesTest memoryTest numberTest suitsTest ringTest outputTest patternAt
-ringFetchTest book p W H words n room =
-    firstOf
-    (recordTest book
-    ∷ planTest p
-    ∷ sidesTest W H
-    ∷ memoryTest p W H words
-    ∷ numberTest (book .count) n
-    ∷ suitsTest p book n
-    ∷ ringTest p W H
-    ∷ outputTest (patternAt book n .used) room
-    ∷ [])
-
-unfoldable pub ringMoved : Book → ℕ → ℕ → ℕ → Pixel → List Pixel
-unfolding wrapped moved
-ringMoved book W H n o = map (wrapped W H) (moved book n o)
+unfolding eitherFetch
+fetch = eitherFetch false
 
 unfoldable pub ringFetch : Book → Plan → ℕ → ℕ → List ℕ → ℕ → Pixel → List ℕ → Result Counted (List ℕ)
-unfolding changed ringFetchTest overStart wordIn ringMoved
-ringFetch book p W H mem n o out =
-    changed (ringFetchTest book p W H (length mem) n (length out)) Counted.Refused out
-    (Counted.Number (length (ringMoved book W H n o)))
-    (overStart (map (wordIn p W H mem) (ringMoved book W H n o)) out)
+unfolding eitherFetch
+ringFetch = eitherFetch true
 
 -- Fill a record list: 11, 12, 14. "every record's bank and address are filled in; if any pixel is outside, no record changes"
 unfoldable pub recordPixel : PixelRecord → Pixel

@@ -15,6 +15,7 @@ use Rattle.scope.specs.Banks.{inside, depthOf, pixelOf}
 use Rattle.scope.specs.Books.{byte, start, place, pixelIn}
 use Rattle.scope.specs.declared.Plan.{Plan}
 use Rattle.scope.specs.declared.Book.{Book}
+use Rattle.scope.specs.declared.Pattern.{Pattern}
 use Rattle.scope.specs.declared.Clash.{Clash}
 use Rattle.scope.specs.declared.Refusal.{Refusal}
 use Rattle.scope.specs.declared.Refusal.the-variants.{Ends, Count, Coordinate, Repeat, Extra, Limit, NoPlan, Dependent, Large, Unsuited, NotPlan, Sides, Memory, Outside, Cell, Output, NoPattern, Ring}
@@ -171,10 +172,10 @@ unfoldable pub largeTest : Pixel → Pixel → Option Refusal
 unfolding whenever determinantSize
 largeTest x y = whenever (ltb 1024 (determinantSize x y)) Large
 
--- 10: "plan doesn't suit", for pattern n
-unfoldable pub suitsTest : Plan → Book → ℕ → Option Refusal
-unfolding clashIn pixels patternAt
-suitsTest p book n = elim (clashIn p n (pixels (patternAt book n))) [ none ↦ none | some c ↦ some (Unsuited c) ]
+-- 10: "plan doesn't suit", for the pattern t with number n
+unfoldable pub suitsTest : Plan → ℕ → Pattern → Option Refusal
+unfolding clashIn pixels
+suitsTest p n t = elim (clashIn p n (pixels t)) [ none ↦ none | some c ↦ some (Unsuited c) ]
 
 -- 11: "not a plan as defined"
 unfoldable pub planTest : Plan → Option Refusal

@@ -35,3 +35,12 @@ every f (x ∷ xs) = elim (f x) [ true ↦ every f xs | false ↦ false ]
 unfoldable pub someBelow : ℕ → (ℕ → Bool) → Bool
 someBelow zero f = false
 someBelow (suc n) f = someBelow n f || f n
+
+-- A list of calls, each on the state as the one before left it: the state at the end, and what they reply in order
+unfoldable pub stateAfter : {S C : Type 0} → (S → C → S) → S → List C → S
+stateAfter after s [] = s
+stateAfter after s (c ∷ cs) = stateAfter after (after s c) cs
+
+unfoldable pub repliesOf : {S C R : Type 0} → (S → C → S) → (S → C → R) → S → List C → List R
+repliesOf after reply s [] = []
+repliesOf after reply s (c ∷ cs) = reply s c ∷ repliesOf after reply (after s c) cs

@@ -12,18 +12,27 @@ use lib.ListN.{length, getD, take, drop, replicate}
 use Rattle.scope.specs.Plans.{Pixel, samePixel, patternAt, banks}
 use Rattle.scope.specs.Banks.{bankOf, depthOf, wordOf, wordIn, overStart}
 use Rattle.scope.specs.Numbers.{Answer, value, turnedDown, ofPlanned, ofCounted, ofLoaded, ofOutcome}
+use Rattle.scope.specs.Search.{stateAfter, repliesOf}
 use Rattle.scope.specs.Calls as Calls
-use Rattle.scope.specs.Calls.{answered, wordTest, wholeBankTest, fetchTest, moved, find}
+use Rattle.scope.specs.Calls.{Result, Lent, lent, answered, wordTest, wholeBankTest, fetchTest, moved, find}
 use Rattle.scope.specs.promises.Meaning.{IsSide, Inside, AllInside}
 use Rattle.scope.specs.declared.Plan.{Plan}
 use Rattle.scope.specs.declared.Book.{Book}
 use Rattle.scope.specs.declared.Refusal.{Refusal}
+use Rattle.scope.specs.declared.Outcome.{Outcome}
+
+-- the calls that write the memory, and those that only read it
+pub data Write : Type 0 where
+  store : Pixel → (word : ℕ) → Write
+  clear : (bank : ℕ) → Write
+
+pub data Read : Type 0 where
+  load : Pixel → Read
+  fetch : (pattern : ℕ) (position : Pixel) (output : List ℕ) → Read
 
 pub data Call : Type 0 where
-  store : Pixel → (word : ℕ) → Call
-  clear : (bank : ℕ) → Call
-  load : Pixel → Call
-  fetch : (pattern : ℕ) (position : Pixel) (output : List ℕ) → Call
+  write : Write → Call
+  read : Read → Call
 
 pub record Setting : Type 0 where
   pub book : Book
@@ -34,55 +43,66 @@ pub record Setting : Type 0 where
 -- What a call gives beside the memory, in this paper's numbers and values. "each fetch has an output of its own", and its
 -- final content is here too
 pub data Reply : Type 0 where
-  stored : Answer Unit → Reply
-  cleared : Answer Unit → Reply
+  wrote : Answer Unit → Reply
   loaded : Answer ℕ → Reply
   fetched : Answer ℕ → List ℕ → Reply
 
-unfoldable pub reply : Setting → List ℕ → Call → Reply
-unfolding Calls.store Calls.clear Calls.load Calls.fetch
-reply g mem (store v x) = stored (ofOutcome (Calls.store (g .plan) (g .W) (g .H) mem v x .answer))
-reply g mem (clear k) = cleared (ofOutcome (Calls.clear (g .plan) (g .W) (g .H) mem k .answer))
-reply g mem (load v) = loaded (ofLoaded (Calls.load (g .plan) (g .W) (g .H) mem v))
-reply g mem (fetch n o out) =
+unfoldable pub writeResult : Setting → List ℕ → Write → Result Outcome Lent
+unfolding Calls.store Calls.clear
+writeResult g mem (store v x) = Calls.store (g .plan) (g .W) (g .H) (lent mem) v x
+writeResult g mem (clear k) = Calls.clear (g .plan) (g .W) (g .H) (lent mem) k
+
+unfoldable pub readReply : Setting → List ℕ → Read → Reply
+unfolding Calls.load Calls.fetch
+readReply g mem (load v) = loaded (ofLoaded (Calls.load (g .plan) (g .W) (g .H) mem v))
+readReply g mem (fetch n o out) =
     fetched (ofCounted (Calls.fetch (g .book) (g .plan) (g .W) (g .H) mem n o out .answer))
     (Calls.fetch (g .book) (g .plan) (g .W) (g .H) mem n o out .content)
 
+unfoldable pub reply : Setting → List ℕ → Call → Reply
+unfolding writeResult readReply
+reply g mem (write w) = wrote (ofOutcome (writeResult g mem w .answer))
+reply g mem (read r) = readReply g mem r
+
 -- "Each call gets the memory as the one before left it"
 unfoldable pub after : Setting → List ℕ → Call → List ℕ
-unfolding Calls.store Calls.clear
-after g mem (store v x) = Calls.store (g .plan) (g .W) (g .H) mem v x .content
-after g mem (clear k) = Calls.clear (g .plan) (g .W) (g .H) mem k .content
-after g mem (load v) = mem
-after g mem (fetch n o out) = mem
+unfolding writeResult
+after g mem (write w) = writeResult g mem w .content .memory
+after g mem (read r) = mem
 
+-- the memory after a list of calls, and what they reply, one after the other
 unfoldable pub run : Setting → List ℕ → List Call → List ℕ
-unfolding after
-run g mem [] = mem
-run g mem (c ∷ cs) = run g (after g mem c) cs
+unfolding stateAfter after
+run g = stateAfter (after g)
+
+unfoldable pub replies : Setting → List ℕ → List Call → List Reply
+unfolding repliesOf after reply
+replies g = repliesOf (after g) (reply g)
 
 -- "Whether a call in the list is turned down, and by which number, is told by the conditions below from what it was given"
 unfoldable pub test : Setting → ℕ → Call → Option Refusal
 unfolding wordTest wholeBankTest fetchTest
-test g words (store v x) = wordTest (g .plan) (g .W) (g .H) words v
-test g words (clear k) = wholeBankTest (g .plan) (g .W) (g .H) words k
-test g words (load v) = wordTest (g .plan) (g .W) (g .H) words v
-test g words (fetch n o out) = fetchTest (g .book) (g .plan) (g .W) (g .H) words n o (length out)
+test g words (write (store v x)) = wordTest (g .plan) (g .W) (g .H) words v
+test g words (write (clear k)) = wholeBankTest (g .plan) (g .W) (g .H) words k
+test g words (read (load v)) = wordTest (g .plan) (g .W) (g .H) words v
+test g words (read (fetch n o out)) = fetchTest false (g .book) (g .plan) (g .W) (g .H) words n o (length out)
 
 -- the word at pixel v after a call that is not turned down, where it was `old` before: a store there sets it, a clear of
 -- the pixel's bank makes it 0
-unfoldable pub effect : Setting → Pixel → ℕ → Call → ℕ
+unfoldable pub effect : Setting → Pixel → ℕ → Write → ℕ
 unfolding samePixel bankOf
 effect g v old (store w x) = cond (samePixel w v) x old
 effect g v old (clear k) = cond (eqb k (bankOf (g .plan) v)) 0 old
-effect g v old (load w) = old
-effect g v old (fetch n o out) = old
+
+-- and after any call
+unfoldable pub wordAfter : Setting → ℕ → Pixel → ℕ → Call → ℕ
+unfolding answered test effect
+wordAfter g words v old (write w) = answered (test g words (write w)) (λ r. old) (effect g v old w)
+wordAfter g words v old (read r) = old
 
 unfoldable pub storedSince : Setting → ℕ → Pixel → ℕ → List Call → ℕ
-unfolding answered test effect
-storedSince g words v old [] = old
-storedSince g words v old (c ∷ cs) =
-    storedSince g words v (answered (test g words c) (λ r. old) (effect g v old c)) cs
+unfolding stateAfter wordAfter
+storedSince g words v = stateAfter (wordAfter g words v)
 
 -- "the word last stored at a pixel is that of the latest earlier store there that was not turned down. It is 0 if there is
 -- none, or if a clear of the pixel's bank, not turned down, came between."
@@ -92,50 +112,51 @@ lastStored g words calls v = storedSince g words v 0 calls
 
 -- The same in plain words: `later` holds no store at v and no clear of its bank that was not turned down.
 abbrev pub Touches : Setting → ℕ → Pixel → Call → Type 0
-Touches g words v (store w x) = (test g words (store w x) ≡ none) × (w ≡ v)
-Touches g words v (clear k) = (test g words (clear k) ≡ none) × (k ≡ bankOf (g .plan) v)
-Touches g words v (load w) = ⊥
-Touches g words v (fetch n o out) = ⊥
+Touches g words v (write (store w x)) = (test g words (write (store w x)) ≡ none) × (w ≡ v)
+Touches g words v (write (clear k)) = (test g words (write (clear k)) ≡ none) × (k ≡ bankOf (g .plan) v)
+Touches g words v (read r) = ⊥
 
 abbrev pub Untouched : Setting → ℕ → Pixel → List Call → Type 0
 Untouched g words v later = (c : Call) → List·Memᴰ c later → Touches g words v c → ⊥
 
 pub record LastStoredMeans : Type 0 where
   pub latest :
-      (g : Setting) (words : ℕ) (v : Pixel) (past later : List Call) (x : ℕ) → test g words (store v x) ≡ none
-      → Untouched g words v later → lastStored g words (past ++ (store v x ∷ later)) v ≡ x
+      (g : Setting) (words : ℕ) (v : Pixel) (past later : List Call) (x : ℕ) → test g words (write (store v x)) ≡ none
+      → Untouched g words v later → lastStored g words (past ++ (write (store v x) ∷ later)) v ≡ x
   pub cleared-since :
-      (g : Setting) (words : ℕ) (v : Pixel) (past later : List Call) (k : ℕ) → test g words (clear k) ≡ none
+      (g : Setting) (words : ℕ) (v : Pixel) (past later : List Call) (k : ℕ) → test g words (write (clear k)) ≡ none
       → k ≡ bankOf (g .plan) v → Untouched g words v later
-      → lastStored g words (past ++ (clear k ∷ later)) v ≡ 0
+      → lastStored g words (past ++ (write (clear k) ∷ later)) v ≡ 0
   pub never : (g : Setting) (words : ℕ) (v : Pixel) (calls : List Call) → Untouched g words v calls → lastStored g words calls v ≡ 0
 
 -- What call c is to give after the calls `past`: the refusal that the conditions tell, or what it is for, with the words last stored.
 unfoldable pub replyDue : Setting → ℕ → List Call → Call → Reply
-unfolding answered test lastStored moved overStart
-replyDue g words past (store v x) = stored (answered (test g words (store v x)) turnedDown (value tt))
-replyDue g words past (clear k) = cleared (answered (test g words (clear k)) turnedDown (value tt))
-replyDue g words past (load v) = loaded (answered (test g words (load v)) turnedDown (value (lastStored g words past v)))
-replyDue g words past (fetch n o out) =
+unfolding answered test lastStored moved overStart patternAt
+replyDue g words past (write w) = wrote (answered (test g words (write w)) turnedDown (value tt))
+replyDue g words past (read (load v)) =
+    loaded (answered (test g words (read (load v))) turnedDown (value (lastStored g words past v)))
+replyDue g words past (read (fetch n o out)) =
+    let vs : List Pixel = moved (patternAt (g .book) n) o in
     fetched
-    (answered (test g words (fetch n o out)) turnedDown (value (length (moved (g .book) n o))))
-    (answered (test g words (fetch n o out)) (λ r. out)
-    (overStart (map (lastStored g words past) (moved (g .book) n o)) out))
+    (answered (test g words (read (fetch n o out))) turnedDown (value (length vs)))
+    (answered (test g words (read (fetch n o out))) (λ r. out) (overStart (map (lastStored g words past) vs) out))
 
 -- What a call is given allows it: its pixel inside, its bank below N, or a pattern of the book wholly inside and room for it.
 abbrev pub Allowed : Setting → Call → Type 0
-Allowed g (store v x) = Inside (g .W) (g .H) v
-Allowed g (clear k) = k < banks (g .plan)
-Allowed g (load v) = Inside (g .W) (g .H) v
-Allowed g (fetch n o out) = (n < g .book .count) × AllInside (g .W) (g .H) (moved (g .book) n o) × (patternAt (g .book) n .used ≤ length out)
+Allowed g (write (store v x)) = Inside (g .W) (g .H) v
+Allowed g (write (clear k)) = k < banks (g .plan)
+Allowed g (read (load v)) = Inside (g .W) (g .H) v
+Allowed g (read (fetch n o out)) =
+    (n < g .book .count)
+    × AllInside (g .W) (g .H) (moved (patternAt (g .book) n) o)
+    × (patternAt (g .book) n .used ≤ length out)
 
 -- the banks that the words of a fetch come from, in order
 unfoldable pub banksRead : Setting → Call → List ℕ
-unfolding bankOf moved
-banksRead g (store v x) = []
-banksRead g (clear k) = []
-banksRead g (load v) = []
-banksRead g (fetch n o out) = map (bankOf (g .plan)) (moved (g .book) n o)
+unfolding bankOf moved patternAt
+banksRead g (write w) = []
+banksRead g (read (load v)) = []
+banksRead g (read (fetch n o out)) = map (bankOf (g .plan)) (moved (patternAt (g .book) n) o)
 
 -- "that there is at most one from each bank means that these banks are all different"
 abbrev pub AllDifferent : List ℕ → Type 0

@@ -88,11 +88,10 @@ pub record PatternsAre : Type 0 where
   -- a plan suits a book if it suits each pattern
   pub suits-each : (p : Plan) (ts : List (List Pixel)) → (suitsAll p ts ≡ true) ↔ ((t : List Pixel) → List·Memᴰ t ts → suits p t ≡ true)
   -- "a pattern with (0, 0) moved to a signed 16-bit position"
-  pub moved-size : (book : Book) (n : ℕ) (o : Pixel) → length (moved book n o) ≡ patternAt book n .used
+  pub moved-size : (t : Pattern) (o : Pixel) → length (moved t o) ≡ t .used
   pub moved-pixel :
-      (book : Book) (n : ℕ) (o : Pixel) (e : ℕ) → e < patternAt book n .used
-      → getD (moved book n o) e (at (pos 0) (pos 0))
-      ≡ at (o .column +ℤ pixelAt (patternAt book n) e .column) (o .row +ℤ pixelAt (patternAt book n) e .row)
+      (t : Pattern) (o : Pixel) (e : ℕ) → e < t .used
+      → getD (moved t o) e (at (pos 0) (pos 0)) ≡ at (o .column +ℤ pixelAt t e .column) (o .row +ℤ pixelAt t e .row)
 
 -- "Pixel (i, j) is in the lattice exactly if d divides j and a divides i - b × (j/d)."
 abbrev pub LatticeMeans : Type 0
@@ -107,6 +106,11 @@ SuitsMeans =
 abbrev pub InsideMeans : Type 0
 InsideMeans = (W H : ℕ) (v : Pixel) → (inside W H v ≡ true) ↔ Inside W H v
 
+-- A ring fetch "is allowed exactly if W and H are both multiples of N"
+pub record RingAllowed (p : Plan) (W H : ℕ) : Type 0 where
+  pub W-multiple : Multiple (banks p) W
+  pub H-multiple : Multiple (banks p) H
+
 -- a chain of tests gives the first refusal whose condition holds, and none exactly where no condition holds
 pub record ChainIsFirst : Type 0 where
   pub none-holds : (tests : List (Option Refusal)) → (firstOf tests ≡ none) ↔ ((t : Option Refusal) → List·Memᴰ t tests → t ≡ none)
@@ -120,8 +124,7 @@ pub record TestsMean : Type 0 where
   pub dependent-8 : (x y : Pixel) → (dependentTest x y ≡ none) ↔ Independent x y
   pub large-9 : (x y : Pixel) → (largeTest x y ≡ none) ↔ (determinantSize x y ≤ 1024)
   pub suits-10 :
-      (book : Book) (p : Plan) (n : ℕ) → IsBook book → IsPlan p → n < book .count → (suitsTest p book n ≡ none)
-      ↔ (suits p (pixels (patternAt book n)) ≡ true)
+      (t : Pattern) (p : Plan) (n : ℕ) → IsPattern t → IsPlan p → (suitsTest p n t ≡ none) ↔ (suits p (pixels t) ≡ true)
   pub plan-11 : (p : Plan) → (planTest p ≡ none) ↔ IsPlan p
   pub sides-12 : (W H : ℕ) → (sidesTest W H ≡ none) ↔ (IsSide W × IsSide H)
   pub memory-13 : (p : Plan) (W H words : ℕ) → (memoryTest p W H words ≡ none) ↔ (banks p * depthOf p W H ≤ words)
@@ -130,7 +133,7 @@ pub record TestsMean : Type 0 where
   pub cell-15 : (p : Plan) (W H k i : ℕ) → (cellTest p W H k i ≡ none) ↔ ((k < banks p) × (i < depthOf p W H) × Inside W H (pixelOf p W H k i))
   pub output-16 : (n room : ℕ) → (outputTest n room ≡ none) ↔ (n ≤ room)
   pub number-17 : (count n : ℕ) → (numberTest count n ≡ none) ↔ (n < count)
-  pub ring-18 : (p : Plan) (W H : ℕ) → IsPlan p → (ringTest p W H ≡ none) ↔ (Multiple (banks p) W × Multiple (banks p) H)
+  pub ring-18 : (p : Plan) (W H : ℕ) → IsPlan p → (ringTest p W H ≡ none) ↔ RingAllowed p W H
 
 -- A legal call is never refused: the test of a record, the writer, and plans. (The finder's, the check's and the picture's
 -- calls: PlanPromises, PicturePromises.)

@@ -10,15 +10,15 @@ use mathlib.Core.List.{List, map}
 use lib.IntN.{ℤ, pos, _-ℤ_, _*ℤ_}
 use lib.ListN.{length, getD, drop}
 use Rattle.integers.specs.Division.{IsDivision}
-use Rattle.integers.specs.Gcd.{Multiple}
 use Rattle.scope.specs.Plans.{Pixel, at, minus, patternAt, pixels, banks, InLattice, suits}
 use Rattle.scope.specs.Banks.{bankOf, addressOf, depthOf, wordOf, wrapped}
 use Rattle.scope.specs.Numbers.{value, refusal, ofCounted, ofLoaded, ofLocated, ofOutcome}
-use Rattle.scope.specs.Calls.{Result, writeBook, locate, store, load, clear, sum, moved, fetch, ringMoved, ringFetch, recordPixel, fillRecords}
-use Rattle.scope.specs.promises.Meaning.{IsPlan, IsSide, Inside, AllInside, IsPicture, IsBook}
+use Rattle.scope.specs.Calls.{Result, Lent, lent, writeBook, locate, store, load, clear, sum, moved, fetch, ringMoved, ringFetch, recordPixel, fillRecords}
+use Rattle.scope.specs.promises.Meaning.{IsPlan, IsSide, Inside, AllInside, IsPicture, IsBook, RingAllowed}
 use Rattle.scope.specs.promises.Demand.{AllDifferent}
 use Rattle.scope.specs.declared.Plan.{Plan}
 use Rattle.scope.specs.declared.Book.{Book}
+use Rattle.scope.specs.declared.Pattern.{Pattern}
 use Rattle.scope.specs.declared.Clash.{Clash}
 use Rattle.scope.specs.declared.PixelRecord.{PixelRecord}
 use Rattle.scope.specs.declared.Counted.{Counted}
@@ -44,7 +44,7 @@ pub record FormulasAre : Type 0 where
   -- "A ring fetch reduces columns modulo W and rows modulo H."
   pub wrapped-column : (W H : ℕ) → 1 ≤ W → (v : Pixel) (q : ℤ) (c : ℕ) → IsDivision (v .column) W q c → wrapped W H v .column ≡ pos c
   pub wrapped-row : (W H : ℕ) → 1 ≤ H → (v : Pixel) (q : ℤ) (c : ℕ) → IsDivision (v .row) H q c → wrapped W H v .row ≡ pos c
-  pub ring-moved : (book : Book) (W H n : ℕ) (o : Pixel) → ringMoved book W H n o ≡ map (wrapped W H) (moved book n o)
+  pub ring-moved : (W H : ℕ) (t : Pattern) (o : Pixel) → ringMoved W H t o ≡ map (wrapped W H) (moved t o)
   -- a record's pixel is its column and row
   pub record-pixel : (r : PixelRecord) → recordPixel r ≡ at (r .column) (r .row)
 
@@ -87,21 +87,21 @@ wordAt p W H mem v = getD mem (bankOf p v * depthOf p W H + addressOf p W H v) 0
 
 -- "A store puts its word at its pixel's bank and address, [..] and neither changes another word of the memory." "Words past
 -- N × depth are never touched."
-pub record StoredOne (p : Plan) (W H : ℕ) (mem : List ℕ) (v : Pixel) (x : ℕ) (r : Result Outcome (List ℕ)) : Type 0 where
+pub record StoredOne (p : Plan) (W H : ℕ) (mem : List ℕ) (v : Pixel) (x : ℕ) (r : Result Outcome Lent) : Type 0 where
   pub done : ofOutcome (r .answer) ≡ value tt
-  pub put : wordAt p W H (r .content) v ≡ x
-  pub elsewhere : (i : ℕ) → (i ≡ bankOf p v * depthOf p W H + addressOf p W H v → ⊥) → getD (r .content) i 0 ≡ getD mem i 0
-  pub past : drop (banks p * depthOf p W H) (r .content) ≡ drop (banks p * depthOf p W H) mem
-  pub as-long : length (r .content) ≡ length mem
+  pub put : wordAt p W H (r .content .memory) v ≡ x
+  pub elsewhere : (i : ℕ) → (i ≡ bankOf p v * depthOf p W H + addressOf p W H v → ⊥) → getD (r .content .memory) i 0 ≡ getD mem i 0
+  pub past : drop (banks p * depthOf p W H) (r .content .memory) ≡ drop (banks p * depthOf p W H) mem
+  pub as-long : length (r .content .memory) ≡ length mem
 
 -- "a clear puts 0 in every word of its bank"
-pub record ClearedOne (p : Plan) (W H : ℕ) (mem : List ℕ) (k : ℕ) (r : Result Outcome (List ℕ)) : Type 0 where
+pub record ClearedOne (p : Plan) (W H : ℕ) (mem : List ℕ) (k : ℕ) (r : Result Outcome Lent) : Type 0 where
   pub done : ofOutcome (r .answer) ≡ value tt
-  pub zeros : (i : ℕ) → i < depthOf p W H → getD (r .content) (k * depthOf p W H + i) 0 ≡ 0
-  pub before : (i : ℕ) → i < k * depthOf p W H → getD (r .content) i 0 ≡ getD mem i 0
-  pub after : (i : ℕ) → k * depthOf p W H + depthOf p W H ≤ i → getD (r .content) i 0 ≡ getD mem i 0
-  pub past : drop (banks p * depthOf p W H) (r .content) ≡ drop (banks p * depthOf p W H) mem
-  pub as-long : length (r .content) ≡ length mem
+  pub zeros : (i : ℕ) → i < depthOf p W H → getD (r .content .memory) (k * depthOf p W H + i) 0 ≡ 0
+  pub before : (i : ℕ) → i < k * depthOf p W H → getD (r .content .memory) i 0 ≡ getD mem i 0
+  pub after : (i : ℕ) → k * depthOf p W H + depthOf p W H ≤ i → getD (r .content .memory) i 0 ≡ getD mem i 0
+  pub past : drop (banks p * depthOf p W H) (r .content .memory) ≡ drop (banks p * depthOf p W H) mem
+  pub as-long : length (r .content .memory) ≡ length mem
 
 -- f 0 + f 1 + .. + f (n - 1)
 unfoldable pub totalBelow : ℕ → (ℕ → ℕ) → ℕ
@@ -139,11 +139,11 @@ pub record FilledAll (p : Plan) (W H : ℕ) (rs : List PixelRecord) (r : Result 
 pub record PictureCalls : Type 0 where
   pub stores :
       (p : Plan) (W H : ℕ) (mem : List ℕ) (v : Pixel) (x : ℕ) → IsPicture p W H (length mem) → Inside W H v
-      → StoredOne p W H mem v x (store p W H mem v x)
+      → StoredOne p W H mem v x (store p W H (lent mem) v x)
   pub loads :
       (p : Plan) (W H : ℕ) (mem : List ℕ) (v : Pixel) → IsPicture p W H (length mem) → Inside W H v
       → ofLoaded (load p W H mem v) ≡ value (wordAt p W H mem v)
-  pub clears : (p : Plan) (W H : ℕ) (mem : List ℕ) (k : ℕ) → IsPicture p W H (length mem) → k < banks p → ClearedOne p W H mem k (clear p W H mem k)
+  pub clears : (p : Plan) (W H : ℕ) (mem : List ℕ) (k : ℕ) → IsPicture p W H (length mem) → k < banks p → ClearedOne p W H mem k (clear p W H (lent mem) k)
   pub sums :
       (p : Plan) (W H : ℕ) (mem : List ℕ) (k : ℕ) → IsPicture p W H (length mem) → k < banks p
       → ofCounted (sum p W H mem k) ≡ value (totalBelow (depthOf p W H) λ i. getD mem (k * depthOf p W H + i) 0)
@@ -153,14 +153,14 @@ pub record PictureCalls : Type 0 where
       → ofCounted (sum p W H mem k) ≡ value n → n < 0x1_0000_0000_0000_0000
   pub fetches :
       (book : Book) (p : Plan) (W H : ℕ) (mem : List ℕ) (n : ℕ) (o : Pixel) (out : List ℕ)
-      → LegalFetch book p W H (length mem) n → AllInside W H (moved book n o)
+      → LegalFetch book p W H (length mem) n → AllInside W H (moved (patternAt book n) o)
       → patternAt book n .used ≤ length out
-      → FetchedAll p W H mem (moved book n o) out (fetch book p W H mem n o out)
+      → FetchedAll p W H mem (moved (patternAt book n) o) out (fetch book p W H mem n o out)
   pub ring-fetches :
       (book : Book) (p : Plan) (W H : ℕ) (mem : List ℕ) (n : ℕ) (o : Pixel) (out : List ℕ)
-      → LegalFetch book p W H (length mem) n → Multiple (banks p) W → Multiple (banks p) H
+      → LegalFetch book p W H (length mem) n → RingAllowed p W H
       → patternAt book n .used ≤ length out
-      → FetchedAll p W H mem (ringMoved book W H n o) out (ringFetch book p W H mem n o out)
+      → FetchedAll p W H mem (ringMoved W H (patternAt book n) o) out (ringFetch book p W H mem n o out)
   pub fills :
       (p : Plan) (W H : ℕ) (rs : List PixelRecord) → IsPlan p → IsSide W → IsSide H
       → AllInside W H (map recordPixel rs) → FilledAll p W H rs (fillRecords p W H rs)
@@ -172,10 +172,10 @@ pub record RefusalsChangeNothing : Type 0 where
       → ofCounted (writeBook book out .answer) ≡ refusal n i c → writeBook book out .content ≡ out
   pub stores :
       (p : Plan) (W H : ℕ) (mem : List ℕ) (v : Pixel) (x n i : ℕ) (c : Option Clash)
-      → ofOutcome (store p W H mem v x .answer) ≡ refusal n i c → store p W H mem v x .content ≡ mem
+      → ofOutcome (store p W H (lent mem) v x .answer) ≡ refusal n i c → store p W H (lent mem) v x .content ≡ lent mem
   pub clears :
       (p : Plan) (W H : ℕ) (mem : List ℕ) (k n i : ℕ) (c : Option Clash)
-      → ofOutcome (clear p W H mem k .answer) ≡ refusal n i c → clear p W H mem k .content ≡ mem
+      → ofOutcome (clear p W H (lent mem) k .answer) ≡ refusal n i c → clear p W H (lent mem) k .content ≡ lent mem
   pub fetches :
       (book : Book) (p : Plan) (W H : ℕ) (mem : List ℕ) (m : ℕ) (o : Pixel) (out : List ℕ) (n i : ℕ) (c : Option Clash)
       → ofCounted (fetch book p W H mem m o out .answer) ≡ refusal n i c
@@ -191,6 +191,6 @@ pub record RefusalsChangeNothing : Type 0 where
 -- Document 000, Theorem 2.6, for both sides: where W and H are multiples of N, wrapping keeps the bank, and lands inside
 pub record RingKeepsBanks : Type 0 where
   pub same-bank :
-      (p : Plan) (W H : ℕ) → IsPlan p → 1 ≤ W → 1 ≤ H → Multiple (banks p) W → Multiple (banks p) H
+      (p : Plan) (W H : ℕ) → IsPlan p → 1 ≤ W → 1 ≤ H → RingAllowed p W H
       → (v : Pixel) → bankOf p (wrapped W H v) ≡ bankOf p v
   pub lands : (W H : ℕ) → 1 ≤ W → 1 ≤ H → (v : Pixel) → Inside W H (wrapped W H v)

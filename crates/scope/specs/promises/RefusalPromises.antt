@@ -8,13 +8,12 @@ use mathlib.Core.Bool.{true, false}
 use mathlib.Core.Option.{Option, none, some}
 use mathlib.Core.List.{List, [], _∷_, _++_, map, flatMap, List·Memᴰ}
 use lib.ListN.{length}
-use Rattle.integers.specs.Gcd.{Multiple}
 use Rattle.scope.specs.Plans.{Pixel, at, pixelAt, patternAt, pixels, banks, suits, determinantSize}
 use Rattle.scope.specs.Banks.{depthOf}
 use Rattle.scope.specs.Books.{signed, patternOf, bookOf, pixelBytes, patternBytes, bookBytes}
 use Rattle.scope.specs.Numbers.{Answer, value, refusal, turnedDown, ofPlanned, ofCounted, ofLoaded, ofLocated, ofOutcome, ofVerdict, recordTest}
-use Rattle.scope.specs.Calls.{readBook, partOutcome, recordOutcome, writeBook, normal, find, check, bank, depth, address, locate, store, load, clear, sum, moved, fetch, ringFetch, recordPixel, fillRecords}
-use Rattle.scope.specs.promises.Meaning.{IsPlan, IsSide, Inside, AllInside, IsPicture, InRange, IsPattern, IsBook, Independent}
+use Rattle.scope.specs.Calls.{readBook, partOutcome, recordOutcome, writeBook, normal, find, check, bank, depth, address, locate, store, load, clear, sum, lent, moved, fetch, ringFetch, recordPixel, fillRecords}
+use Rattle.scope.specs.promises.Meaning.{IsPlan, IsSide, Inside, AllInside, IsPicture, InRange, IsPattern, IsBook, Independent, RingAllowed}
 use Rattle.scope.specs.promises.PicturePromises.{LegalFetch}
 use Rattle.scope.specs.declared.Plan.{Plan}
 use Rattle.scope.specs.declared.Pattern.{Pattern}
@@ -82,21 +81,21 @@ pub record CallsRefuse : Type 0 where
   pub locates : (p : Plan) (W H k i : ℕ) → PlanRefused p W H (ofLocated (locate p W H k i))
   pub stores :
       (p : Plan) (W H : ℕ) (mem : List ℕ) (v : Pixel) (x : ℕ)
-      → WordRefused p W H (length mem) v (ofOutcome (store p W H mem v x .answer))
+      → WordRefused p W H (length mem) v (ofOutcome (store p W H (lent mem) v x .answer))
   pub loads : (p : Plan) (W H : ℕ) (mem : List ℕ) (v : Pixel) → WordRefused p W H (length mem) v (ofLoaded (load p W H mem v))
   pub clears :
-      (p : Plan) (W H : ℕ) (mem : List ℕ) (k : ℕ) → BankRefused p W H (length mem) k (ofOutcome (clear p W H mem k .answer))
+      (p : Plan) (W H : ℕ) (mem : List ℕ) (k : ℕ) → BankRefused p W H (length mem) k (ofOutcome (clear p W H (lent mem) k .answer))
   pub sums : (p : Plan) (W H : ℕ) (mem : List ℕ) (k : ℕ) → BankRefused p W H (length mem) k (ofCounted (sum p W H mem k))
   pub fetches :
       (book : Book) (p : Plan) (W H : ℕ) (mem : List ℕ) (n : ℕ) (o : Pixel) (out : List ℕ)
       → FetchRefused book p W H (length mem) n (ofCounted (fetch book p W H mem n o out .answer))
   pub fetch-14 :
       (book : Book) (p : Plan) (W H : ℕ) (mem : List ℕ) (n : ℕ) (o : Pixel) (out : List ℕ)
-      → LegalFetch book p W H (length mem) n → (AllInside W H (moved book n o) → ⊥)
+      → LegalFetch book p W H (length mem) n → (AllInside W H (moved (patternAt book n) o) → ⊥)
       → ofCounted (fetch book p W H mem n o out .answer) ≡ refusal 14 0 none
   pub fetch-16 :
       (book : Book) (p : Plan) (W H : ℕ) (mem : List ℕ) (n : ℕ) (o : Pixel) (out : List ℕ)
-      → LegalFetch book p W H (length mem) n → AllInside W H (moved book n o) → length out < patternAt book n .used
+      → LegalFetch book p W H (length mem) n → AllInside W H (moved (patternAt book n) o) → length out < patternAt book n .used
       → ofCounted (fetch book p W H mem n o out .answer) ≡ refusal 16 0 none
   pub ring-fetches :
       (book : Book) (p : Plan) (W H : ℕ) (mem : List ℕ) (n : ℕ) (o : Pixel) (out : List ℕ)
@@ -104,11 +103,11 @@ pub record CallsRefuse : Type 0 where
   -- "It is allowed exactly if W and H are both multiples of N" (PictureCalls.ring-fetches is the other half)
   pub ring-18 :
       (book : Book) (p : Plan) (W H : ℕ) (mem : List ℕ) (n : ℕ) (o : Pixel) (out : List ℕ)
-      → LegalFetch book p W H (length mem) n → (Multiple (banks p) W × Multiple (banks p) H → ⊥)
+      → LegalFetch book p W H (length mem) n → (RingAllowed p W H → ⊥)
       → ofCounted (ringFetch book p W H mem n o out .answer) ≡ refusal 18 0 none
   pub ring-16 :
       (book : Book) (p : Plan) (W H : ℕ) (mem : List ℕ) (n : ℕ) (o : Pixel) (out : List ℕ)
-      → LegalFetch book p W H (length mem) n → Multiple (banks p) W → Multiple (banks p) H
+      → LegalFetch book p W H (length mem) n → RingAllowed p W H
       → length out < patternAt book n .used
       → ofCounted (ringFetch book p W H mem n o out .answer) ≡ refusal 16 0 none
   pub fills : (p : Plan) (W H : ℕ) (rs : List PixelRecord) → PlanRefused p W H (ofOutcome (fillRecords p W H rs .answer))

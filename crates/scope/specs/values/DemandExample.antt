@@ -14,7 +14,7 @@ use Rattle.scope.specs.Books.{bookOf}
 use Rattle.scope.specs.Numbers.{value}
 use Rattle.scope.specs.Calls.{find}
 use Rattle.scope.specs.promises.Meaning.{Inside}
-use Rattle.scope.specs.promises.Demand.{Call, store, clear, load, fetch, fetched, Setting, reply, run, test, replyDue, lastStored, banksRead, pictureWords, CallHolds, ListHolds, Demand3}
+use Rattle.scope.specs.promises.Demand.{Call, write, read, store, clear, load, fetch, fetched, Setting, reply, run, test, replyDue, lastStored, banksRead, pictureWords, CallHolds, ListHolds, Demand3}
 
 -- a picture of W by H
 unfoldable pub sized : ℕ → ℕ → Setting
@@ -34,20 +34,20 @@ other = 7 ∷ []
 -- two stores in row 1, and a fetch of the pattern there into an output of three words
 unfoldable pub stores : List Call
 unfolding at
-stores = store (at (pos 0) (pos 1)) 8 ∷ store (at (pos 1) (pos 1)) 9 ∷ []
+stores = write (store (at (pos 0) (pos 1)) 8) ∷ write (store (at (pos 1) (pos 1)) 9) ∷ []
 
 unfoldable pub last : Call
 unfolding at
-last = fetch 0 (at (pos 0) (pos 1)) (5 ∷ 5 ∷ 5 ∷ [])
+last = read (fetch 0 (at (pos 0) (pos 1)) (5 ∷ 5 ∷ 5 ∷ []))
 
 -- What demand 3 says of them.
 pub record ReadOff : Type 0 where
   -- the fetch brings the stored words, and leaves the third of its output
   pub words-fetched : reply (sized 2 2) (run (sized 2 2) longer stores) last ≡ fetched (value 2) (8 ∷ 9 ∷ 5 ∷ [])
   -- bank 1 may be cleared; the pixel (2, 0) may not be loaded, and in a picture without a row nothing is taken
-  pub clear-taken : test (sized 2 2) 5 (clear 1) ≡ none
-  pub outside-refused : test (sized 2 2) 5 (load (at (pos 2) (pos 0))) ≡ none → ⊥
-  pub no-row-refused : test (sized 2 0) 1 (clear 1) ≡ none → ⊥
+  pub clear-taken : test (sized 2 2) 5 (write (clear 1)) ≡ none
+  pub outside-refused : test (sized 2 2) 5 (read (load (at (pos 2) (pos 0)))) ≡ none → ⊥
+  pub no-row-refused : test (sized 2 0) 1 (write (clear 1)) ≡ none → ⊥
   -- the two words of the fetch come from two banks
   pub banks-differ : bankOf (plan 2 0 1) (at (pos 0) (pos 1)) ≡ bankOf (plan 2 0 1) (at (pos 1) (pos 1)) → ⊥
   -- after the stores the word of (1, 1) stands there, and the fifth word of the memory is as it was
@@ -55,7 +55,7 @@ pub record ReadOff : Type 0 where
   pub rest-stays : drop 4 (run (sized 2 2) longer stores) ≡ 7 ∷ []
   pub as-long : length (run (sized 2 2) longer stores) ≡ 5
   -- a picture of one pixel leaves bank 1 without a pixel: its word is 0
-  pub other-is-0 : getD (run (sized 1 1) exact (store (at (pos 0) (pos 0)) 6 ∷ [])) 1 0 ≡ 0
+  pub other-is-0 : getD (run (sized 1 1) exact (write (store (at (pos 0) (pos 0)) 6) ∷ [])) 1 0 ≡ 0
 
 module _ (demand-3 : Demand3) where
   -- the premises hold
@@ -86,19 +86,19 @@ module _ (demand-3 : Demand3) where
   unfolding sized stores lastStored at
   stored-last = refl
 
-  may-clear : test (sized 2 2) 5 (clear 1) ≡ none
+  may-clear : test (sized 2 2) 5 (write (clear 1)) ≡ none
   unfolding sized banks
-  may-clear = alone (clear 1) .taken (omega arith, omega arith) (omega arith, omega arith) (omega arith)
+  may-clear = alone (write (clear 1)) .taken (omega arith, omega arith) (omega arith, omega arith) (omega arith)
 
-  not-loaded : test (sized 2 2) 5 (load (at (pos 2) (pos 0))) ≡ none → ⊥
+  not-loaded : test (sized 2 2) 5 (read (load (at (pos 2) (pos 0)))) ≡ none → ⊥
   unfolding sized at
   not-loaded e =
-      let k = alone (load (at (pos 2) (pos 0))) .only-legal e .2 in
+      let k = alone (read (load (at (pos 2) (pos 0)))) .only-legal e .2 in
       absurd (omega (arith, ap natAbs (k .column), k .i-below))
 
-  nothing-taken : test (sized 2 0) 1 (clear 1) ≡ none → ⊥
+  nothing-taken : test (sized 2 0) 1 (write (clear 1)) ≡ none → ⊥
   unfolding sized
-  nothing-taken e = absurd (omega (arith, no-row (clear 1 ∷ []) .each [] (clear 1) [] refl .only-legal e .1 .0))
+  nothing-taken e = absurd (omega (arith, no-row (write (clear 1) ∷ []) .each [] (write (clear 1)) [] refl .only-legal e .1 .0))
 
   fetch-taken : test (sized 2 2) 5 last ≡ none
   unfolding sized last test
@@ -127,9 +127,9 @@ module _ (demand-3 : Demand3) where
       let row : v .row ≡ pos 0 = h .row ∙ ap pos (omega (arith, h .j-below)) in
       absurd (omega (arith, rw (column, row) at e))
 
-  other-0 : getD (run (sized 1 1) exact (store (at (pos 0) (pos 0)) 6 ∷ [])) 1 0 ≡ 0
+  other-0 : getD (run (sized 1 1) exact (write (store (at (pos 0) (pos 0)) 6) ∷ [])) 1 0 ≡ 0
   unfolding sized pictureWords
-  other-0 = one-by-one (store (at (pos 0) (pos 0)) 6 ∷ []) .others 1 (omega arith) no-pixel
+  other-0 = one-by-one (write (store (at (pos 0) (pos 0)) 6) ∷ []) .others 1 (omega arith) no-pixel
 
   pub read-off : ReadOff
   read-off =

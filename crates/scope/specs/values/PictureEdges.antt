@@ -9,7 +9,7 @@ use Rattle.scope.specs.Search.{gather}
 use Rattle.scope.specs.Plans.{Pixel, at, plan}
 use Rattle.scope.specs.Books.{bookOf}
 use Rattle.scope.specs.Numbers.{Answer}
-use Rattle.scope.specs.Calls.{bank, depth, address, locate, store, load, clear, sum, fetch, ringFetch, fillRecords}
+use Rattle.scope.specs.Calls.{bank, depth, address, locate, lent, store, load, clear, sum, fetch, ringFetch, fillRecords}
 use Rattle.scope.specs.promises.Demand as Demand
 use Rattle.scope.specs.values.Rows.{Row, Hold, row, is, refused, clashes, counted, loaded, located, done, records, neg, px, one, two, finds, checks}
 use Rattle.scope.specs.declared.Plan.{Plan}
@@ -53,20 +53,20 @@ setting = record { book = bookOf (two ∷ []); plan = plan 2 0 1; W = 2; H = 2 }
 calls : List Demand.Call
 unfolding px
 calls =
-    Demand.store (px 1 0) 5 ∷ Demand.store (px 1 1) 6 ∷ Demand.store (px 2 0) 7 ∷ Demand.clear 2 ∷ Demand.store (px 0 1) 8
-    ∷ Demand.fetch 0 (px 0 1) [] ∷ Demand.clear 1 ∷ Demand.store (px 1 1) 9 ∷ []
+    Demand.write (Demand.store (px 1 0) 5) ∷ Demand.write (Demand.store (px 1 1) 6) ∷ Demand.write (Demand.store (px 2 0) 7) ∷ Demand.write (Demand.clear 2) ∷ Demand.write (Demand.store (px 0 1) 8)
+    ∷ Demand.read (Demand.fetch 0 (px 0 1) []) ∷ Demand.write (Demand.clear 1) ∷ Demand.write (Demand.store (px 1 1) 9) ∷ []
 
 -- Store, load, clear and sum.
 storing : List Row
 unfolding row is refused done counted loaded store load clear sum plan px upTo
 storing =
-    row (is (store (plan 2 0 1) 2 2 (upTo 5) (px 1 0) 9 .content)) (is (1 ∷ 2 ∷ 9 ∷ 4 ∷ 5 ∷ []))
-    ∷ row (done (store (plan 2 0 1) 2 2 (upTo 5) (px 1 0) 9 .answer)) (is [])
-    ∷ row (is (store (plan 2 0 1) 2 2 (upTo 5) (px 2 0) 9 .content)) (is (1 ∷ 2 ∷ 3 ∷ 4 ∷ 5 ∷ []))
+    row (is (store (plan 2 0 1) 2 2 (lent (upTo 5)) (px 1 0) 9 .content .memory)) (is (1 ∷ 2 ∷ 9 ∷ 4 ∷ 5 ∷ []))
+    ∷ row (done (store (plan 2 0 1) 2 2 (lent (upTo 5)) (px 1 0) 9 .answer)) (is [])
+    ∷ row (is (store (plan 2 0 1) 2 2 (lent (upTo 5)) (px 2 0) 9 .content .memory)) (is (1 ∷ 2 ∷ 3 ∷ 4 ∷ 5 ∷ []))
     ∷ row (loaded (load (plan 2 0 1) 2 2 (upTo 4) (px 1 0))) (is (3 ∷ []))
-    ∷ row (is (clear (plan 2 0 1) 2 2 (upTo 5) 1 .content)) (is (1 ∷ 2 ∷ 0 ∷ 0 ∷ 5 ∷ []))
-    ∷ row (is (clear (plan 2 0 1) 2 2 (upTo 5) 2 .content)) (is (1 ∷ 2 ∷ 3 ∷ 4 ∷ 5 ∷ []))
-    ∷ row (done (clear (plan 2 0 1) 2 2 (upTo 5) 2 .answer)) (refused 15 0)
+    ∷ row (is (clear (plan 2 0 1) 2 2 (lent (upTo 5)) 1 .content .memory)) (is (1 ∷ 2 ∷ 0 ∷ 0 ∷ 5 ∷ []))
+    ∷ row (is (clear (plan 2 0 1) 2 2 (lent (upTo 5)) 2 .content .memory)) (is (1 ∷ 2 ∷ 3 ∷ 4 ∷ 5 ∷ []))
+    ∷ row (done (clear (plan 2 0 1) 2 2 (lent (upTo 5)) 2 .answer)) (refused 15 0)
     ∷ row (counted (sum (plan 2 0 1) 2 2 (upTo 5) 1)) (is (7 ∷ []))
     ∷ row (counted (sum (plan 1 0 1) 3 1 (upTo 4) 0)) (is (6 ∷ []))
     ∷ row (counted (sum (plan 2 0 1) 2 2 (upTo 6) 2)) (refused 15 0)
@@ -150,14 +150,14 @@ orders =
     ∷ row (loaded (load (plan 0 0 1) 0 0 [] (px 0 0))) (refused 11 0)
     ∷ row (loaded (load (plan 1 0 1) 5000 1 [] (px 0 0))) (refused 12 0)
     ∷ row (loaded (load (plan 2 0 1) 2 2 (upTo 3) (px 2 0))) (refused 13 0)
-    ∷ row (done (clear (plan 0 0 1) 0 0 [] 9 .answer)) (refused 11 0)
-    ∷ row (done (clear (plan 1 0 1) 5000 1 [] 9 .answer)) (refused 12 0)
-    ∷ row (done (clear (plan 2 0 1) 2 2 (upTo 3) 2 .answer)) (refused 13 0)
+    ∷ row (done (clear (plan 0 0 1) 0 0 (lent []) 9 .answer)) (refused 11 0)
+    ∷ row (done (clear (plan 1 0 1) 5000 1 (lent []) 9 .answer)) (refused 12 0)
+    ∷ row (done (clear (plan 2 0 1) 2 2 (lent (upTo 3)) 2 .answer)) (refused 13 0)
     ∷ row (done (fillRecords (plan 0 0 1) 0 0 (recordAt 9 9 ∷ []) .answer)) (refused 11 0)
     ∷ row (done (fillRecords (plan 5 2 1) 0 4 (recordAt 9 9 ∷ []) .answer)) (refused 12 0)
-    ∷ row (done (store (plan 0 0 1) 0 0 [] (px 0 0) 9 .answer)) (refused 11 0)
-    ∷ row (done (store (plan 1 0 1) 5000 1 [] (px 0 0) 9 .answer)) (refused 12 0)
-    ∷ row (done (store (plan 2 0 1) 2 2 (upTo 3) (px 9 9) 9 .answer)) (refused 13 0)
+    ∷ row (done (store (plan 0 0 1) 0 0 (lent []) (px 0 0) 9 .answer)) (refused 11 0)
+    ∷ row (done (store (plan 1 0 1) 5000 1 (lent []) (px 0 0) 9 .answer)) (refused 12 0)
+    ∷ row (done (store (plan 2 0 1) 2 2 (lent (upTo 3)) (px 9 9) 9 .answer)) (refused 13 0)
     ∷ row (counted (sum (plan 0 0 1) 0 0 [] 9)) (refused 11 0)
     ∷ row (counted (sum (plan 1 0 1) 5000 1 [] 9)) (refused 12 0)
     ∷ row (counted (sum (plan 2 0 1) 2 2 (upTo 3) 2)) (refused 13 0)
