@@ -1,25 +1,27 @@
--- What an answer tells of the search behind it.
+-- What an answer tells of the search behind it, and whether a plan suits, test by test.
 -- Assumes nothing.
 use Prim.Native.Nat.{ℕ, _≤_}
 use native.Mathlib.Omega.{arith}
-use mathlib.Core.Path.{_≡_, refl, sym, _∙_}
-use mathlib.Core.Bool.{true}
+use mathlib.Core.Path.{_≡_, refl, sym, _∙_, ap}
+use mathlib.Core.Bool.{true, false, not}
 use mathlib.Core.Option.{Option, none, some}
-use lib.Dec.{leb}
-use Rattle.integers.proofs.Comparisons.{leb-iff}
+use mathlib.Core.List.{[], _∷_}
+use Rattle.scope.specs.Search.{firstOf}
 use Rattle.scope.specs.Plans.{isPlan, pixels}
 use Rattle.scope.specs.Finding.{clashIn}
+use Rattle.scope.specs.Numbers.{countTest, planTest, suitsTest}
 use Rattle.scope.specs.declared.Clash.{Clash}
+use Rattle.scope.specs.declared.Outcome.{Outcome}
 use Rattle.scope.specs.declared.Pattern.{Pattern}
 use Rattle.scope.specs.declared.Plan.{Plan}
-use Rattle.finder.specs.Clashing.{metAt, metIn}
+use Rattle.scope.specs.declared.Refusal.{Refusal}
+use Rattle.scope.specs.declared.Refusal.the-variants.{Count, NotPlan, Unsuited}
+use Rattle.checks.proofs.Searches.{none-whenever, some-whenever}
+use Rattle.checks.proofs.Chains.{chain-refuses, chain-goes-on, chain-of-one, answered-none, answered-some}
+use Rattle.checks.proofs.BookTests.{count-legal-iff}
+use Rattle.checks.proofs.BookRefusals.{count-refused}
+use Rattle.finder.specs.Clashing.{metAt, suitsOutcome}
 use Rattle.finder.specs.declared.clash.Met.{Met}
-
--- Of a plan and at most 64 pixels the answer is the clash.
-pub met-of-plan :
-    (p : Plan) (n : ℕ) (t : Pattern) → isPlan p ≡ true → t .used ≤ 64 → metIn p n t ≡ metAt (clashIn p n (pixels t))
-unfolding metIn
-met-of-plan p n t plan small = let h : leb (t .used) 64 ≡ true = leb-iff (t .used) 64 .1 small in rw (plan, h)
 
 -- An answer tells what the search found.
 at-not-nowhere : {c : Clash} → Met.At c ≡ Met.Nowhere → ⊥
@@ -35,3 +37,43 @@ module _ {met : Met} where
   unfolding metAt
   nowhere-found none answer nowhere = refl
   nowhere-found (some d) answer nowhere = absurd (at-not-nowhere (sym answer ∙ nowhere))
+
+-- Whether a plan suits a pattern: 2, then 11, then what the search found.
+module _ (p : Plan) (n : ℕ) (t : Pattern) where
+  abbrev tests : Option Refusal
+  tests = firstOf (countTest 64 (t .used) 0 ∷ planTest p ∷ suitsTest p n t ∷ [])
+
+  refused-by : (r : Refusal) → tests ≡ some r → Outcome.Refused r ≡ suitsOutcome p n t
+  unfolding suitsOutcome
+  refused-by r e = sym (answered-some tests Outcome.Refused Outcome.Done r e)
+
+  pub suits-count : ((1 ≤ t .used) × (t .used ≤ 64) → ⊥) → Outcome.Refused (Count 0) ≡ suitsOutcome p n t
+  suits-count h = refused-by (Count 0) (chain-refuses (countTest 64 (t .used) 0) _ (Count 0) (count-refused 64 (t .used) 0 h))
+
+  module _ (least : 1 ≤ t .used) (most : t .used ≤ 64) where
+    past-count : tests ≡ firstOf (planTest p ∷ suitsTest p n t ∷ [])
+    past-count = chain-goes-on (countTest 64 (t .used) 0) _ (count-legal-iff 64 (t .used) 0 .1 (least, most))
+
+    pub suits-no-plan : isPlan p ≡ false → Outcome.Refused NotPlan ≡ suitsOutcome p n t
+    unfolding planTest
+    suits-no-plan e =
+        refused-by NotPlan
+        (past-count ∙ chain-refuses (planTest p) (suitsTest p n t ∷ []) NotPlan (some-whenever (not (isPlan p)) NotPlan (ap not e)))
+
+    module _ (plan : isPlan p ≡ true) where
+      past-plan : tests ≡ suitsTest p n t
+      unfolding planTest
+      past-plan =
+          past-count
+          ∙ chain-goes-on (planTest p) (suitsTest p n t ∷ []) (none-whenever (not (isPlan p)) NotPlan (ap not plan))
+          ∙ chain-of-one (suitsTest p n t)
+
+      pub suits-clash : (c : Clash) → clashIn p n (pixels t) ≡ some c → Outcome.Refused (Unsuited c) ≡ suitsOutcome p n t
+      unfolding suitsTest
+      suits-clash c e = let found : suitsTest p n t ≡ some (Unsuited c) = rw (e, suitsTest) in refused-by (Unsuited c) (past-plan ∙ found)
+
+      pub suits-done : clashIn p n (pixels t) ≡ none → Outcome.Done ≡ suitsOutcome p n t
+      unfolding suitsTest suitsOutcome
+      suits-done e =
+          let found : suitsTest p n t ≡ none = rw (e, suitsTest) in
+          sym (answered-none tests Outcome.Refused Outcome.Done (past-plan ∙ found))

@@ -1,12 +1,13 @@
--- A clash that a search found or did not find, as the code's answer.
+-- A clash that a search found or did not find, and whether a plan suits a pattern, as the code's answers.
 -- Assumes nothing.
 use Prim.Native.Nat.{ℕ}
-use mathlib.Core.Bool.{_&&_, cond}
 use mathlib.Core.Option.{Option, none, some}
-use lib.Dec.{leb}
-use Rattle.scope.specs.Plans.{isPlan, pixels}
-use Rattle.scope.specs.Finding.{clashIn}
+use mathlib.Core.List.{[], _∷_}
+use Rattle.scope.specs.Search.{firstOf}
+use Rattle.scope.specs.Numbers.{countTest, planTest, suitsTest}
+use Rattle.scope.specs.Calls.{answered}
 use Rattle.scope.specs.declared.Clash.{Clash}
+use Rattle.scope.specs.declared.Outcome.{Outcome}
 use Rattle.scope.specs.declared.Pattern.{Pattern}
 use Rattle.scope.specs.declared.Plan.{Plan}
 use Rattle.finder.specs.declared.clash.Met.{Met}
@@ -15,7 +16,8 @@ unfoldable pub metAt : Option Clash → Met
 metAt none = Met.Nowhere
 metAt (some c) = Met.At c
 
--- the clash of pattern n, whose record is t, for a plan and at most 64 pixels
-unfoldable pub metIn : Plan → ℕ → Pattern → Met
-unfolding metAt isPlan clashIn pixels
-metIn p n t = cond (isPlan p && leb (t .used) 64) (metAt (clashIn p n (pixels t))) Met.Nowhere
+-- the plan suits the pattern t, number n, or 2 for its pixel count, 11, 10
+unfoldable pub suitsOutcome : Plan → ℕ → Pattern → Outcome
+unfolding answered firstOf countTest planTest suitsTest
+suitsOutcome p n t =
+    answered (firstOf (countTest 64 (t .used) 0 ∷ planTest p ∷ suitsTest p n t ∷ [])) Outcome.Refused Outcome.Done

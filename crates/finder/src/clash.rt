@@ -1,8 +1,10 @@
 // The clash of one pattern under a plan.
 use scope::Clash;
 use scope::Counted;
+use scope::Outcome;
 use scope::Pattern;
 use scope::Plan;
+use scope::Refusal;
 use scope::is_plan;
 ghost use mathlib.Core.Path.{_≡_};
 ghost use mathlib.Core.Bool.{true};
@@ -10,7 +12,7 @@ ghost use Prim.Native.Nat.{_≤_, _<_};
 ghost use Rattle.scope.specs.Plans.{at, isPlan, pixels};
 ghost use Rattle.scope.specs.Finding.{clashIn};
 ghost use Rattle.scope.specs.Banks.{bankOf};
-ghost use Rattle.finder.specs.Clashing.{metAt, metIn};
+ghost use Rattle.finder.specs.Clashing.{metAt, suitsOutcome};
 
 // Whether two pixels of a pattern meet in one bank, and which.
 pub enum Met {
@@ -32,7 +34,7 @@ fn bank_in(p: Plan, i: i8, j: i8) -> usize
 
 // The clash of pattern n, whose record is t. The pixels are taken from the last to the first; `next` has for each bank the
 // position of the one taken last, 0 for none: position 0 is taken last of all.
-fn search(p: Plan, n: usize, t: Pattern) -> Met
+pub(crate) fn clash_in(p: Plan, n: usize, t: Pattern) -> Met
     requires { ⌜ (isPlan p ≡ true) × (t .used ≤ 64) ⌝ }
     ensures { λ r. ⌜ r ≡ metAt (clashIn p n (pixels t)) ⌝ }
 {
@@ -57,15 +59,23 @@ fn search(p: Plan, n: usize, t: Pattern) -> Met
     met
 }
 
-// The clash of pattern n, whose record is t: nowhere where p is no plan, or where the record has more than 64 pixels.
-pub fn clash_in(p: Plan, n: usize, t: Pattern) -> Met
-    ensures { λ r. ⌜ r ≡ metIn p n t ⌝ }
+// Whether a plan suits the pattern t, number n, or 2 for its pixel count, 11, 10.
+pub fn suits_outcome(p: Plan, n: usize, t: Pattern) -> Outcome
+    ensures { λ r. ⌜ r ≡ suitsOutcome p n t ⌝ }
 {
+    let used = t.used;
+    if used == 0 {
+        return Outcome::Refused(Refusal::Count(0));
+    }
+    if 64 < used {
+        return Outcome::Refused(Refusal::Count(0));
+    }
     if !is_plan(p.a, p.b, p.d) {
-        return Met::Nowhere;
+        return Outcome::Refused(Refusal::NotPlan);
     }
-    if 64 < t.used {
-        return Met::Nowhere;
+    let met = clash_in(p, n, t);
+    match met {
+        Met::At(c) => Outcome::Refused(Refusal::Unsuited(c)),
+        Met::Nowhere => Outcome::Done,
     }
-    search(p, n, t)
 }

@@ -4,6 +4,5 @@ mod clash;
 mod finding;
 
 pub use checking::check;
-pub use clash::Met;
-pub use clash::clash_in;
+pub use clash::suits_outcome;
 pub use finding::find;

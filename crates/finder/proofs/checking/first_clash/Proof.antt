@@ -12,7 +12,7 @@ use Rattle.scope.specs.promises.Meaning.{IsBook}
 use Rattle.checks.proofs.BookTests.{book-legal-iff}
 use Rattle.finder.proofs.ClashSearch.{patternClash}
 use Rattle.finder.specs.Clashing.{metAt}
-use Rattle.finder.proofs.MetAnswers.{met-of-plan, at-found, nowhere-found}
+use Rattle.finder.proofs.MetAnswers.{at-found, nowhere-found}
 use Rattle.finder.proofs.Verdicts.{clash-at, clash-nowhere}
 use Rattle.finder.proofs.checking.first_clash.Statement.{statement}
 use Rattle.finder.proofs.checking.first_clash.Tie as tie
@@ -36,6 +36,11 @@ mul-t c = record { fits = omega (arith, legal (c .before) .most) }
 element-copy-out-t : tie.Need-element-copy-out-t Inv-loop μ-loop
 element-copy-out-t c = omega (arith, legal (c .before) .most)
 
+clash-in-requires : tie.Need-clash-in-requires Inv-loop μ-loop
+unfolding patternAt
+clash-in-requires c κs =
+    let l = c .before .before in (l .before .pre .0, legal l .each (l .loop .n) (c .before .loop-test .taken) .most)
+
 -- in a turn, where it is known what was met in the n-th pattern
 module _ (c : tie.After-clash-in Inv-loop μ-loop) where
   abbrev head : tie.At-loop Inv-loop μ-loop
@@ -46,10 +51,7 @@ module _ (c : tie.After-clash-in Inv-loop μ-loop) where
 
   pattern-answer : c .clash-in .result ≡ metAt (patternClash (head .before .args .p) (head .before .args .t2) n)
   unfolding patternAt
-  pattern-answer =
-      c .clash-in .ensures
-      ∙ met-of-plan (head .before .args .p) n (patternAt (head .before .args .t2) n) (head .before .pre .0)
-      (legal head .each n (c .before .before .loop-test .taken) .most)
+  pattern-answer = c .clash-in .ensures
 
 returns : tie.Need-returns Inv-loop μ-loop
 unfolding metAt
@@ -81,7 +83,8 @@ first-clash-spec =
     loop-holds
     mul-t
     element-copy-out-t
-    (λ c κs. search needs) (λ c. search needs)
+    clash-in-requires
+    (λ c. search needs)
     returns
     (λ c. search needs)
     add-n

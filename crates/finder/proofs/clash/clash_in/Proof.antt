@@ -1,45 +1,105 @@
--- `finder::clash::clash_in` meets its contract: the search, for a plan and at most 64 pixels.
+-- `finder::clash::clash_in` meets its contract. The loop's invariant: the positions from e on are searched. The measure is e.
 -- Assumes nothing.
-use Prim.Native.Nat.{ℕ, _<_}
-use mathlib.Core.Path.{_≡_, sym, _∙_}
-use mathlib.Core.Bool.{true, false}
-use lib.Dec.{leb}
-use Rattle.integers.proofs.Comparisons.{leb-false-iff}
-use Rattle.scope.specs.Plans.{isPlan}
+use Prim.Native.Nat.{ℕ, suc, _-_, _≤_, _<_}
+use native.Mathlib.Omega.{arith}
+use mathlib.Core.Path.{_≡_, _∙_, ap, subst}
+use mathlib.Core.Logic.{⊎-elim}
+use mathlib.Core.Bool.{true}
+use mathlib.Core.List.{List}
+use lib.IntN.{ℤ}
+use lib.ListN.{getD}
+use mir.Syntax.{w8}
+use borrow.Author.Needs.{needs}
+use Rattle.scope.specs.Plans.{at, isPlan, pixelAt}
+use Rattle.scope.specs.Banks.{bankOf}
 use Rattle.scope.specs.declared.Pattern.{Pattern}
-use Rattle.scope.specs.declared.Plan.{Plan}
-use Rattle.scope.proofs.MethodAnswers.{fails, holds}
-use Rattle.finder.specs.Clashing.{metIn}
-use Rattle.finder.specs.declared.clash.Met.{Met}
-use Rattle.finder.proofs.MetAnswers.{met-of-plan}
+use Rattle.scope.proofs.PlanFacts.{entry-handed}
+use Rattle.finder.proofs.Meetings.{bankAt, place-at-most, Searched, none-searched, all-searched, clash-met, none-met}
 use Rattle.finder.proofs.clash.clash_in.Statement.{statement}
 use Rattle.finder.proofs.clash.clash_in.Tie as tie
 
-module _ (p : Plan) (n : ℕ) (t : Pattern) where
-  no-plan-nowhere : isPlan p ≡ false → Met.Nowhere ≡ metIn p n t
-  unfolding metIn
-  no-plan-nowhere e = rw e
+-- the loop's columns and rows, and the count that it starts from, as the record they came from
+abbrev pattern : List ℤ → List ℤ → ℕ → Pattern
+pattern columns rows used = record { columns = columns; rows = rows; used = used }
 
-  too-many-nowhere : isPlan p ≡ true → 64 < t .used → Met.Nowhere ≡ metIn p n t
-  unfolding metIn
-  too-many-nowhere e h = let many : leb (t .used) 64 ≡ false = leb-false-iff (t .used) 64 .1 h in rw (e, many)
+abbrev Inv-loop : tie.InvT-loop
+Inv-loop p n columns rows next₀ met₀ e₀ next met e = (e ≤ e₀) × Searched p n (pattern columns rows e₀) next met e
 
-returns : tie.Need-returns
-unfolding isPlan
-returns c = no-plan-nowhere _ _ _ (fails (c .before .is-plan .ensures) (c .if1 .taken))
+abbrev μ-loop : tie.MeasureT-loop
+μ-loop p n columns rows next₀ met₀ e₀ next met e = e
 
-plan : (c : tie.Else1) → isPlan (c .before .before .args .p) ≡ true
-unfolding isPlan
-plan c = holds (c .before .is-plan .ensures) (c .if1 .left)
+loop-holds : tie.Need-loop-holds Inv-loop μ-loop
+loop-holds c = (omega arith, none-searched _ _ _)
 
-returns-2 : tie.Need-returns-2
-returns-2 c = too-many-nowhere _ _ _ (plan (c .before .before)) (c .if2 .taken)
+-- in a turn, at position e of the pattern t, where the pixel's bank is known
+module _ (c : tie.After-bank-in Inv-loop μ-loop) where
+  abbrev head : tie.At-loop Inv-loop μ-loop
+  head = c .before .before .before .before
 
-search-requires : tie.Need-search-requires
-search-requires c κs = (plan (c .before .before), c .if2 .left)
+  abbrev start : tie.Start Inv-loop μ-loop
+  start = head .before .before .before
 
-returns-3 : tie.Need-returns-3
-returns-3 c = c .search .ensures ∙ sym (met-of-plan _ _ _ (plan (c .before .before .before)) (c .before .if2 .left))
+  abbrev e : ℕ
+  e = head .loop .e - 1
+
+  abbrev k : ℕ
+  k = c .bank-in .result
+
+  plan : isPlan (start .args .p) ≡ true
+  plan = start .pre .0
+
+  bank-is : k ≡ bankAt (start .args .p) (start .args .t) e
+  unfolding pixelAt at
+  bank-is =
+      c .bank-in .ensures .0
+      ∙ ap (bankOf (start .args .p))
+      (entry-handed w8 _ _ (c .before .before .bank-in-arg .given) (c .before .bank-in-arg2 .given))
+
+  bank-small : k < 1024
+  bank-small = c .bank-in .ensures .1
+
+  later-small : getD (head .loop .next) k 0 ≤ 64
+  later-small = omega (arith, place-at-most (head .loop .inv .1) (head .loop .inv .0) k bank-small, start .pre .1)
+
+  searched : Searched (start .args .p) (start .args .n) (start .args .t) (head .loop .next) (head .loop .met) (suc e)
+  searched =
+      let more : head .loop .e ≡ suc e = omega arith in
+      subst (Searched (start .args .p) (start .args .n) (start .args .t) (head .loop .next) (head .loop .met)) more
+      (head .loop .inv .1)
+
+array-read-later : tie.Need-array-read-later Inv-loop μ-loop
+array-read-later c = bank-small c
+
+cast-later : tie.Need-cast-later Inv-loop μ-loop
+cast-later c = record { fits = omega (arith, later-small c) }
+
+array-write-next : tie.Need-array-write-next Inv-loop μ-loop
+array-write-next c = bank-small (c .before)
+
+loop-again : tie.Need-loop-again Inv-loop μ-loop
+loop-again c =
+    let b = c .before in (
+      omega arith,
+      ⊎-elim (λ w. clash-met (plan b) (searched b) (omega arith) (bank-is b) (bank-small b) (w .0 .taken) (w .1))
+          (λ w. none-met (plan b) (searched b) (omega arith) (bank-is b) (bank-small b) (w .0 .left) (w .1))
+          (c .if1 .came),
+    )
+
+returns : tie.Need-returns Inv-loop μ-loop
+returns c = all-searched (c .before .loop .inv .1) (c .loop-test .left)
 
 pub clash-in-spec : {M : Type 1} → statement M
-clash-in-spec = tie.close (tie.spec (λ c κs. tt) returns returns-2 search-requires returns-3)
+clash-in-spec =
+    tie.close
+    (tie.spec
+    Inv-loop
+    μ-loop
+    loop-holds
+    (λ c. omega arith) (λ c. omega arith) (λ c. omega arith) (λ c κs. search needs)
+    array-read-later
+    cast-later
+    (λ c. record { fits = omega arith })
+    array-write-next
+    (λ c. omega arith)
+    loop-again
+    returns)
