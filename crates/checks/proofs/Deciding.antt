@@ -11,7 +11,7 @@ use Rattle.scope.specs.Search.{whenever, firstOf, every}
 use Rattle.scope.specs.Plans.{Pixel, banks, isPlan, determinantSize}
 use Rattle.scope.specs.Banks.{inside, depthOf}
 use Rattle.scope.specs.Numbers.{Answer, turnedDown, limitTest, dependentTest, largeTest, planTest, isSide, sidesTest}
-use Rattle.scope.specs.Numbers.{memoryTest, outsideTest, bankTest, outputTest, numberTest, ringTest}
+use Rattle.scope.specs.Numbers.{memoryTest, outsideTest, bankTest, outputTest, numberTest, isRing, ringTest}
 use Rattle.scope.specs.Calls.{answered, changed}
 use Rattle.scope.specs.promises.Meaning.{IsPlan, IsSide, AllInside, Independent, RingAllowed}
 use Rattle.scope.specs.declared.Plan.{Plan}
@@ -81,7 +81,7 @@ number-decides count n = whenever-decides (leb count n) NoPattern (number-in-boo
 
 pub ring-decides : (p : Plan) (W H : ℕ) → Decides (ringTest p W H) Ring (RingAllowed p W H)
 unfolding ringTest
-ring-decides p W H = whenever-decides (not (eqb (W % banks p) 0 && eqb (H % banks p) 0)) Ring (ring-allowed-iff p W H)
+ring-decides p W H = whenever-decides (not (isRing p W H)) Ring (ring-allowed-iff p W H)
 
 -- The answer is the refusal that the chain of tests finds, if it finds one.
 pub record Follows {A : Type 0} (tests : List (Option Refusal)) (answer : Answer A) : Type 0 where

@@ -13,3 +13,4 @@ pub mod Deciding  -- the refusal of a call whose condition fails
 pub mod RefusalNumbers  -- which numbers a chain or a search can give
 pub mod CountedAnswers  -- what a counted answer shows of its tests
 pub mod Legal  -- a legal call is not refused; a refused one changes nothing
+pub mod CallLists  -- a list of calls, over any state, call and reply

@@ -16,7 +16,7 @@ use Rattle.scope.specs.Search.{every}
 use Rattle.scope.specs.Plans.{Pixel, banks, isPlan, determinant, determinantSize}
 use Rattle.scope.specs.Banks.{inside, depthOf, pixelOf}
 use Rattle.scope.specs.Numbers.{limitTest, dependentTest, largeTest, planTest, isSide, sidesTest, memoryTest, outsideTest}
-use Rattle.scope.specs.Numbers.{bankTest, cellTest, outputTest, numberTest, ringTest}
+use Rattle.scope.specs.Numbers.{bankTest, cellTest, outputTest, numberTest, isRing, ringTest}
 use Rattle.scope.specs.promises.Meaning.{IsPlan, IsSide, Inside, AllInside, Independent, RingAllowed}
 use Rattle.scope.specs.declared.Plan.{Plan}
 use Rattle.scope.specs.declared.Refusal.the-variants.{Limit, Dependent, Large, NotPlan, Sides, Memory}
@@ -98,10 +98,10 @@ multiple-iff : (n g : ℕ) → (eqb (n % g) 0 ≡ true) ↔ Multiple g n
 multiple-iff n g = Iff·trans (eqb-iff (n % g) 0) (no-remainder-iff n g)
 
 pub ring-allowed-iff : (p : Plan) (W H : ℕ) → (ringTest p W H ≡ none) ↔ RingAllowed p W H
-unfolding ringTest
+unfolding ringTest isRing
 ring-allowed-iff p W H =
     Iff·trans
-    (demands-iff (eqb (W % banks p) 0 && eqb (H % banks p) 0) Ring
+    (demands-iff (isRing p W H) Ring
     (and-iff _ _ (multiple-iff W (banks p)) (multiple-iff H (banks p)))) (
       λ h. record { W-multiple = h .0; H-multiple = h .1 },
       λ h. (h .W-multiple, h .H-multiple),

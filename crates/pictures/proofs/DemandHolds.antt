@@ -6,12 +6,12 @@ use mathlib.Core.Path.{_≡_, refl, sym, _∙_, ap}
 use mathlib.Core.Option.{none}
 use mathlib.Core.List.{List, []}
 use lib.ListN.{length, getD, take, replicate, getD-replicate}
-use Rattle.scope.specs.Plans.{patterns}
+use Rattle.scope.specs.Plans.{patternAt, patterns}
 use Rattle.scope.specs.Banks.{wordIn}
 use Rattle.scope.specs.promises.Meaning.{IsPlan, IsSide, IsBook, IsPicture}
 use Rattle.scope.specs.promises.PlanPromises.{LeastFor}
 use Rattle.scope.specs.promises.PicturePromises.{LegalFetch}
-use Rattle.scope.specs.promises.Demand.{Call, store, clear, load, fetch, Setting, run, test, lastStored, Allowed}
+use Rattle.scope.specs.promises.Demand.{store, clear, load, fetch, Call, write, read, Setting, run, test, lastStored, Allowed}
 use Rattle.scope.specs.promises.Demand.{AllDifferent, banksRead, pictureWords, Demand3}
 use Rattle.scope.specs.declared.Plan.{Plan}
 use Rattle.checks.proofs.Lists.{getD-take}
@@ -30,11 +30,11 @@ none-different e l h k = absurd (omega arith)
 -- The words that a call reads, if it is not turned down, come from banks that are all different.
 banks-apart : (g : Setting) (words : ℕ) (c : Call) → test g words c ≡ none → AllDifferent (banksRead g c)
 unfolding test banksRead
-banks-apart g words (store v x) t = none-different
-banks-apart g words (clear k) t = none-different
-banks-apart g words (load v) t = none-different
-banks-apart g words (fetch n o out) t =
-    fetched-banks-differ (g .plan) (g .book) n o (legal .picture .plan) (legal .legal-book) (legal .number) (legal .suiting)
+banks-apart g words (write w) t = none-different
+banks-apart g words (read (load v)) t = none-different
+banks-apart g words (read (fetch n o out)) t =
+    fetched-banks-differ (g .plan) (patternAt (g .book) n) o (legal .picture .plan) (legal .legal-book .each n (legal .number))
+    (legal .suiting)
   where
     legal : LegalFetch (g .book) (g .plan) (g .W) (g .H) words n
     legal = fetch-test-iff (g .plan) (g .W) (g .H) words (g .book) n o (length out) .0 t .0
@@ -47,10 +47,10 @@ with-sides (picture, allowed) = (picture .W-side, picture .H-side, allowed)
 taken-call-legal :
     (g : Setting) (words : ℕ) (c : Call) → test g words c ≡ none → IsSide (g .W) × IsSide (g .H) × Allowed g c
 unfolding test
-taken-call-legal g words (store v x) t = with-sides (word-test-iff (g .plan) (g .W) (g .H) words v .0 t)
-taken-call-legal g words (clear k) t = with-sides (bank-test-iff (g .plan) (g .W) (g .H) words k .0 t)
-taken-call-legal g words (load v) t = with-sides (word-test-iff (g .plan) (g .W) (g .H) words v .0 t)
-taken-call-legal g words (fetch n o out) t =
+taken-call-legal g words (write (store v x)) t = with-sides (word-test-iff (g .plan) (g .W) (g .H) words v .0 t)
+taken-call-legal g words (write (clear k)) t = with-sides (bank-test-iff (g .plan) (g .W) (g .H) words k .0 t)
+taken-call-legal g words (read (load v)) t = with-sides (word-test-iff (g .plan) (g .W) (g .H) words v .0 t)
+taken-call-legal g words (read (fetch n o out)) t =
     let (legal, (inside, room)) = fetch-test-iff (g .plan) (g .W) (g .H) words (g .book) n o (length out) .0 t in
     with-sides (legal .picture, (legal .number, inside, room))
 
@@ -65,10 +65,10 @@ module _
     -- A legal call is not turned down.
     legal-call-taken : IsSide (g .W) → IsSide (g .H) → (c : Call) → Allowed g c → test g words c ≡ none
     unfolding test
-    legal-call-taken w h (store v x) inside = word-test-iff (g .plan) (g .W) (g .H) words v .1 (picture w h, inside)
-    legal-call-taken w h (clear k) below = bank-test-iff (g .plan) (g .W) (g .H) words k .1 (picture w h, below)
-    legal-call-taken w h (load v) inside = word-test-iff (g .plan) (g .W) (g .H) words v .1 (picture w h, inside)
-    legal-call-taken w h (fetch n o out) allowed =
+    legal-call-taken w h (write (store v x)) inside = word-test-iff (g .plan) (g .W) (g .H) words v .1 (picture w h, inside)
+    legal-call-taken w h (write (clear k)) below = bank-test-iff (g .plan) (g .W) (g .H) words k .1 (picture w h, below)
+    legal-call-taken w h (read (load v)) inside = word-test-iff (g .plan) (g .W) (g .H) words v .1 (picture w h, inside)
+    legal-call-taken w h (read (fetch n o out)) allowed =
         fetch-test-iff (g .plan) (g .W) (g .H) words (g .book) n o (length out) .1 (
           record {
             legal-book = legal-book;

@@ -3,19 +3,20 @@
 use Prim.Native.Nat.{ℕ, _≤_}
 use native.Mathlib.Omega.{arith}
 use mathlib.Core.Path.{_≡_, _∙_, ap}
+use mathlib.Core.Bool.{Bool, true, false}
 use mathlib.Core.Option.{Option, none}
 use mathlib.Core.List.{List, map, map-map, map-congr-left}
 use lib.ListN.{length, length-map}
-use Rattle.integers.specs.Gcd.{Multiple}
-use Rattle.scope.specs.Plans.{Pixel, patternAt, banks}
+use Rattle.scope.specs.Plans.{Pixel, patternAt}
 use Rattle.scope.specs.Banks.{bankOf, wordOf, wordIn, overStart, wrapped}
 use Rattle.scope.specs.Numbers.{ofCounted}
-use Rattle.scope.specs.Calls.{Result, changed, moved, fetch, ringMoved, ringFetch}
-use Rattle.scope.specs.promises.Meaning.{AllInside}
+use Rattle.scope.specs.Calls.{Result, changed, moved, ringMoved, pixelsRead, fetchRest, fetchTest, eitherFetch, fetch, ringFetch}
+use Rattle.scope.specs.promises.Meaning.{AllInside, RingAllowed}
 use Rattle.scope.specs.promises.Demand.{AllDifferent}
 use Rattle.scope.specs.promises.PicturePromises.{FetchedAll, LegalFetch}
 use Rattle.scope.specs.declared.Plan.{Plan}
 use Rattle.scope.specs.declared.Book.{Book}
+use Rattle.scope.specs.declared.Pattern.{Pattern}
 use Rattle.scope.specs.declared.Counted.{Counted}
 use Rattle.scope.specs.declared.Refusal.{Refusal}
 use Rattle.checks.proofs.Chains.{changed-none-answer, changed-none-content}
@@ -54,48 +55,49 @@ module _ (p : Plan) (W H : ℕ) (mem : List ℕ) (vs : List Pixel) (out : List �
         apart = different;
       }
 
--- a ring fetch has as many pixels as its pattern
-length-ring-moved : (book : Book) (W H n : ℕ) (o : Pixel) → length (ringMoved book W H n o) ≡ patternAt book n .used
-unfolding ringMoved
-length-ring-moved book W H n o = length-map (moved book n o) (wrapped W H) ∙ moved-size book n o
+-- a fetch reads as many pixels as its pattern has
+length-read : (ring : Bool) (W H : ℕ) (t : Pattern) (o : Pixel) → length (pixelsRead ring W H (moved t o)) ≡ t .used
+unfolding pixelsRead
+length-read false W H t o = moved-size t o
+length-read true W H t o = length-map (moved t o) (wrapped W H) ∙ moved-size t o
 
 -- if wrapping keeps the bank of a pixel, it keeps the banks of a fetch
 same-banks :
-    (book : Book) (p : Plan) (W H n : ℕ) (o : Pixel) → ((v : Pixel) → bankOf p (wrapped W H v) ≡ bankOf p v)
-    → map (bankOf p) (ringMoved book W H n o) ≡ map (bankOf p) (moved book n o)
-unfolding ringMoved
-same-banks book p W H n o same =
-    map-map (bankOf p) (wrapped W H) (moved book n o) ∙ map-congr-left {l = moved book n o} (λ v _. same v)
+    (p : Plan) (W H : ℕ) (vs : List Pixel) → ((v : Pixel) → bankOf p (wrapped W H v) ≡ bankOf p v)
+    → map (bankOf p) (map (wrapped W H) vs) ≡ map (bankOf p) vs
+same-banks p W H vs same = map-map (bankOf p) (wrapped W H) vs ∙ map-congr-left {l = vs} (λ v _. same v)
 
 module _
     (book : Book) (p : Plan) (W H : ℕ) (mem : List ℕ) (n : ℕ) (o : Pixel) (out : List ℕ)
     (legal : LegalFetch book p W H (length mem) n) (enough : patternAt book n .used ≤ length out)
   where
-    moved-different : AllDifferent (map (bankOf p) (moved book n o))
-    moved-different = fetched-banks-differ p book n o (legal .picture .plan) (legal .legal-book) (legal .number) (legal .suiting)
+    abbrev t : Pattern
+    t = patternAt book n
+
+    moved-different : AllDifferent (map (bankOf p) (moved t o))
+    moved-different = fetched-banks-differ p t o (legal .picture .plan) (legal .legal-book .each n (legal .number)) (legal .suiting)
+
+    -- either fetch, where its tests find nothing
+    either-gives :
+        (ring : Bool) → fetchTest ring book p W H (length mem) n o (length out) ≡ none
+        → AllDifferent (map (bankOf p) (pixelsRead ring W H (moved t o)))
+        → FetchedAll p W H mem (pixelsRead ring W H (moved t o)) out (eitherFetch ring book p W H mem n o out)
+    unfolding eitherFetch fetchRest fetchTest
+    either-gives ring passed different =
+        fetched-all p W H mem (pixelsRead ring W H (moved t o)) out _ passed (omega (arith, length-read ring W H t o)) different
 
     -- A legal fetch gives the words of its pixels.
-    pub fetch-gives : AllInside W H (moved book n o) → FetchedAll p W H mem (moved book n o) out (fetch book p W H mem n o out)
-    unfolding fetch
+    pub fetch-gives : AllInside W H (moved t o) → FetchedAll p W H mem (moved t o) out (fetch book p W H mem n o out)
+    unfolding fetch pixelsRead
     fetch-gives inside =
-        fetched-all p W H mem (moved book n o) out _ (fetch-test-iff p W H (length mem) book n o (length out) .1 (legal, (inside, enough)))
-        (omega (arith, moved-size book n o))
-        moved-different
+        either-gives false (fetch-test-iff p W H (length mem) book n o (length out) .1 (legal, (inside, enough))) moved-different
 
-    module _ (W-multiple : Multiple (banks p) W) (H-multiple : Multiple (banks p) H) where
-      same-bank : (v : Pixel) → bankOf p (wrapped W H v) ≡ bankOf p v
-      same-bank =
-          let here = legal .picture in
-          ring-keeps-banks .same-bank p W H (here .plan) (here .W-side .0) (here .H-side .0) W-multiple H-multiple
-
-      ring-moved-different : AllDifferent (map (bankOf p) (ringMoved book W H n o))
-      ring-moved-different = rw (same-banks book p W H n o same-bank) moved-different
-
-      -- A legal ring fetch gives the words of its wrapped pixels.
-      pub ring-fetch-gives : FetchedAll p W H mem (ringMoved book W H n o) out (ringFetch book p W H mem n o out)
-      unfolding ringFetch
-      ring-fetch-gives =
-          fetched-all p W H mem (ringMoved book W H n o) out _
-          (ring-fetch-test-iff p W H (length mem) book n (length out) .1 (legal, ((W-multiple, H-multiple), enough)))
-          (omega (arith, length-ring-moved book W H n o))
-          ring-moved-different
+    -- A legal ring fetch gives the words of its wrapped pixels.
+    pub ring-fetch-gives : RingAllowed p W H → FetchedAll p W H mem (ringMoved W H t o) out (ringFetch book p W H mem n o out)
+    unfolding ringFetch pixelsRead ringMoved
+    ring-fetch-gives allowed =
+        let here = legal .picture in
+        either-gives true (ring-fetch-test-iff p W H (length mem) book n o (length out) .1 (legal, (allowed, enough)))
+        (rw
+        (same-banks p W H (moved t o) (ring-keeps-banks .same-bank p W H (here .plan) (here .W-side .0) (here .H-side .0) allowed))
+        moved-different)

@@ -12,6 +12,5 @@ pub mod PictureTests  -- the tests 11, 12, 13, and what depth and place show
 pub mod WholeBanks  -- what the depth of a bank shows; its part of the memory
 pub mod Deliveries  -- what both fetches answer and leave in the output
 pub mod Moved  -- a pattern's pixels moved to a position
-pub mod OfBooks  -- a fetch of a book is one of an entry
 pub mod Starts  -- the tests that both fetches begin with
 pub mod Wrapped  -- the words at wrapped pixels, put to an output

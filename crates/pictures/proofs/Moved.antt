@@ -26,7 +26,7 @@ use Rattle.scope.proofs.PlanFacts.{pixel-handed}
 use Rattle.checks.proofs.Searches.{holds-every, fails-every}
 use Rattle.checks.proofs.Lists.{mem-map, map-mem}
 use Rattle.checks.proofs.Patterns.{pixels-mem, mem-pixels}
-use Rattle.pictures.specs.Fetching.{movedTo}
+use Rattle.scope.specs.Calls.{moved}
 
 -- the sum of two raised numbers is the sum, raised by both
 pub raised-sum :
@@ -78,12 +78,12 @@ position-handed f g = pixel-handed f g
 
 -- the moved pixel at position e of a pattern's record, and that these are all
 module _ (t : Pattern) (o : Pixel) where
-  moved-mem : (e : ℕ) → e < t .used → List·Memᴰ (plus o (pixelAt t e)) (movedTo t o)
-  unfolding movedTo
+  moved-mem : (e : ℕ) → e < t .used → List·Memᴰ (plus o (pixelAt t e)) (moved t o)
+  unfolding moved
   moved-mem e h = map-mem (plus o) (pixels-mem t e h)
 
-  mem-moved : {v : Pixel} → List·Memᴰ v (movedTo t o) → (e : ℕ) × (e < t .used) × (plus o (pixelAt t e) ≡ v)
-  unfolding movedTo
+  mem-moved : {v : Pixel} → List·Memᴰ v (moved t o) → (e : ℕ) × (e < t .used) × (plus o (pixelAt t e) ≡ v)
+  unfolding moved
   mem-moved m =
       let (w, k, is) = mem-map (plus o) (pixels t) m in
       let (e, h, at-e) = mem-pixels t k in
@@ -115,18 +115,18 @@ module _ (W H : ℕ) (t : Pattern) (o : Pixel) where
         at-number k h (no d) = before .each k (omega arith)
 
     -- where one coordinate is not within its side the test fails
-    pub column-outside : e < t .used → within column W ≡ false → every (inside W H) (movedTo t o) ≡ false
+    pub column-outside : e < t .used → within column W ≡ false → every (inside W H) (moved t o) ≡ false
     unfolding inside plus pixelAt
-    column-outside h c = fails-every (inside W H) (movedTo t o) (plus o (pixelAt t e)) (moved-mem t o e h) (rw c refl)
+    column-outside h c = fails-every (inside W H) (moved t o) (plus o (pixelAt t e)) (moved-mem t o e h) (rw c refl)
 
-    pub row-outside : e < t .used → within row H ≡ false → every (inside W H) (movedTo t o) ≡ false
+    pub row-outside : e < t .used → within row H ≡ false → every (inside W H) (moved t o) ≡ false
     unfolding inside plus pixelAt
     row-outside h r =
-        fails-every (inside W H) (movedTo t o) (plus o (pixelAt t e)) (moved-mem t o e h)
+        fails-every (inside W H) (moved t o) (plus o (pixelAt t e)) (moved-mem t o e h)
         (rw r (and-false (within column W)))
 
   -- where all are inside it holds
-  pub every-inside : InsideBefore W H t o (t .used) → every (inside W H) (movedTo t o) ≡ true
+  pub every-inside : InsideBefore W H t o (t .used) → every (inside W H) (moved t o) ≡ true
   every-inside before =
-      holds-every (inside W H) (movedTo t o)
+      holds-every (inside W H) (moved t o)
       (λ v m. let (e, h, is) = mem-moved t o m in ap (inside W H) (sym is) ∙ before .each e h)

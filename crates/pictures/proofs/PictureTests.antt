@@ -1,54 +1,35 @@
--- The tests 11, 12, 13 of a picture: what they mean, that the chains of the calls begin with them, and what the answers of
--- depth and place tell of the chains.
+-- The tests 11, 12, 13 of a picture, and what the answers of depth and place tell of the tests of the calls.
 -- Assumes nothing.
 use Prim.Native.Nat.{ℕ, _<_}
 use native.Mathlib.Omega.{arith}
 use mathlib.Core.Path.{_≡_}
-use mathlib.Core.Logic.{_↔_}
 use mathlib.Core.Option.{none, some}
 use mathlib.Core.List.{[], _∷_}
 use Rattle.scope.specs.Search.{firstOf}
 use Rattle.scope.specs.Plans.{Pixel}
 use Rattle.scope.specs.Banks.{depthOf, wordOf}
-use Rattle.scope.specs.Numbers.{planTest, sidesTest, memoryTest, outsideTest, bankTest}
-use Rattle.scope.specs.Calls.{wordTest, wholeBankTest}
-use Rattle.scope.specs.promises.Meaning.{IsPicture}
+use Rattle.scope.specs.Numbers.{planTest, sidesTest, memoryTest}
+use Rattle.scope.specs.Calls.{pictureTest, wordTest, wholeBankTest}
 use Rattle.scope.specs.declared.Plan.{Plan}
 use Rattle.scope.specs.declared.Counted.{Counted}
 use Rattle.scope.specs.declared.Refusal.{Refusal}
 use Rattle.checks.proofs.Chains.{tests-as-one}
 use Rattle.lattice.proofs.Words.{pixels-have-words}
-use Rattle.pictures.proofs.CallTests as calls
-use Rattle.pictures.specs.Places.{pictureTest, pictureDepth, wordPlace, bankDepth}
+use Rattle.pictures.proofs.CallTests.{word-test-iff}
+use Rattle.pictures.specs.Places.{pictureDepth, wordPlace, bankDepth}
 use Rattle.checks.proofs.CountedAnswers.{number-shows, refusal-shows}
 
 module _ (p : Plan) (W H words : ℕ) where
-  -- They find nothing exactly where there is a plan, a picture and a memory that is long enough.
-  pub picture-test-iff : (pictureTest p W H words ≡ none) ↔ IsPicture p W H words
-  unfolding pictureTest
-  picture-test-iff = calls.picture-test-iff p W H words
-
   -- They are those of the depth, 11 and 12, before that of the memory.
   pub depth-before-memory :
       pictureTest p W H words ≡ firstOf (firstOf (planTest p ∷ sidesTest W H ∷ []) ∷ memoryTest p W H words ∷ [])
   unfolding pictureTest
   depth-before-memory = tests-as-one [] (planTest p ∷ sidesTest W H ∷ []) (memoryTest p W H words ∷ [])
 
-  -- The chain of store and load begins with them, and so does that of clear and sum.
-  pub picture-before-pixel :
-      (v : Pixel) → wordTest p W H words v ≡ firstOf (pictureTest p W H words ∷ outsideTest W H (v ∷ []) ∷ [])
-  unfolding wordTest pictureTest
-  picture-before-pixel v =
-      tests-as-one [] (planTest p ∷ sidesTest W H ∷ memoryTest p W H words ∷ []) (outsideTest W H (v ∷ []) ∷ [])
-
-  pub picture-before-bank : (k : ℕ) → wholeBankTest p W H words k ≡ firstOf (pictureTest p W H words ∷ bankTest p k ∷ [])
-  unfolding wholeBankTest pictureTest
-  picture-before-bank k = tests-as-one [] (planTest p ∷ sidesTest W H ∷ memoryTest p W H words ∷ []) (bankTest p k ∷ [])
-
   -- The word of a pixel that has passed is one of the memory's.
   pub word-in-memory : (v : Pixel) → wordTest p W H words v ≡ none → wordOf p W H v < words
   word-in-memory v passed =
-      let (picture, inside) = calls.word-test-iff p W H words v .0 passed in
+      let (picture, inside) = word-test-iff p W H words v .0 passed in
       omega (arith, pixels-have-words p W H (picture .plan) .word-below v inside, picture .memory)
 
   -- What the answer of `picture_depth` tells,

@@ -9,7 +9,7 @@ use lib.ListN.{length, getD, length-map}
 use Rattle.scope.specs.Plans.{Pixel, banks}
 use Rattle.scope.specs.Banks.{depthOf, wordOf, wordIn, afterStore, afterClear, bankSum}
 use Rattle.scope.specs.Numbers.{value, ofCounted, ofLoaded, ofOutcome}
-use Rattle.scope.specs.Calls.{changed, store, load, wholeBankTest, clear, sum, recordPixel, placed, fillRecords}
+use Rattle.scope.specs.Calls.{changed, lent, store, load, wholeBankTest, clear, sum, recordPixel, placed, fillRecords}
 use Rattle.scope.specs.promises.Meaning.{IsPlan, IsSide, Inside, AllInside, IsPicture}
 use Rattle.scope.specs.promises.PicturePromises.{wordAt, StoredOne, ClearedOne, totalBelow, noRecord, FilledAll, PictureCalls}
 use Rattle.scope.specs.declared.Plan.{Plan}
@@ -37,14 +37,14 @@ module _ {X : Type 0} {t : Option Refusal} (old new : X) (passed : t ≡ none) w
   content-is = changed-none-content t Outcome.Refused old Outcome.Done new passed
 
 module _ (p : Plan) (W H : ℕ) (mem : List ℕ) where
-  store-gives : (v : Pixel) (x : ℕ) → IsPicture p W H (length mem) → Inside W H v → StoredOne p W H mem v x (store p W H mem v x)
+  store-gives : (v : Pixel) (x : ℕ) → IsPicture p W H (length mem) → Inside W H v → StoredOne p W H mem v x (store p W H (lent mem) v x)
   unfolding store wordOf
   store-gives v x legal inside =
       let passed = word-test-iff p W H (length mem) v .1 (legal, inside) in
       let below : wordOf p W H v < banks p * depthOf p W H = pixels-have-words p W H (legal .plan) .word-below v inside in
-      let is = content-is mem (afterStore p W H mem v x) passed in
+      let is = content-is (lent mem) (lent (afterStore p W H mem v x)) passed in
       record {
-        done = is-done mem (afterStore p W H mem v x) passed;
+        done = is-done (lent mem) (lent (afterStore p W H mem v x)) passed;
         put = rw is (store-puts p W H mem v x (omega arith));
         elsewhere = λ i h. rw is (store-elsewhere p W H mem v x i h);
         past = rw is (store-past p W H mem v x (banks p * depthOf p W H) below);
@@ -64,12 +64,12 @@ module _ (p : Plan) (W H : ℕ) (mem : List ℕ) where
     fits : bankEnd p W H k ≤ length mem
     fits = omega (arith, bank-in-picture p W H k below)
 
-    clear-gives : ClearedOne p W H mem k (clear p W H mem k)
+    clear-gives : ClearedOne p W H mem k (clear p W H (lent mem) k)
     unfolding clear
     clear-gives =
-        let is = content-is mem (afterClear p W H mem k) passed in
+        let is = content-is (lent mem) (lent (afterClear p W H mem k)) passed in
         record {
-          done = is-done mem (afterClear p W H mem k) passed;
+          done = is-done (lent mem) (lent (afterClear p W H mem k)) passed;
           zeros = λ i h. rw is (clear-zeros p W H mem k fits i h);
           before = λ i h. rw is (clear-before p W H mem k fits i h);
           after = λ i h. rw is (clear-after p W H mem k fits i h);
@@ -133,7 +133,6 @@ picture-calls =
       sums = sum-gives;
       sum-fits = sum-below;
       fetches = λ book p W H mem n o out legal inside enough. fetch-gives book p W H mem n o out legal enough inside;
-      ring-fetches = λ book p W H mem n o out legal W-multiple H-multiple enough.
-          ring-fetch-gives book p W H mem n o out legal enough W-multiple H-multiple;
+      ring-fetches = λ book p W H mem n o out legal allowed enough. ring-fetch-gives book p W H mem n o out legal enough allowed;
       fills = fill-gives;
     }

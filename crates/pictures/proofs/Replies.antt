@@ -5,19 +5,20 @@ use mathlib.Core.Path.{_≡_, refl, _∙_, ap, ap₂}
 use mathlib.Core.Option.{Option, none, some}
 use mathlib.Core.List.{List, [], _∷_, map, List·Memᴰ, List·Memᴰ·head, List·Memᴰ·tail}
 use lib.ListN.{length}
-use Rattle.scope.specs.Plans.{Pixel}
+use Rattle.scope.specs.Plans.{Pixel, patternAt}
 use Rattle.scope.specs.Banks.{wordIn, overStart}
 use Rattle.scope.specs.Numbers.{Answer, value, turnedDown, ofCounted, ofLoaded, ofOutcome}
 use Rattle.scope.specs.Calls as Calls
-use Rattle.scope.specs.Calls.{answered, changed, moved}
+use Rattle.scope.specs.Calls.{Result, Lent, lent, answered, changed, moved, pixelsRead, fetchRest, fetchTest, eitherFetch}
 use Rattle.scope.specs.promises.Meaning.{AllInside}
-use Rattle.scope.specs.promises.Demand.{Call, store, clear, load, fetch, Setting, test, lastStored}
-use Rattle.scope.specs.promises.Demand.{stored, cleared, loaded, fetched, reply, replyDue}
+use Rattle.scope.specs.promises.Demand.{load, fetch, Call, write, read, Setting, test, lastStored}
+use Rattle.scope.specs.promises.Demand.{wrote, loaded, fetched, readReply, reply, replyDue}
 use Rattle.scope.specs.declared.Refusal.{Refusal}
 use Rattle.scope.specs.declared.Counted.{Counted}
+use Rattle.scope.specs.declared.Outcome.{Outcome}
 use Rattle.checks.proofs.Chains.{changed-answer, changed-content}
 use Rattle.pictures.proofs.CallTests.{word-test-iff, fetch-test-iff}
-use Rattle.pictures.proofs.Runs.{Holds}
+use Rattle.pictures.proofs.Runs.{Holds, write-is}
 
 -- two maps that agree on each entry give the same list
 same-map : {A B : Type 0} (f g : A → B) (xs : List A) → ((x : A) → List·Memᴰ x xs → f x ≡ g x) → map f xs ≡ map g xs
@@ -75,15 +76,17 @@ module _
 
     -- The call's answer, and a fetch's output, are what the conditions and the words last stored tell.
     pub reply-is-due : (c : Call) → reply g mem c ≡ replyDue g (length start) past c
-    unfolding reply replyDue test Calls.store Calls.clear Calls.load Calls.fetch
-    reply-is-due (store v x) = ap stored (read-changed (same-test (store v x)) ofOutcome mem _ (λ r. refl) (λ e. refl))
-    reply-is-due (clear k) = ap cleared (read-changed (same-test (clear k)) ofOutcome mem _ (λ r. refl) (λ e. refl))
-    reply-is-due (load v) =
+    unfolding reply readReply replyDue test Calls.load Calls.fetch eitherFetch fetchRest fetchTest pixelsRead
+    reply-is-due (write w) =
+        ap wrote
+        (ap (λ (r : Result Outcome Lent). ofOutcome (r .answer)) (write-is g mem w)
+        ∙ read-changed (same-test (write w)) ofOutcome (lent mem) _ (λ r. refl) (λ e. refl))
+    reply-is-due (read (load v)) =
         ap loaded
-        (read-answer (same-test (load v)) ofLoaded (λ r. refl)
+        (read-answer (same-test (read (load v))) ofLoaded (λ r. refl)
         (λ e. ap value (h .words v (word-test-iff (g .plan) (g .W) (g .H) (length start) v .0 e .1))))
-    reply-is-due (fetch n o out) =
-        ap₂ fetched (read-changed (same-test (fetch n o out)) ofCounted out _ (λ r. refl) (λ e. refl))
-        (read-content (same-test (fetch n o out)) Counted.Refused out _ (λ e. ap (λ (xs : List ℕ). overStart xs out)
-        (words-due (moved (g .book) n o)
+    reply-is-due (read (fetch n o out)) =
+        ap₂ fetched (read-changed (same-test (read (fetch n o out))) ofCounted out _ (λ r. refl) (λ e. refl))
+        (read-content (same-test (read (fetch n o out))) Counted.Refused out _ (λ e. ap (λ (xs : List ℕ). overStart xs out)
+        (words-due (moved (patternAt (g .book) n) o)
         (fetch-test-iff (g .plan) (g .W) (g .H) (length start) (g .book) n o (length out) .0 e .1 .0))))

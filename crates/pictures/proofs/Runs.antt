@@ -8,13 +8,15 @@ use mathlib.Core.Option.{Option, none, some}
 use mathlib.Core.List.{List, [], _∷_}
 use lib.ListN.{length, getD, drop}
 use Rattle.integers.proofs.Digits.{digits-determine}
+use Rattle.scope.specs.Search.{stateAfter}
 use Rattle.scope.specs.Plans.{Pixel, banks}
 use Rattle.scope.specs.Banks.{bankOf, wordOf, wordIn, afterStore, afterClear}
 use Rattle.scope.specs.Calls as Calls
-use Rattle.scope.specs.Calls.{answered}
+use Rattle.scope.specs.Calls.{Result, Lent, lent, answered, changed}
 use Rattle.scope.specs.promises.Meaning.{IsPlan, Inside}
 use Rattle.scope.specs.promises.PicturePromises.{WordsOf}
-use Rattle.scope.specs.promises.Demand.{Call, store, clear, load, fetch, Setting, after, run, test, effect, storedSince, pictureWords}
+use Rattle.scope.specs.promises.Demand.{Write, store, clear, Call, write, read, Setting, writeResult, after, run}
+use Rattle.scope.specs.promises.Demand.{test, effect, wordAfter, storedSince, pictureWords}
 use Rattle.scope.specs.declared.Refusal.{Refusal}
 use Rattle.scope.specs.declared.Outcome.{Outcome}
 use Rattle.checks.proofs.Chains.{changed-content}
@@ -35,26 +37,35 @@ pub record Holds (g : Setting) (start : List ℕ) (old : Pixel → ℕ) (mem : L
   pub rest : drop (pictureWords g) mem ≡ drop (pictureWords g) start
   pub as-long : length mem ≡ length start
 
--- the memory after a call that is not turned down
-abbrev done : Setting → List ℕ → Call → List ℕ
+-- the memory after a write that is not turned down
+abbrev done : Setting → List ℕ → Write → List ℕ
 done g mem (store v x) = afterStore (g .plan) (g .W) (g .H) mem v x
 done g mem (clear k) = afterClear (g .plan) (g .W) (g .H) mem k
-done g mem (load v) = mem
-done g mem (fetch n o out) = mem
 
--- a call that gives the same either way
-either-way : {A : Type 0} (t : Option Refusal) (x : A) → x ≡ answered t (λ r. x) x
+-- a write leaves the memory as it was if it is turned down
+pub write-is :
+    (g : Setting) (mem : List ℕ) (w : Write)
+    → writeResult g mem w ≡ changed (test g (length mem) (write w)) Outcome.Refused (lent mem) Outcome.Done (lent (done g mem w))
+unfolding writeResult test Calls.store Calls.clear
+write-is g mem (store v x) = refl
+write-is g mem (clear k) = refl
+
+answered-memory :
+    (t : Option Refusal) (old new : List ℕ)
+    → answered t (λ r. lent old) (lent new) .memory ≡ answered t (λ r. old) new
 unfolding answered
-either-way none x = refl
-either-way (some r) x = refl
+answered-memory none old new = refl
+answered-memory (some r) old new = refl
 
--- a call leaves the memory as it was if it is turned down
-after-is : (g : Setting) (mem : List ℕ) (c : Call) → after g mem c ≡ answered (test g (length mem) c) (λ r. mem) (done g mem c)
-unfolding after test Calls.store Calls.clear
-after-is g mem (store v x) = changed-content _ Outcome.Refused mem Outcome.Done (afterStore (g .plan) (g .W) (g .H) mem v x)
-after-is g mem (clear k) = changed-content _ Outcome.Refused mem Outcome.Done (afterClear (g .plan) (g .W) (g .H) mem k)
-after-is g mem (load v) = either-way _ mem
-after-is g mem (fetch n o out) = either-way _ mem
+pub after-is :
+    (g : Setting) (mem : List ℕ) (w : Write)
+    → after g mem (write w) ≡ answered (test g (length mem) (write w)) (λ r. mem) (done g mem w)
+unfolding after
+after-is g mem w =
+    let t : Option Refusal = test g (length mem) (write w) in
+    ap (λ (r : Result Outcome Lent). r .content .memory) (write-is g mem w)
+    ∙ ap (λ (l : Lent). l .memory) (changed-content t Outcome.Refused (lent mem) Outcome.Done (lent (done g mem w)))
+    ∙ answered-memory t mem (done g mem w)
 
 -- the word of a pixel inside is one of the picture's
 pub word-inside-picture :
@@ -126,35 +137,34 @@ module _ (g : Setting) (legal-plan : IsPlan (g .plan)) (start : List ℕ) (enoug
           ∙ h .words w w-inside
           ∙ sym (clear-leaves g w (old w) k e)
 
-  -- a call that is not turned down has its effect
+  -- a write that is not turned down has its effect
   done-holds :
-      (old : Pixel → ℕ) (mem : List ℕ) (c : Call) → test g (length start) c ≡ none → Holds g start old mem
-      → Holds g start (λ v. effect g v (old v) c) (done g mem c)
-  unfolding test effect
+      (old : Pixel → ℕ) (mem : List ℕ) (w : Write) → test g (length start) (write w) ≡ none → Holds g start old mem
+      → Holds g start (λ v. effect g v (old v) w) (done g mem w)
+  unfolding test
   done-holds old mem (store v x) e h =
       store-holds old mem v x (word-test-iff (g .plan) (g .W) (g .H) (length start) v .0 e .1) h
   done-holds old mem (clear k) e h =
       clear-holds old mem k (bank-test-iff (g .plan) (g .W) (g .H) (length start) k .0 e .1) h
-  done-holds old mem (load v) e h = h
-  done-holds old mem (fetch n o out) e h = h
 
   -- one call, turned down or not
   call-holds :
       (old : Pixel → ℕ) (mem : List ℕ) (c : Call) → Holds g start old mem
-      → Holds g start (λ v. answered (test g (length start) c) (λ r. old v) (effect g v (old v) c)) (after g mem c)
-  unfolding answered
-  call-holds old mem c h = rw (after-is g mem c, h .as-long) (by-test (test g (length start) c) refl)
+      → Holds g start (λ v. wordAfter g (length start) v (old v) c) (after g mem c)
+  unfolding answered after wordAfter
+  call-holds old mem (read r) h = h
+  call-holds old mem (write w) h = rw (after-is g mem w, h .as-long) (by-test (test g (length start) (write w)) refl)
     where
       by-test :
-          (t : Option Refusal) → test g (length start) c ≡ t
-          → Holds g start (λ v. answered t (λ r. old v) (effect g v (old v) c)) (answered t (λ r. mem) (done g mem c))
-      by-test none e = done-holds old mem c e h
+          (t : Option Refusal) → test g (length start) (write w) ≡ t
+          → Holds g start (λ v. answered t (λ r. old v) (effect g v (old v) w)) (answered t (λ r. mem) (done g mem w))
+      by-test none e = done-holds old mem w e h
       by-test (some r) e = h
 
   -- After a run of calls each pixel has the word stored there since.
   pub run-holds :
       (old : Pixel → ℕ) (mem : List ℕ) (calls : List Call) → Holds g start old mem
       → Holds g start (λ v. storedSince g (length start) v (old v) calls) (run g mem calls)
-  unfolding run storedSince
+  unfolding run storedSince stateAfter
   run-holds old mem [] h = h
   run-holds old mem (c ∷ calls) h = run-holds _ (after g mem c) calls (call-holds old mem c h)

@@ -1,131 +1,161 @@
--- The tests that both fetches begin with: their outcome by the test that refuses, what the outcome tells, and what the code
--- goes on with where they find nothing.
+-- What a fetch begins with: its outcome by the test that refuses, what the outcome tells, and that the record which stands for
+-- the pattern's number is then that pattern's own.
 -- Assumes nothing.
 use Prim.Native.Nat.{ℕ, _≤_, _<_}
 use native.Mathlib.Omega.{arith}
-use mathlib.Core.Path.{_≡_, sym, _∙_}
-use mathlib.Core.Logic.{_↔_, Iff·rfl}
+use mathlib.Core.Path.{_≡_, refl, sym, _∙_, ap}
+use mathlib.Core.Bool.{Bool, true, false}
+use mathlib.Core.Logic.{Iff·rfl}
 use mathlib.Core.Option.{Option, none, some}
-use mathlib.Core.List.{[], _∷_}
-use lib.Dec.{ltb}
-use Rattle.integers.proofs.Comparisons.{ltb-iff, ltb-false-iff}
+use mathlib.Core.List.{List, [], _∷_}
+use lib.ListN.{length}
 use Rattle.scope.specs.Search.{firstOf}
-use Rattle.scope.specs.Plans.{pixels}
-use Rattle.scope.specs.Finding.{clashIn}
-use Rattle.scope.specs.Numbers.{planTest, sidesTest, memoryTest, numberTest}
-use Rattle.scope.specs.declared.Clash.{Clash}
+use Rattle.scope.specs.Plans.{Pixel, patternAt, isPlan}
+use Rattle.scope.specs.Numbers.{recordTest, numberTest, countTest, planTest, suitsTest}
+use Rattle.scope.specs.Calls.{pictureTest, fetchStart, fetchRest, eitherFetch, fetch, ringFetch}
+use Rattle.scope.specs.promises.Meaning.{IsBook}
+use Rattle.scope.specs.declared.Book.{Book}
+use Rattle.scope.specs.declared.Counted.{Counted}
 use Rattle.scope.specs.declared.Outcome.{Outcome}
+use Rattle.scope.specs.declared.Outcome.the-variants.{Done, Refused}
 use Rattle.scope.specs.declared.Pattern.{Pattern}
 use Rattle.scope.specs.declared.Plan.{Plan}
 use Rattle.scope.specs.declared.Refusal.{Refusal}
-use Rattle.scope.specs.declared.Refusal.the-variants.{Count, Unsuited, NoPattern}
-use Rattle.checks.proofs.Booleans.{refuses-iff, last-test, test-before}
-use Rattle.checks.proofs.Chains.{chain-refuses, chain-goes-on, chain-of-one, tests-as-one}
+use Rattle.scope.specs.declared.Refusal.the-variants.{NoPattern}
+use Rattle.scope.proofs.PlanFacts.{is-plan-iff}
+use Rattle.checks.proofs.Booleans.{last-test, test-before}
+use Rattle.checks.proofs.BookTests.{book-legal-iff, count-legal-iff}
+use Rattle.checks.proofs.Chains.{chain-refuses, chain-goes-on, chain-of-one, Gives, same-gives}
 use Rattle.checks.proofs.Deciding.{number-decides}
-use Rattle.checks.proofs.Searches.{some-whenever}
-use Rattle.book.proofs.Outcomes.{answered-by-refusal, answered-by-done, done-found-nothing, refused-found}
-use Rattle.pictures.specs.Places.{pictureTest}
-use Rattle.pictures.specs.Fetching.{sizeTest, clashTest, startTest, startOutcome}
+use Rattle.checks.proofs.Tests.{number-in-book-iff, plan-legal-iff}
+use Rattle.book.specs.Scan.{outcomeOf}
+use Rattle.book.proofs.Outcomes.{answered-by-refusal, done-found-nothing, refused-found}
+use Rattle.book.proofs.Scanning.{entry-number-is}
+use Rattle.finder.specs.Clashing.{suitsOutcome}
+use Rattle.pictures.specs.Fetching.{foundBy, entryFor, startTest}
+use Rattle.pictures.proofs.Deliveries.{rest-alike}
 
--- a record has room for 64 pixels
-pub size-legal-iff : (t : Pattern) → (sizeTest t ≡ none) ↔ (t .used ≤ 64)
-unfolding sizeTest
-size-legal-iff t = refuses-iff (ltb 64 (t .used)) (Count 0) (ltb-false-iff 64 (t .used))
+-- An outcome says what its tests found.
+pub found-by : {outcome : Outcome} (t : Option Refusal) → outcome ≡ outcomeOf t → foundBy outcome ≡ t
+found-by {outcome = Done} t e = sym (done-found-nothing t e refl)
+found-by {outcome = Refused r} t e = sym (refused-found t e refl)
 
-size-refuses : (t : Pattern) → 64 < t .used → sizeTest t ≡ some (Count 0)
-unfolding sizeTest
-size-refuses t h = some-whenever (ltb 64 (t .used)) (Count 0) (ltb-iff 64 (t .used) .1 h)
+-- the entry for a number below 16 is that pattern's
+entry-below : (book : Book) (n : ℕ) → n < 16 → entryFor book n ≡ patternAt book n
+unfolding entryFor
+entry-below book n h = ap (patternAt book) (entry-number-is n h)
 
--- the first tests found nothing: what the code goes on with
-pub record Started (tested : Option Refusal) (count : ℕ) (t : Pattern) (p : Plan) (W H words n : ℕ) : Type 0 where
-  pub passed : startTest tested count t p W H words n ≡ none
-  pub picture : pictureTest p W H words ≡ none
-  pub most : t .used ≤ 64
-
-module _ (tested : Option Refusal) (count : ℕ) (t : Pattern) (p : Plan) (W H words n : ℕ) where
+module _ (tested picture : Option Refusal) (book : Book) (p : Plan) (n : ℕ) where
   abbrev start : Option Refusal
-  start = startTest tested count t p W H words n
-
-  abbrev answer-is : Outcome → Type 0
-  answer-is outcome = outcome ≡ startOutcome tested count t p W H words n
-
-  abbrev picture : Option Refusal
-  picture = pictureTest p W H words
+  start = startTest tested picture book p n
 
   abbrev number : Option Refusal
-  number = numberTest count n
-
-  abbrev size : Option Refusal
-  size = sizeTest t
+  number = numberTest (book .count) n
 
   abbrev suiting : Option Refusal
-  suiting = clashTest p n t
+  suiting = suitsTest p n (patternAt book n)
 
-  -- The first tests, with those of a picture as one.
-  start-chain : start ≡ firstOf (tested ∷ picture ∷ number ∷ size ∷ suiting ∷ [])
-  unfolding startTest pictureTest
-  start-chain =
-      tests-as-one (tested ∷ []) (planTest p ∷ sidesTest W H ∷ memoryTest p W H words ∷ []) (number ∷ size ∷ suiting ∷ [])
-
-  -- Their outcome, by the test that refuses.
-  refused-by : {r : Refusal} → start ≡ some r → answer-is (Outcome.Refused r)
-  unfolding startOutcome
-  refused-by {r} e = answered-by-refusal start r e
-
-  pub refused-by-tested : {r : Refusal} → tested ≡ some r → answer-is (Outcome.Refused r)
-  refused-by-tested {r} e = refused-by (start-chain ∙ chain-refuses tested (picture ∷ number ∷ size ∷ suiting ∷ []) r e)
+  -- The outcome, by the test that refuses.
+  pub refused-by-tested : {r : Refusal} → tested ≡ some r → Refused r ≡ outcomeOf start
+  unfolding startTest
+  refused-by-tested {r} e = answered-by-refusal start r (chain-refuses tested (picture ∷ number ∷ suiting ∷ []) r e)
 
   module _ (legal : tested ≡ none) where
-    past-tested : start ≡ firstOf (picture ∷ number ∷ size ∷ suiting ∷ [])
-    past-tested = start-chain ∙ chain-goes-on tested (picture ∷ number ∷ size ∷ suiting ∷ []) legal
+    past-tested : start ≡ firstOf (picture ∷ number ∷ suiting ∷ [])
+    unfolding startTest
+    past-tested = chain-goes-on tested (picture ∷ number ∷ suiting ∷ []) legal
 
-    pub refused-by-picture : {r : Refusal} → picture ≡ some r → answer-is (Outcome.Refused r)
-    refused-by-picture {r} e = refused-by (past-tested ∙ chain-refuses picture (number ∷ size ∷ suiting ∷ []) r e)
+    pub refused-by-picture : {r : Refusal} → picture ≡ some r → Refused r ≡ outcomeOf start
+    refused-by-picture {r} e = answered-by-refusal start r (past-tested ∙ chain-refuses picture (number ∷ suiting ∷ []) r e)
 
     module _ (here : picture ≡ none) where
-      past-picture : start ≡ firstOf (number ∷ size ∷ suiting ∷ [])
-      past-picture = past-tested ∙ chain-goes-on picture (number ∷ size ∷ suiting ∷ []) here
+      past-picture : start ≡ firstOf (number ∷ suiting ∷ [])
+      past-picture = past-tested ∙ chain-goes-on picture (number ∷ suiting ∷ []) here
 
-      pub refused-by-number : count ≤ n → answer-is (Outcome.Refused NoPattern)
+      pub refused-by-number : book .count ≤ n → Refused NoPattern ≡ outcomeOf start
       refused-by-number h =
-          refused-by
+          answered-by-refusal start NoPattern
           (past-picture
-          ∙ chain-refuses number (size ∷ suiting ∷ []) NoPattern (number-decides count n .refuses (λ below. omega arith)))
+          ∙ chain-refuses number (suiting ∷ []) NoPattern (number-decides (book .count) n .refuses (λ below. omega arith)))
 
-      module _ (below : n < count) where
-        past-number : start ≡ firstOf (size ∷ suiting ∷ [])
-        past-number = past-picture ∙ chain-goes-on number (size ∷ suiting ∷ []) (number-decides count n .passes below)
+      abbrev count-of : Pattern → Option Refusal
+      count-of t = countTest 64 (t .used) 0
 
-        pub refused-by-size : 64 < t .used → answer-is (Outcome.Refused (Count 0))
-        refused-by-size h = refused-by (past-number ∙ chain-refuses size (suiting ∷ []) (Count 0) (size-refuses t h))
+      abbrev tests-of : Pattern → Option Refusal
+      tests-of t = firstOf (count-of t ∷ planTest p ∷ suitsTest p n t ∷ [])
 
-        module _ (most : t .used ≤ 64) where
-          past-size : start ≡ suiting
-          past-size = past-number ∙ chain-goes-on size (suiting ∷ []) (size-legal-iff t .1 most) ∙ chain-of-one suiting
+      -- the plan and the pattern's pixel count have been tested: what is left is whether the plan suits
+      pub as-it-suits :
+          {answer : Outcome} → recordTest book ≡ none → isPlan p ≡ true → n < book .count → answer ≡ suitsOutcome p n (entryFor book n)
+          → answer ≡ outcomeOf start
+      unfolding suitsOutcome
+      as-it-suits passed plan below is =
+          is ∙ ap outcomeOf (ap (λ (t : Pattern). tests-of t) (entry-below book n (omega (arith, legal-book .most))) ∙ only-10 ∙ sym past-number)
+        where
+          legal-book : IsBook book
+          legal-book = book-legal-iff book .0 passed
 
-          pub refused-by-clash : {c : Clash} → clashIn p n (pixels t) ≡ some c → answer-is (Outcome.Refused (Unsuited c))
-          unfolding clashTest
-          refused-by-clash e = refused-by (past-size ∙ rw (e, clashTest))
+          only-10 : tests-of (patternAt book n) ≡ suiting
+          only-10 =
+              let t = legal-book .each n below in
+              chain-goes-on (count-of (patternAt book n)) (planTest p ∷ suiting ∷ []) (count-legal-iff 64 _ 0 .1 (t .least, t .most))
+              ∙ chain-goes-on (planTest p) (suiting ∷ []) (plan-legal-iff p .1 (is-plan-iff p .0 plan))
+              ∙ chain-of-one suiting
 
-          pub all-passed : clashIn p n (pixels t) ≡ none → answer-is Outcome.Done
-          unfolding clashTest startOutcome
-          all-passed e = answered-by-done start (past-size ∙ rw (e, clashTest))
+          past-number : start ≡ suiting
+          past-number =
+              past-picture ∙ chain-goes-on number (suiting ∷ []) (number-decides (book .count) n .passes below) ∙ chain-of-one suiting
 
-  -- What the outcome of the first tests tells of them.
-  module _ {outcome : Outcome} (answer : answer-is outcome) where
-    pub start-turned-down : {r : Refusal} → outcome ≡ Outcome.Refused r → start ≡ some r
-    unfolding startOutcome
-    start-turned-down refused = refused-found start answer refused
+-- With what the tests of the book and of the picture found it is the chain that both fetches begin with.
+pub start-is :
+    (book : Book) (p : Plan) (W H words n : ℕ) {tested picture : Option Refusal} {answer : Outcome}
+    → tested ≡ recordTest book → picture ≡ pictureTest p W H words → answer ≡ outcomeOf (startTest tested picture book p n)
+    → foundBy answer ≡ fetchStart book p W H words n
+unfolding fetchStart startTest
+start-is book p W H words n {tested} {picture} book-found picture-found is =
+    found-by (startTest tested picture book p n) is ∙ cc (book-found, picture-found)
 
-    found-nothing : outcome ≡ Outcome.Done → start ≡ none
-    unfolding startOutcome
-    found-nothing done = done-found-nothing start answer done
+-- What the first tests of a fetch show where they find nothing.
+module _ (book : Book) (p : Plan) (W H words n : ℕ) where
+  pub record Started (t : Pattern) : Type 0 where
+    pub picture : pictureTest p W H words ≡ none
+    pub own : t ≡ patternAt book n
+    pub most : t .used ≤ 64
 
-    pub started : outcome ≡ Outcome.Done → Started tested count t p W H words n
-    started done =
-        let (_, (here, (_, (most, _)))) =
-        test-before Iff·rfl
-        (test-before Iff·rfl
-        (test-before (Iff·rfl {A = number ≡ none}) (test-before (size-legal-iff t) (last-test (Iff·rfl {A = suiting ≡ none}))))) .iff .0
-        (sym start-chain ∙ found-nothing done) in
-        record { passed = found-nothing done; picture = here; most = most }
+  pub started : fetchStart book p W H words n ≡ none → Started (entryFor book n)
+  unfolding fetchStart
+  started e =
+      let (legal, (here, (below, _))) =
+      test-before (book-legal-iff book)
+      (test-before Iff·rfl (test-before (number-in-book-iff (book .count) n) (last-test (Iff·rfl {A = suitsTest p n (patternAt book n) ≡ none})))) .iff .0
+      e in
+      let own : entryFor book n ≡ patternAt book n = entry-below book n (omega (arith, legal .most)) in
+      record { picture = here; own = own; most = rw own (legal .each n below .most) }
+
+-- Fetch and ring fetch are either fetch; the position is as a call hands it on.
+module _
+    (book : Book) (p : Plan) (W H : ℕ) (mem : List ℕ) (n : ℕ) (o : Pixel) (out : List ℕ)
+    {v : Pixel} {answer : Counted} {content : List ℕ} (same : v ≡ o)
+  where
+    pub is-fetch : Gives (eitherFetch false book p W H mem n v out) answer content → Gives (fetch book p W H mem n o out) answer content
+    unfolding fetch
+    is-fetch = same-gives (ap (λ (u : Pixel). fetch book p W H mem n u out) same)
+
+    pub is-ring-fetch :
+        Gives (eitherFetch true book p W H mem n v out) answer content → Gives (ringFetch book p W H mem n o out) answer content
+    unfolding ringFetch
+    is-ring-fetch = same-gives (ap (λ (u : Pixel). ringFetch book p W H mem n u out) same)
+
+-- A fetch with the record that stands for the pattern, and the position as a call hands it on, is the fetch of the book.
+pub fetched-by-entry :
+    (ring : Bool) (book : Book) (p : Plan) (W H : ℕ) (mem : List ℕ) (n : ℕ) (o : Pixel) (out : List ℕ)
+    {start : Option Refusal} {t : Pattern} {v : Pixel} {answer : Counted} {content : List ℕ}
+    → start ≡ fetchStart book p W H (length mem) n → t ≡ entryFor book n → v ≡ o
+    → Gives (fetchRest start ring t p W H mem v out) answer content
+    → Gives (eitherFetch ring book p W H mem n o out) answer content
+unfolding eitherFetch
+fetched-by-entry ring book p W H mem n o out is entry same =
+    same-gives
+    (cc (is, same)
+    ∙ rest-alike (fetchStart book p W H (length mem) n) ring _ (patternAt book n) p W H mem o out
+    (λ e. entry ∙ started book p W H (length mem) n e .own))

@@ -15,7 +15,7 @@ use Rattle.integers.specs.Division.{floorMod}
 use Rattle.scope.specs.Search.{gather}
 use Rattle.scope.specs.Plans.{Pixel, at, plus, pixelAt, pixels}
 use Rattle.scope.specs.Banks.{wordIn, wrapped, overStart}
-use Rattle.scope.specs.Calls.{wordTest}
+use Rattle.scope.specs.Calls.{wordTest, moved}
 use Rattle.scope.specs.promises.Meaning.{IsPicture}
 use Rattle.scope.specs.declared.Plan.{Plan}
 use Rattle.scope.proofs.PlanFacts.{pixel-handed}
@@ -24,7 +24,7 @@ use Rattle.checks.proofs.Patterns.{same-coordinates, length-pixels}
 use Rattle.checks.proofs.Outputs.{Put, one-more-put}
 use Rattle.lattice.proofs.Rings.{ring-keeps-banks}
 use Rattle.pictures.proofs.CallTests.{word-test-iff}
-use Rattle.pictures.specs.Fetching.{movedTo, wordsAt}
+use Rattle.pictures.specs.Fetching.{wordsAt}
 use Rattle.pictures.proofs.Moved.{pattern}
 
 -- A picture that the memory holds has a word at every pixel, wrapped.
@@ -67,10 +67,10 @@ pixels-one-more columns rows e =
 module _ (p : Plan) (W H : ℕ) (mem : List ℕ) (columns rows : List ℤ) (o : Pixel) where
   -- the words of the first e pixels
   abbrev pub wordsBefore : ℕ → List ℕ
-  wordsBefore e = wordsAt p W H mem (movedTo (pattern columns rows e) o)
+  wordsBefore e = wordsAt p W H mem (moved (pattern columns rows e) o)
 
   length-words : (e : ℕ) → length (wordsBefore e) ≡ e
-  unfolding wordsAt movedTo
+  unfolding wordsAt moved
   length-words e =
       length-map (map (wrapped W H) (map (plus o) (pixels (pattern columns rows e)))) (wordIn p W H mem)
       ∙ length-map (map (plus o) (pixels (pattern columns rows e))) (wrapped W H)
@@ -79,7 +79,7 @@ module _ (p : Plan) (W H : ℕ) (mem : List ℕ) (columns rows : List ℤ) (o : 
 
   -- none yet
   pub no-words : (out : List ℕ) → Put (wordsBefore 0) out out
-  unfolding wordsAt movedTo overStart
+  unfolding wordsAt moved overStart
   no-words out = record { same-length = refl; is = refl }
 
   -- the word of the pixel at position e
@@ -87,7 +87,7 @@ module _ (p : Plan) (W H : ℕ) (mem : List ℕ) (columns rows : List ℤ) (o : 
   wordFor e = wordIn p W H mem (wrapped W H (plus o (pixel columns rows e)))
 
   words-one-more : (e : ℕ) → wordsBefore (e + 1) ≡ wordsBefore e ++ (wordFor e ∷ [])
-  unfolding wordsAt movedTo
+  unfolding wordsAt moved
   words-one-more e =
       ap (λ (vs : List Pixel). map (wordIn p W H mem) (map (wrapped W H) (map (plus o) vs))) (pixels-one-more columns rows e)
       ∙ mapped-one-more (wordIn p W H mem) (wrapped W H) (plus o) (pixels (pattern columns rows e))

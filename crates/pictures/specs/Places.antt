@@ -1,21 +1,11 @@
 -- What the calls on a picture's words share: their first tests, and where a word or a bank stands in the memory.
 -- Assumes nothing.
 use Prim.Native.Nat.{ℕ}
-use mathlib.Core.Option.{Option}
-use mathlib.Core.List.{[], _∷_}
-use Rattle.scope.specs.Search.{firstOf}
 use Rattle.scope.specs.Plans.{Pixel}
 use Rattle.scope.specs.Banks.{depthOf, wordOf}
-use Rattle.scope.specs.Numbers.{planTest, sidesTest, memoryTest}
-use Rattle.scope.specs.Calls.{answered, wordTest, wholeBankTest}
+use Rattle.scope.specs.Calls.{answered, pictureTest, wordTest, wholeBankTest}
 use Rattle.scope.specs.declared.Plan.{Plan}
 use Rattle.scope.specs.declared.Counted.{Counted}
-use Rattle.scope.specs.declared.Refusal.{Refusal}
-
--- 11, 12, 13
-unfoldable pub pictureTest : Plan → ℕ → ℕ → ℕ → Option Refusal
-unfolding firstOf planTest sidesTest memoryTest
-pictureTest p W H words = firstOf (planTest p ∷ sidesTest W H ∷ memoryTest p W H words ∷ [])
 
 -- the depth of a picture that the memory holds, or 11, 12, 13
 unfoldable pub pictureDepth : Plan → ℕ → ℕ → ℕ → Counted

@@ -7,7 +7,7 @@ ghost use mathlib.Core.Path.{_≡_};
 ghost use mathlib.Core.List.{foldr};
 ghost use Prim.Native.Nat.{_+_, _≤_};
 ghost use lib.ListN.{length, replicate};
-ghost use Rattle.scope.specs.Calls.{clear, sum};
+ghost use Rattle.scope.specs.Calls.{lent, clear, sum};
 
 // Puts 0 in every word.
 fn clear_words(words: &mut [u16])
@@ -22,7 +22,7 @@ fn clear_words(words: &mut [u16])
 
 // Clears bank k, or 11, 12, 13, 15 and the memory as it was.
 pub fn clear(p: Plan, w: u32, h: u32, mem: &mut [u16], k: u64) -> Outcome
-    ensures { λ r. ⌜ (r ≡ clear p w h (now (mem .entry)) k .answer) × (now (mem .exit) ≡ clear p w h (now (mem .entry)) k .content) ⌝ }
+    ensures { λ r. ⌜ (r ≡ clear p w h (lent (now (mem .entry))) k .answer) × (now (mem .exit) ≡ clear p w h (lent (now (mem .entry))) k .content .memory) ⌝ }
 {
     let depth = bank_depth(p, w, h, mem.len(), k);
     match depth {

@@ -1,53 +1,78 @@
-// Fetch and ring fetch of one pattern: the tests that both begin with, the one that each has for itself, then 16 and the
-// words. They take a book as what its tests found, its count and the record of the pattern, so that a caller need not have the
-// whole book as a value.
+// Fetch and ring fetch. Both are one function but for the edge: 14, or 18 and wrapping. What they begin with is found out
+// apart from the rest, so that a list of fetches need not find it out again.
 use crate::moving::all_inside;
 use crate::moving::put_words;
-use crate::places::picture_depth;
-use finder::Met;
-use finder::clash_in;
+use crate::places::picture_outcome;
+use book::entry_number;
+use book::record_outcome;
+use finder::suits_outcome;
+use scope::Book;
 use scope::Counted;
 use scope::Outcome;
 use scope::Pattern;
 use scope::Plan;
 use scope::Refusal;
 ghost use mathlib.Core.Path.{_≡_};
+ghost use mathlib.Core.Bool.{true, false};
 ghost use mathlib.Core.Option.{none};
 ghost use Prim.Native.Nat.{_≤_};
 ghost use lib.ListN.{length};
-ghost use Rattle.scope.specs.Plans.{at};
-ghost use Rattle.pictures.specs.Places.{pictureTest};
-ghost use Rattle.pictures.specs.Fetching.{foundBy, startOutcome, movedTo, delivered, fetchOf, ringFetchOf};
+ghost use Rattle.scope.specs.Plans.{at, isPlan};
+ghost use Rattle.scope.specs.Numbers.{recordTest, isRing};
+ghost use Rattle.scope.specs.Calls.{pictureTest, moved, edgeTest, fetchRest, eitherFetch, fetch, ringFetch};
+ghost use Rattle.book.specs.Scan.{outcomeOf};
+ghost use Rattle.pictures.specs.Fetching.{foundBy, entryFor, startTest, delivered};
 
-// The tests that both begin with: 2, 3, 4 as found, 11, 12, 13, 17, 2 where the record is too short for its pixels, 10.
-fn start_outcome(
-    tested: Outcome,
-    count: usize,
-    t: Pattern,
-    p: Plan,
-    w: u32,
-    h: u32,
-    words: usize,
-    n: usize,
-) -> Outcome
-    ensures { λ r. ⌜ r ≡ startOutcome (foundBy tested) count t p w h words n ⌝ }
+// The record of pattern n, the last one where there is none.
+pub(crate) fn entry_for(book: Book, n: usize) -> Pattern
+    ensures { λ r. ⌜ r ≡ entryFor book n ⌝ }
+{
+    let k = entry_number(n);
+    book.patterns[k]
+}
+
+// What a fetch of pattern n begins with: what the tests of the book and of the picture found, then 17, 10.
+pub(crate) fn start_outcome(tested: Outcome, picture: Outcome, book: Book, p: Plan, n: usize) -> Outcome
+    requires { ⌜ (foundBy tested ≡ recordTest book) × (foundBy picture ≡ none → isPlan p ≡ true) ⌝ }
+    ensures { λ r. ⌜ r ≡ outcomeOf (startTest (foundBy tested) (foundBy picture) book p n) ⌝ }
 {
     if let Outcome::Refused(_) = tested {
         return tested;
     }
-    let depth = picture_depth(p, w, h, words);
-    if let Counted::Refused(r) = depth {
-        return Outcome::Refused(r);
+    if let Outcome::Refused(_) = picture {
+        return picture;
     }
-    if count <= n {
+    if book.count <= n {
         return Outcome::Refused(Refusal::NoPattern);
     }
-    if 64 < t.used {
-        return Outcome::Refused(Refusal::Count(0));
+    suits_outcome(p, n, entry_for(book, n))
+}
+
+// Whether a ring fetch is allowed.
+fn is_ring(p: Plan, w: u32, h: u32) -> bool
+    requires { ⌜ isPlan p ≡ true ⌝ }
+    ensures { λ r. ⌜ r ≡ isRing p w h ⌝ }
+{
+    let banks = p.a * p.d;
+    if w % banks != 0 {
+        return false;
     }
-    let met = clash_in(p, n, t);
-    if let Met::At(c) = met {
-        return Outcome::Refused(Refusal::Unsuited(c));
+    h % banks == 0
+}
+
+// The edge: 14 for a pattern moved to (i, j), or 18 for a ring fetch.
+fn edge_outcome(ring: bool, t: Pattern, p: Plan, w: u32, h: u32, i: i16, j: i16) -> Outcome
+    requires { ⌜ (isPlan p ≡ true) × (t .used ≤ 64) ⌝ }
+    ensures { λ r. ⌜ r ≡ outcomeOf (edgeTest ring p w h (moved t (at i j))) ⌝ }
+{
+    if ring {
+        if !is_ring(p, w, h) {
+            return Outcome::Refused(Refusal::Ring);
+        }
+        return Outcome::Done;
+    }
+    if !all_inside(t, w, h, i, j) {
+        return Outcome::Refused(Refusal::Outside);
     }
     Outcome::Done
 }
@@ -64,7 +89,7 @@ fn deliver(
     out: &mut [u16],
 ) -> Counted
     requires { ⌜ (pictureTest p w h (length (now mem)) ≡ none) × (t .used ≤ 64) ⌝ }
-    ensures { λ r. ⌜ (r ≡ delivered p w h (now (mem .entry)) (movedTo t (at i j)) (now (out .entry)) .answer) × (now (out .exit) ≡ delivered p w h (now (mem .entry)) (movedTo t (at i j)) (now (out .entry)) .content) ⌝ }
+    ensures { λ r. ⌜ (r ≡ delivered p w h (now (mem .entry)) (moved t (at i j)) (now (out .entry)) .answer) × (now (out .exit) ≡ delivered p w h (now (mem .entry)) (moved t (at i j)) (now (out .entry)) .content) ⌝ }
 {
     let used = t.used;
     if out.len() < used {
@@ -74,37 +99,36 @@ fn deliver(
     Counted::Number(used as u64)
 }
 
-// Fetches the pattern t, number n of `count` in a book whose tests found `tested`.
-pub fn fetch_pattern(
-    tested: Outcome,
-    count: usize,
+// What a fetch of the pattern t goes on with after its first tests: the edge, then 16 and the words.
+pub(crate) fn fetch_rest(
+    start: Outcome,
+    ring: bool,
     t: Pattern,
     p: Plan,
     w: u32,
     h: u32,
     mem: &[u16],
-    n: usize,
     i: i16,
     j: i16,
     out: &mut [u16],
 ) -> Counted
-    ensures { λ r. ⌜ (r ≡ fetchOf (foundBy tested) count t p w h (now (mem .entry)) n (at i j) (now (out .entry)) .answer) × (now (out .exit) ≡ fetchOf (foundBy tested) count t p w h (now (mem .entry)) n (at i j) (now (out .entry)) .content) ⌝ }
+    requires { ⌜ (foundBy start ≡ none → (pictureTest p w h (length (now mem)) ≡ none) × (t .used ≤ 64)) ⌝ }
+    ensures { λ r. ⌜ (r ≡ fetchRest (foundBy start) ring t p w h (now (mem .entry)) (at i j) (now (out .entry)) .answer) × (now (out .exit) ≡ fetchRest (foundBy start) ring t p w h (now (mem .entry)) (at i j) (now (out .entry)) .content) ⌝ }
 {
-    let outcome = start_outcome(tested, count, t, p, w, h, mem.len(), n);
-    if let Outcome::Refused(r) = outcome {
+    if let Outcome::Refused(r) = start {
         return Counted::Refused(r);
     }
-    if !all_inside(t, w, h, i, j) {
-        return Counted::Refused(Refusal::Outside);
+    let edge = edge_outcome(ring, t, p, w, h, i, j);
+    if let Outcome::Refused(r) = edge {
+        return Counted::Refused(r);
     }
     deliver(t, p, w, h, mem, i, j, out)
 }
 
-// The same around the picture's edges: columns modulo w, rows modulo h; 18 in the place of 14.
-pub fn ring_fetch_pattern(
-    tested: Outcome,
-    count: usize,
-    t: Pattern,
+// Either fetch of a book's pattern n.
+fn either_fetch(
+    ring: bool,
+    book: Book,
     p: Plan,
     w: u32,
     h: u32,
@@ -114,18 +138,45 @@ pub fn ring_fetch_pattern(
     j: i16,
     out: &mut [u16],
 ) -> Counted
-    ensures { λ r. ⌜ (r ≡ ringFetchOf (foundBy tested) count t p w h (now (mem .entry)) n (at i j) (now (out .entry)) .answer) × (now (out .exit) ≡ ringFetchOf (foundBy tested) count t p w h (now (mem .entry)) n (at i j) (now (out .entry)) .content) ⌝ }
+    ensures { λ r. ⌜ (r ≡ eitherFetch ring book p w h (now (mem .entry)) n (at i j) (now (out .entry)) .answer) × (now (out .exit) ≡ eitherFetch ring book p w h (now (mem .entry)) n (at i j) (now (out .entry)) .content) ⌝ }
 {
-    let outcome = start_outcome(tested, count, t, p, w, h, mem.len(), n);
-    if let Outcome::Refused(r) = outcome {
-        return Counted::Refused(r);
-    }
-    let banks = p.a * p.d;
-    if w % banks != 0 {
-        return Counted::Refused(Refusal::Ring);
-    }
-    if h % banks != 0 {
-        return Counted::Refused(Refusal::Ring);
-    }
-    deliver(t, p, w, h, mem, i, j, out)
+    let tested = record_outcome(book);
+    let picture = picture_outcome(p, w, h, mem.len());
+    let start = start_outcome(tested, picture, book, p, n);
+    let t = entry_for(book, n);
+    fetch_rest(start, ring, t, p, w, h, mem, i, j, out)
+}
+
+// Fetches pattern n moved to (i, j) and tells how many words, or 2, 3, 4, 11, 12, 13, 17, 10, 14, 16 and the output as it was.
+pub fn fetch(
+    book: Book,
+    p: Plan,
+    w: u32,
+    h: u32,
+    mem: &[u16],
+    n: usize,
+    i: i16,
+    j: i16,
+    out: &mut [u16],
+) -> Counted
+    ensures { λ r. ⌜ (r ≡ fetch book p w h (now (mem .entry)) n (at i j) (now (out .entry)) .answer) × (now (out .exit) ≡ fetch book p w h (now (mem .entry)) n (at i j) (now (out .entry)) .content) ⌝ }
+{
+    either_fetch(false, book, p, w, h, mem, n, i, j, out)
+}
+
+// The same around the picture's edges; 18 in the place of 14.
+pub fn ring_fetch(
+    book: Book,
+    p: Plan,
+    w: u32,
+    h: u32,
+    mem: &[u16],
+    n: usize,
+    i: i16,
+    j: i16,
+    out: &mut [u16],
+) -> Counted
+    ensures { λ r. ⌜ (r ≡ ringFetch book p w h (now (mem .entry)) n (at i j) (now (out .entry)) .answer) × (now (out .exit) ≡ ringFetch book p w h (now (mem .entry)) n (at i j) (now (out .entry)) .content) ⌝ }
+{
+    either_fetch(true, book, p, w, h, mem, n, i, j, out)
 }

@@ -15,9 +15,8 @@ ghost use Rattle.integers.specs.Division.{floorMod};
 ghost use Rattle.scope.specs.Search.{every};
 ghost use Rattle.scope.specs.Plans.{at};
 ghost use Rattle.scope.specs.Banks.{within, inside, wordIn, overStart};
-ghost use Rattle.scope.specs.Calls.{wordTest};
-ghost use Rattle.pictures.specs.Places.{pictureTest};
-ghost use Rattle.pictures.specs.Fetching.{movedTo, wordsAt};
+ghost use Rattle.scope.specs.Calls.{pictureTest, wordTest, moved};
+ghost use Rattle.pictures.specs.Fetching.{wordsAt};
 
 // Whether coordinate c moved by z is from 0 to side - 1.
 fn is_within(z: i16, c: i8, side: u32) -> bool
@@ -45,7 +44,7 @@ fn wrapped_to(z: i16, c: i8, side: u32) -> i16
 // Whether all pixels of a pattern, moved to (i, j), are inside.
 pub(crate) fn all_inside(t: Pattern, w: u32, h: u32, i: i16, j: i16) -> bool
     requires { ⌜ t .used ≤ 64 ⌝ }
-    ensures { λ r. ⌜ r ≡ every (inside w h) (movedTo t (at i j)) ⌝ }
+    ensures { λ r. ⌜ r ≡ every (inside w h) (moved t (at i j)) ⌝ }
 {
     let columns = t.columns;
     let rows = t.rows;
@@ -87,7 +86,7 @@ pub(crate) fn put_words(
     out: &mut [u16],
 )
     requires { ⌜ (pictureTest p w h (length (now mem)) ≡ none) × (t .used ≤ 64) × (t .used ≤ length (now out)) ⌝ }
-    ensures { λ r. ⌜ now (out .exit) ≡ overStart (wordsAt p w h (now (mem .entry)) (movedTo t (at i j))) (now (out .entry)) ⌝ }
+    ensures { λ r. ⌜ now (out .exit) ≡ overStart (wordsAt p w h (now (mem .entry)) (moved t (at i j))) (now (out .entry)) ⌝ }
 {
     let columns = t.columns;
     let rows = t.rows;

@@ -1,13 +1,16 @@
 // Where a word or a bank stands in a memory of so many words.
 use scope::Counted;
+use scope::Outcome;
 use scope::Plan;
 use scope::Refusal;
 ghost use mathlib.Core.Path.{_≡_};
 ghost use Rattle.scope.specs.Plans.{at};
+ghost use Rattle.scope.specs.Calls.{pictureTest};
+ghost use Rattle.book.specs.Scan.{outcomeOf};
 ghost use Rattle.pictures.specs.Places.{pictureDepth, wordPlace, bankDepth};
 
 // The depth of a picture that the memory holds, or 11, 12, 13.
-pub fn picture_depth(p: Plan, w: u32, h: u32, words: usize) -> Counted
+fn picture_depth(p: Plan, w: u32, h: u32, words: usize) -> Counted
     ensures { λ r. ⌜ r ≡ pictureDepth p w h words ⌝ }
 {
     let answer = p.depth(w, h);
@@ -19,8 +22,19 @@ pub fn picture_depth(p: Plan, w: u32, h: u32, words: usize) -> Counted
     answer
 }
 
+// Whether there is a picture that the memory holds, or 11, 12, 13.
+pub(crate) fn picture_outcome(p: Plan, w: u32, h: u32, words: usize) -> Outcome
+    ensures { λ r. ⌜ r ≡ outcomeOf (pictureTest p w h words) ⌝ }
+{
+    let depth = picture_depth(p, w, h, words);
+    match depth {
+        Counted::Number(_) => Outcome::Done,
+        Counted::Refused(r) => Outcome::Refused(r),
+    }
+}
+
 // The place of the word of the pixel (i, j), or 11, 12, 13, 14.
-pub fn word_place(p: Plan, w: u32, h: u32, words: usize, i: i16, j: i16) -> Counted
+pub(crate) fn word_place(p: Plan, w: u32, h: u32, words: usize, i: i16, j: i16) -> Counted
     ensures { λ r. ⌜ r ≡ wordPlace p w h words (at i j) ⌝ }
 {
     let answer = picture_depth(p, w, h, words);
@@ -38,7 +52,7 @@ pub fn word_place(p: Plan, w: u32, h: u32, words: usize, i: i16, j: i16) -> Coun
 }
 
 // How many words bank k has, which begins at k times as many, or 11, 12, 13, 15.
-pub fn bank_depth(p: Plan, w: u32, h: u32, words: usize, k: u64) -> Counted
+pub(crate) fn bank_depth(p: Plan, w: u32, h: u32, words: usize, k: u64) -> Counted
     ensures { λ r. ⌜ r ≡ bankDepth p w h words k ⌝ }
 {
     let answer = picture_depth(p, w, h, words);

@@ -6,11 +6,11 @@ use scope::Outcome;
 use scope::Plan;
 ghost use mathlib.Core.Path.{_≡_};
 ghost use Rattle.scope.specs.Plans.{at};
-ghost use Rattle.scope.specs.Calls.{store, load};
+ghost use Rattle.scope.specs.Calls.{lent, store, load};
 
 // Stores x at the pixel (i, j), or 11, 12, 13, 14 and the memory as it was.
 pub fn store(p: Plan, w: u32, h: u32, mem: &mut [u16], i: i16, j: i16, x: u16) -> Outcome
-    ensures { λ r. ⌜ (r ≡ store p w h (now (mem .entry)) (at i j) x .answer) × (now (mem .exit) ≡ store p w h (now (mem .entry)) (at i j) x .content) ⌝ }
+    ensures { λ r. ⌜ (r ≡ store p w h (lent (now (mem .entry))) (at i j) x .answer) × (now (mem .exit) ≡ store p w h (lent (now (mem .entry))) (at i j) x .content .memory) ⌝ }
 {
     let place = word_place(p, w, h, mem.len(), i, j);
     match place {

@@ -221,6 +221,10 @@ unfolding whenever
 numberTest count n = whenever (leb count n) NoPattern
 
 -- 18: "ring sides not multiples of N"
+unfoldable pub isRing : Plan → ℕ → ℕ → Bool
+unfolding banks
+isRing p W H = eqb (W % banks p) 0 && eqb (H % banks p) 0
+
 unfoldable pub ringTest : Plan → ℕ → ℕ → Option Refusal
-unfolding whenever banks
-ringTest p W H = whenever (not (eqb (W % banks p) 0 && eqb (H % banks p) 0)) Ring
+unfolding whenever isRing
+ringTest p W H = whenever (not (isRing p W H)) Ring

@@ -3,21 +3,21 @@
 -- Assumes nothing.
 use Prim.Native.Nat.{ℕ}
 use native.Mathlib.Omega.{arith}
-use mathlib.Core.Path.{_≡_, _∙_}
+use mathlib.Core.Path.{_≡_, _∙_, ap}
 use mathlib.Core.Option.{Option}
 use mathlib.Core.List.{List}
 use lib.ListN.{length}
 use borrow.Author.Needs.{needs}
 use Rattle.scope.specs.Banks.{afterClear}
-use Rattle.scope.specs.Calls.{wholeBankTest, clear}
+use Rattle.scope.specs.Calls.{Lent, lent, wholeBankTest, clear}
 use Rattle.scope.specs.declared.Plan.{Plan}
 use Rattle.scope.specs.declared.Counted.{Counted}
 use Rattle.scope.specs.declared.Outcome.{Outcome}
 use Rattle.scope.specs.declared.Refusal.{Refusal}
-use Rattle.checks.proofs.Chains.{Gives, value-given, refusal-given}
+use Rattle.checks.proofs.Chains.{value-given, refusal-given}
 use Rattle.pictures.specs.Places.{bankDepth}
 use Rattle.pictures.proofs.PictureTests.{bank-refusal-shows}
-use Rattle.pictures.proofs.WholeBanks.{BankIn, bank-in, part-cleared}
+use Rattle.pictures.proofs.WholeBanks.{Leaves, kept, BankIn, bank-in, part-cleared}
 use Rattle.pictures.proofs.banks.clear.Statement.{statement}
 use Rattle.pictures.proofs.banks.clear.Tie as tie
 
@@ -26,22 +26,23 @@ module _ (p : Plan) (W H : ℕ) (mem : List ℕ) (k : ℕ) where
   abbrev tests : Option Refusal
   tests = wholeBankTest p W H (length mem) k
 
-  abbrev zeroed : List ℕ
-  zeroed = afterClear p W H mem k
+  abbrev zeroed : Lent
+  zeroed = lent (afterClear p W H mem k)
 
   cleared :
-      {deep : ℕ} {content : List ℕ} → BankIn p W H mem k deep → content ≡ zeroed
-      → Gives (clear p W H mem k) Outcome.Done content
+      {deep : ℕ} {content : List ℕ} → BankIn p W H mem k deep → content ≡ afterClear p W H mem k
+      → Leaves (clear p W H (lent mem) k) Outcome.Done content
   unfolding clear
   cleared bank e =
-      let (done, zeros) = value-given tests Outcome.Refused mem Outcome.Done zeroed (bank .passed) in (done, e ∙ zeros)
+      let (done, zeros) = value-given tests Outcome.Refused (lent mem) Outcome.Done zeroed (bank .passed) in
+      (done, e ∙ ap (λ (l : Lent). l .memory) zeros)
 
   refused :
       {answer : Counted} {r : Refusal} → answer ≡ bankDepth p W H (length mem) k → answer ≡ Counted.Refused r
-      → Gives (clear p W H mem k) (Outcome.Refused r) mem
+      → Leaves (clear p W H (lent mem) k) (Outcome.Refused r) mem
   unfolding clear
   refused {r} is no-depth =
-      refusal-given tests Outcome.Refused mem Outcome.Done zeroed r (bank-refusal-shows p W H (length mem) k is no-depth)
+      kept (refusal-given tests Outcome.Refused (lent mem) Outcome.Done zeroed r (bank-refusal-shows p W H (length mem) k is no-depth))
 
 -- the bank's depth was given
 module _ (c : tie.After-depth) where

@@ -14,7 +14,7 @@ use Rattle.scope.specs.Search.{every}
 use Rattle.scope.specs.Plans.{at}
 use Rattle.scope.specs.Banks.{within, inside}
 use Rattle.scope.proofs.MethodAnswers.{fails, holds}
-use Rattle.pictures.specs.Fetching.{movedTo}
+use Rattle.scope.specs.Calls.{moved}
 use Rattle.pictures.proofs.Moved.{pattern, position, position-handed, InsideBefore, none-inside, one-more-inside}
 use Rattle.pictures.proofs.Moved.{every-inside, column-outside, row-outside}
 use Rattle.pictures.proofs.moving.all_inside.Statement.{statement}
@@ -34,8 +34,8 @@ start l = l .before .before .before
 answers :
     {b : Bool} (l : tie.At-loop Inv-loop μ-loop)
     → let u = start l .args in
-    every (inside (u .w) (u .h)) (movedTo (u .t) (position (ofZ w16 (u .i)) (ofZ w16 (u .j)))) ≡ b
-    → b ≡ every (inside (u .w) (u .h)) (movedTo (u .t) (at (u .i) (u .j)))
+    every (inside (u .w) (u .h)) (moved (u .t) (position (ofZ w16 (u .i)) (ofZ w16 (u .j)))) ≡ b
+    → b ≡ every (inside (u .w) (u .h)) (moved (u .t) (at (u .i) (u .j)))
 answers l e = let f = start l .fits in sym (rw (position-handed (f .i) (f .j)) at e)
 
 loop-holds : tie.Need-loop-holds Inv-loop μ-loop

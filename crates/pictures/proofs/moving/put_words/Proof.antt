@@ -12,7 +12,7 @@ use Rattle.scope.specs.Banks.{wrapped}
 use Rattle.scope.specs.promises.Meaning.{IsPicture}
 use Rattle.checks.proofs.Outputs.{Put}
 use Rattle.pictures.proofs.Moved.{position, position-handed}
-use Rattle.pictures.proofs.PictureTests.{picture-test-iff}
+use Rattle.pictures.proofs.CallTests.{picture-test-iff}
 use Rattle.pictures.proofs.Wrapped.{wrapped-has-word, wrapped-handed, pixel}
 use Rattle.pictures.proofs.Wrapped.{wordsBefore, no-words, one-more-word}
 use Rattle.pictures.proofs.moving.put_words.Statement.{statement}

@@ -9,14 +9,15 @@ use borrow.Author.Needs.{needs}
 use Rattle.scope.specs.Plans.{banks}
 use Rattle.scope.specs.Banks.{depthOf}
 use Rattle.scope.specs.Numbers.{bankTest}
-use Rattle.scope.specs.Calls.{wholeBankTest}
+use Rattle.scope.specs.Calls.{pictureTest, wholeBankTest}
 use Rattle.scope.specs.declared.Plan.{Plan}
 use Rattle.scope.specs.declared.Counted.{Counted}
 use Rattle.scope.specs.declared.Refusal.{Refusal}
 use Rattle.checks.proofs.Chains.{chain-refuses, chain-goes-on, chain-of-one, answered-none, answered-some}
 use Rattle.checks.proofs.Deciding.{bank-decides}
-use Rattle.pictures.specs.Places.{pictureTest, pictureDepth, bankDepth}
-use Rattle.pictures.proofs.PictureTests.{picture-test-iff, picture-before-bank, picture-shows, picture-refusal-shows}
+use Rattle.pictures.specs.Places.{pictureDepth, bankDepth}
+use Rattle.pictures.proofs.CallTests.{picture-test-iff}
+use Rattle.pictures.proofs.PictureTests.{picture-shows, picture-refusal-shows}
 use Rattle.pictures.proofs.places.bank_depth.Statement.{statement}
 use Rattle.pictures.proofs.places.bank_depth.Tie as tie
 
@@ -33,21 +34,20 @@ module _ (p : Plan) (W H words k : ℕ) where
   -- and by what the callee answered
   module _ {answer : Counted} (is : answer ≡ pictureDepth p W H words) where
     no-picture : (r : Refusal) → answer ≡ Counted.Refused r → answer ≡ bankDepth p W H words k
+    unfolding wholeBankTest
     no-picture r e =
         e
         ∙ sym
-        (refused r
-        (picture-before-bank p W H words k
-        ∙ chain-refuses (pictureTest p W H words) (bankTest p k ∷ []) r (picture-refusal-shows p W H words is e)))
+        (refused r (chain-refuses (pictureTest p W H words) (bankTest p k ∷ []) r (picture-refusal-shows p W H words is e)))
 
     module _ {n : ℕ} (e : answer ≡ Counted.Number n) where
       count-at-most : p .a * p .d ≤ 1024
       count-at-most = picture-test-iff p W H words .0 (picture-shows p W H words is e .0) .plan .most
 
       past-picture : wholeBankTest p W H words k ≡ bankTest p k
+      unfolding wholeBankTest
       past-picture =
-          picture-before-bank p W H words k
-          ∙ chain-goes-on (pictureTest p W H words) (bankTest p k ∷ []) (picture-shows p W H words is e .0)
+          chain-goes-on (pictureTest p W H words) (bankTest p k ∷ []) (picture-shows p W H words is e .0)
           ∙ chain-of-one (bankTest p k)
 
       no-such-bank : p .a * p .d ≤ k → Counted.Refused Refusal.Cell ≡ bankDepth p W H words k

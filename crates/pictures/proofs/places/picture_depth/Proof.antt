@@ -11,7 +11,7 @@ use Rattle.scope.specs.Search.{firstOf}
 use Rattle.scope.specs.Plans.{banks}
 use Rattle.scope.specs.Banks.{depthOf}
 use Rattle.scope.specs.Numbers.{planTest, sidesTest, memoryTest}
-use Rattle.scope.specs.Calls.{depth}
+use Rattle.scope.specs.Calls.{depth, pictureTest}
 use Rattle.scope.specs.promises.Meaning.{IsPlan, IsSide}
 use Rattle.scope.specs.declared.Plan.{Plan}
 use Rattle.scope.specs.declared.Counted.{Counted}
@@ -21,7 +21,7 @@ use Rattle.checks.proofs.Chains.{chain-refuses, chain-goes-on, chain-of-one, an
 use Rattle.checks.proofs.Deciding.{memory-decides}
 use Rattle.checks.proofs.Tests.{plan-legal-iff, sides-legal-iff}
 use Rattle.lattice.proofs.Words.{depth-at-most}
-use Rattle.pictures.specs.Places.{pictureTest, pictureDepth}
+use Rattle.pictures.specs.Places.{pictureDepth}
 use Rattle.checks.proofs.CountedAnswers.{number-shows, refusal-shows}
 use Rattle.pictures.proofs.PictureTests.{depth-before-memory}
 use Rattle.pictures.proofs.places.picture_depth.Statement.{statement}

@@ -11,7 +11,7 @@ use Rattle.scope.specs.Search.{firstOf}
 use Rattle.scope.specs.Plans.{Pixel, at}
 use Rattle.scope.specs.Banks.{bankOf, addressOf, wordOf}
 use Rattle.scope.specs.Numbers.{planTest, sidesTest, outsideTest}
-use Rattle.scope.specs.Calls.{bank, address, wordTest}
+use Rattle.scope.specs.Calls.{bank, address, pictureTest, wordTest}
 use Rattle.scope.specs.promises.Meaning.{IsPicture}
 use Rattle.scope.specs.declared.Plan.{Plan}
 use Rattle.scope.specs.declared.Counted.{Counted}
@@ -20,9 +20,10 @@ use Rattle.scope.proofs.PlanFacts.{pixel-handed}
 use Rattle.checks.proofs.Searches.{none-not-some}
 use Rattle.checks.proofs.Chains.{chain-refuses, chain-goes-on, answered-none, answered-some}
 use Rattle.checks.proofs.Tests.{plan-legal-iff, sides-legal-iff}
-use Rattle.pictures.specs.Places.{pictureTest, pictureDepth, wordPlace}
+use Rattle.pictures.specs.Places.{pictureDepth, wordPlace}
 use Rattle.checks.proofs.CountedAnswers.{number-shows, refusal-shows}
-use Rattle.pictures.proofs.PictureTests.{picture-test-iff, picture-before-pixel, word-in-memory, picture-shows, picture-refusal-shows}
+use Rattle.pictures.proofs.CallTests.{picture-test-iff}
+use Rattle.pictures.proofs.PictureTests.{word-in-memory, picture-shows, picture-refusal-shows}
 use Rattle.pictures.proofs.places.word_place.Statement.{statement}
 use Rattle.pictures.proofs.places.word_place.Tie as tie
 
@@ -45,12 +46,11 @@ module _ (p : Plan) (W H words : ℕ) (v : Pixel) where
   -- and by what the callees answered: the depth of a picture that the memory holds,
   module _ {D : Counted} (D-is : D ≡ pictureDepth p W H words) where
     no-picture : (r : Refusal) → D ≡ Counted.Refused r → D ≡ wordPlace p W H words v
+    unfolding wordTest
     no-picture r e =
         e
         ∙ sym
-        (refused r
-        (picture-before-pixel p W H words v
-        ∙ chain-refuses (pictureTest p W H words) (outside ∷ []) r (picture-refusal-shows p W H words D-is e)))
+        (refused r (chain-refuses (pictureTest p W H words) (outside ∷ []) r (picture-refusal-shows p W H words D-is e)))
 
     module _ {n : ℕ} (n-is : D ≡ Counted.Number n) where
       found-none : pictureTest p W H words ≡ none
@@ -64,9 +64,9 @@ module _ (p : Plan) (W H words : ℕ) (v : Pixel) where
 
       -- only the pixel's test is left, and it is the address's too
       same-tests : wordTest p W H words v ≡ addressTest
+      unfolding wordTest
       same-tests =
-          picture-before-pixel p W H words v
-          ∙ chain-goes-on (pictureTest p W H words) (outside ∷ []) found-none
+          chain-goes-on (pictureTest p W H words) (outside ∷ []) found-none
           ∙ sym
           (chain-goes-on (planTest p) (sidesTest W H ∷ outside ∷ []) planned
           ∙ chain-goes-on (sidesTest W H) (outside ∷ []) (sides-legal-iff W H .1 (picture .W-side, picture .H-side)))

@@ -9,14 +9,15 @@ use lib.ListN.{length, set}
 use borrow.Author.Needs.{needs}
 use Rattle.scope.specs.Plans.{Pixel, at}
 use Rattle.scope.specs.Banks.{afterStore}
-use Rattle.scope.specs.Calls.{wordTest, store}
+use Rattle.scope.specs.Calls.{Lent, lent, wordTest, store}
 use Rattle.scope.specs.declared.Plan.{Plan}
 use Rattle.scope.specs.declared.Counted.{Counted}
 use Rattle.scope.specs.declared.Outcome.{Outcome}
 use Rattle.scope.specs.declared.Refusal.{Refusal}
 use Rattle.scope.proofs.PlanFacts.{pixel-handed}
-use Rattle.checks.proofs.Chains.{Gives, value-given, refusal-given}
+use Rattle.checks.proofs.Chains.{value-given, refusal-given}
 use Rattle.pictures.specs.Places.{wordPlace}
+use Rattle.pictures.proofs.WholeBanks.{Leaves, kept}
 use Rattle.pictures.proofs.PictureTests.{place-shows, place-in-memory, place-refusal-shows}
 use Rattle.pictures.proofs.words.store.Statement.{statement}
 use Rattle.pictures.proofs.words.store.Tie as tie
@@ -26,21 +27,20 @@ module _ (p : Plan) (W H : ℕ) (mem : List ℕ) (v : Pixel) (x : ℕ) where
   abbrev tests : Option Refusal
   tests = wordTest p W H (length mem) v
 
-  abbrev after : List ℕ
-  after = afterStore p W H mem v x
+  abbrev after : Lent
+  after = lent (afterStore p W H mem v x)
 
   module _ {place : Counted} (is : place ≡ wordPlace p W H (length mem) v) where
-    stored : {n : ℕ} → place ≡ Counted.Number n → Gives (store p W H mem v x) Outcome.Done (set mem n x)
+    stored : {n : ℕ} → place ≡ Counted.Number n → Leaves (store p W H (lent mem) v x) Outcome.Done (set mem n x)
     unfolding store afterStore
     stored e =
         let (passed, same) = place-shows p W H (length mem) v is e in
-        let (done, put) = value-given tests Outcome.Refused mem Outcome.Done after passed in
-        (done, ap (λ (n : ℕ). set mem n x) (sym same) ∙ put)
+        let (done, put) = value-given tests Outcome.Refused (lent mem) Outcome.Done after passed in
+        (done, ap (λ (n : ℕ). set mem n x) (sym same) ∙ ap (λ (l : Lent). l .memory) put)
 
-    refused : {r : Refusal} → place ≡ Counted.Refused r → Gives (store p W H mem v x) (Outcome.Refused r) mem
+    refused : {r : Refusal} → place ≡ Counted.Refused r → Leaves (store p W H (lent mem) v x) (Outcome.Refused r) mem
     unfolding store
-    refused {r} e =
-        refusal-given tests Outcome.Refused mem Outcome.Done after r (place-refusal-shows p W H (length mem) v is e)
+    refused {r} e = kept (refusal-given tests Outcome.Refused (lent mem) Outcome.Done after r (place-refusal-shows p W H (length mem) v is e))
 
 -- the place was asked for
 place-given :

@@ -1,4 +1,4 @@
--- `pictures::books::entry_for` meets its contract.
+-- `pictures::fetching::entry_for` meets its contract.
 -- Assumes nothing.
 use Prim.Native.Nat.{ℕ, _<_}
 use native.Mathlib.Omega.{arith}
@@ -7,8 +7,8 @@ use borrow.Author.Needs.{needs}
 use Rattle.scope.specs.Plans.{patternAt}
 use Rattle.book.proofs.Scanning.{entry-number-below}
 use Rattle.pictures.specs.Fetching.{entryFor}
-use Rattle.pictures.proofs.books.entry_for.Statement.{statement}
-use Rattle.pictures.proofs.books.entry_for.Tie as tie
+use Rattle.pictures.proofs.fetching.entry_for.Statement.{statement}
+use Rattle.pictures.proofs.fetching.entry_for.Tie as tie
 
 -- the entry is one of the record's
 below-16 : (c : tie.After-entry-number) → c .entry-number .result < 16
