@@ -12,14 +12,16 @@ use Rattle.scope.specs.Plans.{Pixel, banks, isPlan, determinantSize}
 use Rattle.scope.specs.Banks.{inside, depthOf}
 use Rattle.scope.specs.Numbers.{Answer, turnedDown, limitTest, dependentTest, largeTest, planTest, isSide, sidesTest}
 use Rattle.scope.specs.Numbers.{memoryTest, outsideTest, bankTest, outputTest, numberTest, isRing, ringTest}
-use Rattle.scope.specs.Calls.{answered, changed}
+use Rattle.scope.specs.Calls.{answered, changed, pictureTest, fetchStart}
 use Rattle.scope.specs.promises.Meaning.{IsPlan, IsSide, AllInside, Independent, RingAllowed}
 use Rattle.scope.specs.declared.Plan.{Plan}
+use Rattle.scope.specs.declared.Book.{Book}
 use Rattle.scope.specs.declared.Refusal.{Refusal}
 use Rattle.scope.specs.declared.Refusal.the-variants.{Limit, Dependent, Large, NotPlan, Sides, Memory}
 use Rattle.scope.specs.declared.Refusal.the-variants.{Outside, Cell, Output, NoPattern, Ring}
 use Rattle.checks.proofs.Searches.{whenever-some, whenever-not-none}
 use Rattle.checks.proofs.Chains.{chain-refuses, chain-goes-on, answered-some, changed-answer}
+use Rattle.checks.proofs.Chains.{pictureTests, picture-one-by-one, fetchTests, fetch-one-by-one}
 use Rattle.checks.proofs.Tests.{limit-legal-iff, independent-iff, size-within-iff, plan-legal-iff, sides-legal-iff, memory-enough-iff}
 use Rattle.checks.proofs.Tests.{all-inside-iff, bank-below-iff, output-enough-iff, number-in-book-iff, ring-allowed-iff}
 
@@ -99,6 +101,15 @@ module _ {X A : Type 0} (of : X → Answer A) {tests : List (Option Refusal)} {r
       → Follows tests (of (changed (firstOf tests) refused old x new .answer))
   changed-follows old x new reads =
       record { refused = λ r e. ap of (changed-answer (firstOf tests) refused old x new) ∙ answered-follows x reads .refused r e }
+
+-- A chain whose first test is a chain of a call on a picture, or of a fetch, test by test.
+module _ {A : Type 0} {ts : List (Option Refusal)} {answer : Answer A} (p : Plan) (W H words : ℕ) where
+  pub picture-follows : Follows (pictureTest p W H words ∷ ts) answer → Follows (pictureTests p W H words ts) answer
+  picture-follows chain = record { refused = λ r e. chain .refused r (picture-one-by-one p W H words ts ∙ e) }
+
+  pub fetch-follows :
+      (book : Book) (n : ℕ) → Follows (fetchStart book p W H words n ∷ ts) answer → Follows (fetchTests p W H words book n ts) answer
+  fetch-follows book n chain = record { refused = λ r e. chain .refused r (fetch-one-by-one p W H words book n ts ∙ e) }
 
 module _ {A : Type 0} {t : Option Refusal} {ts : List (Option Refusal)} {answer : Answer A} (chain : Follows (t ∷ ts) answer) where
   -- What the first test finds is the answer; where it finds nothing, the answer follows the rest.

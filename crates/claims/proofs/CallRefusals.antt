@@ -3,7 +3,7 @@
 use Prim.Native.Nat.{ℕ, _<_}
 use native.Mathlib.Omega.{arith}
 use mathlib.Core.Path.{_≡_, refl, sym, _∙_, ap}
-use mathlib.Core.Bool.{false}
+use mathlib.Core.Bool.{Bool, true, false}
 use mathlib.Core.Option.{Option, none, some}
 use mathlib.Core.List.{List, [], _∷_, map, List·Memᴰ·head}
 use lib.IntN.{natAbs}
@@ -12,24 +12,24 @@ use Rattle.scope.specs.Plans.{Pixel, pixels, patternAt, suits, determinantSize}
 use Rattle.scope.specs.Books.{bookBytes}
 use Rattle.scope.specs.Numbers.{Answer, refusal, turnedDown, ofPlanned, ofCounted, ofLoaded, ofLocated, ofOutcome, ofVerdict}
 use Rattle.scope.specs.Numbers.{recordTest, limitTest, dependentTest, largeTest, planTest, sidesTest, memoryTest, outsideTest}
-use Rattle.scope.specs.Numbers.{bankTest, cellTest, outputTest, suitsTest, ringTest}
+use Rattle.scope.specs.Numbers.{bankTest, cellTest, outputTest, suitsTest}
 use Rattle.scope.specs.Calls.{recordOutcome, writeBook, normal, find, check, bank, depth, address, locate, store, load, clear}
-use Rattle.scope.specs.Calls.{sum, moved, fetch, ringFetch, recordPixel, fillRecords}
-use Rattle.scope.specs.promises.Meaning.{IsPlan, IsSide, Inside, AllInside, IsPicture, IsBook, Independent}
+use Rattle.scope.specs.Calls.{sum, pictureTest, moved, edgeTest, restTest, fetchRest, eitherFetch, fetch, ringFetch, recordPixel, fillRecords}
+use Rattle.scope.specs.promises.Meaning.{IsPlan, IsSide, Inside, AllInside, IsPicture, IsBook, Independent, RingAllowed}
 use Rattle.scope.specs.promises.PicturePromises.{LegalFetch}
 use Rattle.scope.specs.promises.RefusalPromises.{PlanRefused, PictureRefused, WordRefused, BankRefused, FetchRefused, CallsRefuse}
 use Rattle.scope.specs.declared.Plan.{Plan}
 use Rattle.scope.specs.declared.Book.{Book}
 use Rattle.scope.specs.declared.Clash.{Clash}
 use Rattle.scope.specs.declared.Refusal.{Refusal}
-use Rattle.scope.specs.declared.Refusal.the-variants.{NotPlan}
+use Rattle.scope.specs.declared.Refusal.the-variants.{NotPlan, Outside, Ring}
 use Rattle.scope.specs.declared.Counted.{Counted}
 use Rattle.scope.specs.declared.Outcome.{Outcome}
 use Rattle.scope.specs.declared.PixelRecord.{PixelRecord}
 use Rattle.checks.proofs.Searches.{true-not-false}
-use Rattle.checks.proofs.Chains.{answered-some, fetchTests}
+use Rattle.checks.proofs.Chains.{answered-some, pictureTests, fetchTests}
 use Rattle.checks.proofs.BookTests.{book-legal-iff}
-use Rattle.checks.proofs.Deciding.{Follows, answered-follows, changed-follows, refused-by-first, after-none, refused-unless, after}
+use Rattle.checks.proofs.Deciding.{Decides, Follows, picture-follows, fetch-follows, answered-follows, changed-follows, refused-by-first, after-none, refused-unless, after}
 use Rattle.checks.proofs.Deciding.{limit-decides, independent-decides, size-decides, plan-decides, sides-decide, memory-decides}
 use Rattle.checks.proofs.Deciding.{inside-decides, bank-decides, output-decides, number-decides, ring-decides}
 use Rattle.lattice.proofs.TestMeanings.{tests-mean, suits-test-some}
@@ -74,7 +74,7 @@ module _ {A : Type 0} {p : Plan} {W H : ℕ} {ts : List (Option Refusal)} {r : A
 -- and those of the memory too
 module _
     {A : Type 0} {p : Plan} {W H words : ℕ} {ts : List (Option Refusal)} {r : Answer A}
-    (chain : Follows (planTest p ∷ sidesTest W H ∷ memoryTest p W H words ∷ ts) r)
+    (chain : Follows (pictureTests p W H words ts) r)
   where
     picture-refused : PictureRefused p W H words r
     picture-refused =
@@ -91,40 +91,39 @@ module _
 -- The chains of store and load, of clear and sum,
 module _ {A : Type 0} {p : Plan} {W H words : ℕ} {r : Answer A} where
   word-refused :
-      {v : Pixel} → Follows (planTest p ∷ sidesTest W H ∷ memoryTest p W H words ∷ outsideTest W H (v ∷ []) ∷ []) r
-      → WordRefused p W H words v r
+      {v : Pixel} → Follows (pictureTest p W H words ∷ outsideTest W H (v ∷ []) ∷ []) r → WordRefused p W H words v r
   word-refused {v} chain =
       record {
-        first = picture-refused chain;
+        first = picture-refused (picture-follows p W H words chain);
         outside-14 = λ here outside.
-            refused-unless (after-picture chain here) (inside-decides W H (v ∷ [])) (one-outside outside);
+            refused-unless (after-picture (picture-follows p W H words chain) here) (inside-decides W H (v ∷ [])) (one-outside outside);
       }
 
   bank-refused :
-      {k : ℕ} → Follows (planTest p ∷ sidesTest W H ∷ memoryTest p W H words ∷ bankTest p k ∷ []) r → BankRefused p W H words k r
+      {k : ℕ} → Follows (pictureTest p W H words ∷ bankTest p k ∷ []) r → BankRefused p W H words k r
   bank-refused {k} chain =
       record {
-        first = picture-refused chain;
-        bank-15 = λ here above. refused-unless (after-picture chain here) (bank-decides p k) (λ below. omega arith);
+        first = picture-refused (picture-follows p W H words chain);
+        bank-15 = λ here above. refused-unless (after-picture (picture-follows p W H words chain) here) (bank-decides p k) (λ below. omega arith);
       }
 
 -- and of both fetches, with what is tested after 10
 module _
     (book : Book) (p : Plan) (W H words n : ℕ) {ts : List (Option Refusal)} {r : Answer ℕ}
-    (chain : Follows (fetchTests book p W H words n ts) r)
+    (chain : Follows (fetchTests p W H words book n ts) r)
   where
-    after-number : IsBook book → IsPicture p W H words → n < book .count → Follows (suitsTest p book n ∷ ts) r
+    after-number : IsBook book → IsPicture p W H words → n < book .count → Follows (suitsTest p n (patternAt book n) ∷ ts) r
     after-number legal here below = after (after-picture (after-book chain legal) here) (number-decides (book .count) n) below
 
     unsuited :
         IsBook book → IsPicture p W H words → n < book .count → suits p (pixels (patternAt book n)) ≡ false
         → (c : Clash) × (r ≡ refusal 10 0 (some c))
-    unsuited legal here below fails = by-test (suitsTest p book n) refl
+    unsuited legal here below fails = by-test (suitsTest p n (patternAt book n)) refl
       where
-        by-test : (t : Option Refusal) → suitsTest p book n ≡ t → (c : Clash) × (r ≡ refusal 10 0 (some c))
-        by-test none e = absurd (true-not-false (sym (tests-mean .suits-10 book p n legal (here .plan) below .0 e) ∙ fails))
+        by-test : (t : Option Refusal) → suitsTest p n (patternAt book n) ≡ t → (c : Clash) × (r ≡ refusal 10 0 (some c))
+        by-test none e = absurd (true-not-false (sym (tests-mean .suits-10 (patternAt book n) p n (legal .each n below) (here .plan) .0 e) ∙ fails))
         by-test (some f) e =
-            let (c, _, is) = suits-test-some p book n f e in
+            let (c, _, is) = suits-test-some p n (patternAt book n) f e in
             (c, refused-by-first (after-number legal here below) f e ∙ ap turnedDown is)
 
     fetch-refused : FetchRefused book p W H words n r
@@ -140,7 +139,7 @@ module _
     after-fetch : LegalFetch book p W H words n → Follows ts r
     after-fetch l =
         after-none (after-number (l .legal-book) (l .picture) (l .number))
-        (tests-mean .suits-10 book p n (l .legal-book) (l .picture .plan) (l .number) .1 (l .suiting))
+        (tests-mean .suits-10 (patternAt book n) p n (l .legal-book .each n (l .number)) (l .picture .plan) .1 (l .suiting))
 
 -- Each call's answer follows its chain.
 normal-follows : (x y : Pixel) → Follows (dependentTest x y ∷ largeTest x y ∷ []) (ofPlanned (normal x y))
@@ -174,28 +173,38 @@ fill-follows :
 unfolding fillRecords
 fill-follows p W H rs = changed-follows ofOutcome _ _ _ (λ r. refl)
 
-module _ (book : Book) (p : Plan) (W H : ℕ) (mem : List ℕ) (n : ℕ) (o : Pixel) (out : List ℕ) where
-  abbrev outsideAndOutput : List (Option Refusal)
-  outsideAndOutput = outsideTest W H (moved book n o) ∷ outputTest (patternAt book n .used) (length out) ∷ []
+module _ (ring : Bool) (book : Book) (p : Plan) (W H : ℕ) (mem : List ℕ) (n : ℕ) (o : Pixel) (out : List ℕ) where
+  abbrev edgeAndOutput : List (Option Refusal)
+  edgeAndOutput = edgeTest ring p W H (moved (patternAt book n) o) ∷ outputTest (patternAt book n .used) (length out) ∷ []
 
-  fetch-follows :
-      Follows (fetchTests book p W H (length mem) n outsideAndOutput) (ofCounted (fetch book p W H mem n o out .answer))
-  unfolding fetch
-  fetch-follows = changed-follows ofCounted _ _ _ (λ r. refl)
+  abbrev answer : Answer ℕ
+  answer = ofCounted (eitherFetch ring book p W H mem n o out .answer)
 
-  after-10 : LegalFetch book p W H (length mem) n → Follows outsideAndOutput (ofCounted (fetch book p W H mem n o out .answer))
-  after-10 = after-fetch book p W H (length mem) n fetch-follows
+  either-follows : Follows (fetchTests p W H (length mem) book n edgeAndOutput) answer
+  unfolding eitherFetch fetchRest restTest
+  either-follows = fetch-follows p W H (length mem) book n (changed-follows ofCounted _ _ _ (λ r. refl))
 
-  abbrev ringAndOutput : List (Option Refusal)
-  ringAndOutput = ringTest p W H ∷ outputTest (patternAt book n .used) (length out) ∷ []
+  either-refused : FetchRefused book p W H (length mem) n answer
+  either-refused = fetch-refused book p W H (length mem) n either-follows
 
-  ring-fetch-follows :
-      Follows (fetchTests book p W H (length mem) n ringAndOutput) (ofCounted (ringFetch book p W H mem n o out .answer))
-  unfolding ringFetch
-  ring-fetch-follows = changed-follows ofCounted _ _ _ (λ r. refl)
+  after-10 : LegalFetch book p W H (length mem) n → Follows edgeAndOutput answer
+  after-10 = after-fetch book p W H (length mem) n either-follows
 
-  ring-after-10 : LegalFetch book p W H (length mem) n → Follows ringAndOutput (ofCounted (ringFetch book p W H mem n o out .answer))
-  ring-after-10 = after-fetch book p W H (length mem) n ring-fetch-follows
+  -- 14 or 18 where the edge's condition does not hold, and 16 where it does
+  module _ {r : Refusal} {P : Type 0} (edge : Decides (edgeTest ring p W H (moved (patternAt book n) o)) r P) where
+    edge-refused : LegalFetch book p W H (length mem) n → (P → ⊥) → answer ≡ turnedDown r
+    edge-refused legal = refused-unless (after-10 legal) edge
+
+    room-refused : LegalFetch book p W H (length mem) n → P → length out < patternAt book n .used → answer ≡ refusal 16 0 none
+    room-refused legal holds = output-refused (patternAt book n .used) (length out) (after (after-10 legal) edge holds)
+
+outside-edge : (p : Plan) (W H : ℕ) (vs : List Pixel) → Decides (edgeTest false p W H vs) Outside (AllInside W H vs)
+unfolding edgeTest
+outside-edge p W H vs = inside-decides W H vs
+
+ring-edge : (p : Plan) (W H : ℕ) (vs : List Pixel) → Decides (edgeTest true p W H vs) Ring (RingAllowed p W H)
+unfolding edgeTest
+ring-edge p W H vs = ring-decides p W H
 
 -- A call that is turned down gives the number of the first condition that holds.
 pub calls-refuse : CallsRefuse
@@ -222,17 +231,12 @@ calls-refuse =
       loads = λ p W H mem v. word-refused (answered-follows ofLoaded _ (λ r. refl));
       clears = λ p W H mem k. bank-refused (changed-follows ofOutcome _ _ _ (λ r. refl));
       sums = λ p W H mem k. bank-refused (answered-follows ofCounted _ (λ r. refl));
-      fetches = λ book p W H mem n o out. fetch-refused book p W H (length mem) n (fetch-follows book p W H mem n o out);
-      fetch-14 = λ book p W H mem n o out legal.
-          refused-unless (after-10 book p W H mem n o out legal) (inside-decides W H (moved book n o));
-      fetch-16 = λ book p W H mem n o out legal inside.
-          output-refused (patternAt book n .used) (length out)
-          (after (after-10 book p W H mem n o out legal) (inside-decides W H (moved book n o)) inside);
-      ring-fetches = λ book p W H mem n o out. fetch-refused book p W H (length mem) n (ring-fetch-follows book p W H mem n o out);
-      ring-18 = λ book p W H mem n o out legal. refused-unless (ring-after-10 book p W H mem n o out legal) (ring-decides p W H);
-      ring-16 = λ book p W H mem n o out legal w h.
-          output-refused (patternAt book n .used) (length out)
-          (after (ring-after-10 book p W H mem n o out legal) (ring-decides p W H) (w, h));
+      fetches = either-refused false;
+      fetch-14 = λ book p W H mem n o out. edge-refused false book p W H mem n o out (outside-edge p W H (moved (patternAt book n) o));
+      fetch-16 = λ book p W H mem n o out. room-refused false book p W H mem n o out (outside-edge p W H (moved (patternAt book n) o));
+      ring-fetches = either-refused true;
+      ring-18 = λ book p W H mem n o out. edge-refused true book p W H mem n o out (ring-edge p W H (moved (patternAt book n) o));
+      ring-16 = λ book p W H mem n o out. room-refused true book p W H mem n o out (ring-edge p W H (moved (patternAt book n) o));
       fills = λ p W H rs. plan-refused (fill-follows p W H rs);
       fill-14 = λ p W H rs plan w h.
           refused-unless (after-sides (fill-follows p W H rs) plan w h) (inside-decides W H (map recordPixel rs));

@@ -1,3 +1,4 @@
 -- What the calls on a picture share.
-pub mod Places  -- their first tests, and where a word or a bank stands
-pub mod Fetching  -- a fetch of one pattern's record, whose book was tested
+pub mod Places  -- where a word or a bank stands
+pub mod Fetching  -- what the code of both fetches goes by
+pub mod Lists  -- a list of calls in numbers

@@ -32,7 +32,13 @@ pub(crate) fn entry_for(book: Book, n: usize) -> Pattern
 }
 
 // What a fetch of pattern n begins with: what the tests of the book and of the picture found, then 17, 10.
-pub(crate) fn start_outcome(tested: Outcome, picture: Outcome, book: Book, p: Plan, n: usize) -> Outcome
+pub(crate) fn start_outcome(
+    tested: Outcome,
+    picture: Outcome,
+    book: Book,
+    p: Plan,
+    n: usize,
+) -> Outcome
     requires { ⌜ (foundBy tested ≡ recordTest book) × (foundBy picture ≡ none → isPlan p ≡ true) ⌝ }
     ensures { λ r. ⌜ r ≡ outcomeOf (startTest (foundBy tested) (foundBy picture) book p n) ⌝ }
 {

@@ -1,13 +1,17 @@
-// Pictures in a lent memory: store, load, clear, sum, fetch and ring fetch.
+// Pictures in a lent memory: store, load, clear, sum, fetch and ring fetch, and a list of such calls.
 mod banks;
 mod fetching;
+mod lists;
 mod moving;
 mod places;
+mod rows;
 mod words;
 
 pub use banks::clear;
 pub use banks::sum;
 pub use fetching::fetch;
 pub use fetching::ring_fetch;
+pub use lists::Listed;
+pub use lists::run_list;
 pub use words::load;
 pub use words::store;

@@ -1,0 +1,177 @@
+-- A list of demand 3's calls in numbers, five to a call, and its replies in numbers, twelve to a call.
+--
+-- A call is its kind (0 a store, 1 a clear, 2 a load, 3 a fetch), its column and row, its word, bank or pattern, and the room of
+-- a fetch. A column or row is the last 16 bits of its number in two's complement. A number that a call has no use for is not
+-- looked at. Each fetch has the next `room` words of the outputs as "an output of its own".
+-- Assumes nothing.
+use Prim.Native.Nat.{ℕ, zero, suc, _+_, _-_, _*_, _/_, _%_, _<_}
+use mathlib.Core.Path.{_≡_}
+use mathlib.Core.Bool.{Bool, true, false, not, cond, _&&_, _||_}
+use mathlib.Core.Option.{Option, none, some}
+use mathlib.Core.List.{List, [], _∷_, flatMap}
+use lib.Dec.{leb, ltb, eqb}
+use lib.IntN.{ℤ, pos, _-ℤ_}
+use lib.ListN.{length, getD, take, drop, replicate}
+use Rattle.scope.specs.Search.{whenever, firstOf}
+use Rattle.scope.specs.Plans.{at}
+use Rattle.scope.specs.Banks.{overStart}
+use Rattle.scope.specs.Numbers.{Answer, value, refusal, recordTest}
+use Rattle.scope.specs.Calls.{Result, pictureTest}
+use Rattle.scope.specs.promises.Demand.{Write, store, clear, Read, load, fetch, Call, write, read, Reply, wrote, loaded, fetched, Setting, after, reply, run, replies}
+use Rattle.scope.specs.declared.Book.{Book}
+use Rattle.scope.specs.declared.Plan.{Plan}
+use Rattle.scope.specs.declared.Clash.{Clash}
+use Rattle.scope.specs.declared.Outcome.{Outcome}
+use Rattle.book.specs.Scan.{outcomeOf}
+use Rattle.pictures.specs.Fetching.{foundBy, startTest}
+use Rattle.pictures.specs.declared.lists.Listed.{Listed}
+
+abbrev pub setting : Book → Plan → ℕ → ℕ → Setting
+setting book p W H = record { book = book; plan = p; W = W; H = H }
+
+unfoldable pub coordinateOf : ℕ → ℤ
+coordinateOf x = cond (ltb (x % 65536) 32768) (pos (x % 65536)) (pos (x % 65536) -ℤ pos 65536)
+
+-- the call of these numbers, with this output if it is a fetch
+unfoldable pub callOf : ℕ → ℕ → ℕ → ℕ → List ℕ → Call
+unfolding coordinateOf at
+callOf kind i j n out =
+    cond (eqb kind 0) (write (store (at (coordinateOf i) (coordinateOf j)) (n % 65536)))
+    (cond (eqb kind 1) (write (clear n))
+    (cond (eqb kind 2) (read (load (at (coordinateOf i) (coordinateOf j))))
+    (read (fetch n (at (coordinateOf i) (coordinateOf j)) out))))
+
+unfoldable pub roomOf : ℕ → ℕ → ℕ
+roomOf kind room = cond (ltb kind 3) 0 room
+
+-- the call of the first five numbers, and its room
+unfoldable pub callAt : List ℕ → List ℕ → Call
+unfolding callOf
+callAt xs out = callOf (getD xs 0 0) (getD xs 1 0) (getD xs 2 0) (getD xs 3 0) out
+
+unfoldable pub roomAt : List ℕ → ℕ
+unfolding roomOf
+roomAt xs = roomOf (getD xs 0 0) (getD xs 4 0)
+
+-- n calls, each fetch with the next words of the outputs
+unfoldable pub callsFrom : ℕ → List ℕ → List ℕ → List Call
+unfolding callAt roomAt
+callsFrom zero xs outs = []
+callsFrom (suc n) xs outs = callAt xs (take (roomAt xs) outs) ∷ callsFrom n (drop 5 xs) (drop (roomAt xs) outs)
+
+unfoldable pub callsOf : List ℕ → List ℕ → List Call
+unfolding callsFrom
+callsOf xs outs = callsFrom (length xs / 5) xs outs
+
+-- The five numbers are those of a call: a kind up to 3, a column, a row and a store's word of 16 bits
+unfoldable pub isCall : ℕ → ℕ → ℕ → ℕ → Bool
+isCall kind i j n = leb kind 3 && ltb i 65536 && ltb j 65536 && (leb 1 kind || ltb n 65536)
+
+unfoldable pub isCallAt : List ℕ → Bool
+unfolding isCall
+isCallAt xs = isCall (getD xs 0 0) (getD xs 1 0) (getD xs 2 0) (getD xs 3 0)
+
+-- What is wrong with n calls whose numbers begin at place k, with `room` words for their outputs: the first numbers that are no
+-- call's, or the first fetch whose room is not there
+unfoldable pub listFault : ℕ → ℕ → List ℕ → ℕ → Option Listed
+unfolding isCallAt roomAt
+listFault zero k xs room = none
+listFault (suc n) k xs room =
+    elim (isCallAt xs) [
+      | false ↦ some (Listed.NotCalls k)
+      | true ↦ elim (leb (roomAt xs) room) [ false ↦ some Listed.Short | true ↦ listFault n (k + 5) (drop 5 xs) (room - roomAt xs) ]
+    ]
+
+-- That, then fewer than five numbers at the end, then less than twelve numbers to a call for the replies
+unfoldable pub listTest : List ℕ → ℕ → ℕ → Option Listed
+unfolding firstOf whenever listFault
+listTest xs outs rows =
+    firstOf
+    (listFault (length xs / 5) 0 xs outs
+    ∷ whenever (not (eqb (length xs % 5) 0)) (Listed.NotCalls (5 * (length xs / 5)))
+    ∷ whenever (ltb rows (12 * (length xs / 5))) Listed.Short
+    ∷ [])
+
+unfoldable pub listedBy : Option Listed → Listed
+listedBy none = Listed.Made
+listedBy (some fault) = fault
+
+-- an answer in numbers: 0 and its values, or the refusal's number, its place and, of 10, the clash
+unfoldable pub clashNumbers : Option Clash → List ℕ
+clashNumbers none = []
+clashNumbers (some c) = c .pattern ∷ c .earlier ∷ c .later ∷ []
+
+unfoldable pub answerNumbers : {A : Type 0} → (A → List ℕ) → Answer A → List ℕ
+unfolding clashNumbers
+answerNumbers values (value x) = 0 ∷ values x
+answerNumbers values (refusal n place clash) = n ∷ place ∷ clashNumbers clash
+
+-- a reply's twelve numbers: its answer's, then 0
+unfoldable pub twelve : List ℕ → List ℕ
+unfolding overStart
+twelve xs = overStart xs (replicate 12 0)
+
+unfoldable pub replyNumbers : Reply → List ℕ
+unfolding twelve answerNumbers
+replyNumbers (wrote a) = twelve (answerNumbers (λ x. []) a)
+replyNumbers (loaded a) = twelve (answerNumbers (λ n. n ∷ []) a)
+replyNumbers (fetched a out) = twelve (answerNumbers (λ n. n ∷ []) a)
+
+-- the output that a fetch leaves
+abbrev pub outputOf : Reply → List ℕ
+outputOf (wrote a) = []
+outputOf (loaded a) = []
+outputOf (fetched a out) = out
+
+-- What a list of calls is lent, and leaves
+pub record Buffers : Type 0 where
+  pub memory : List ℕ
+  pub outputs : List ℕ
+  pub rows : List ℕ
+
+abbrev pub buffers : List ℕ → List ℕ → List ℕ → Buffers
+buffers mem outs rows = record { memory = mem; outputs = outs; rows = rows }
+
+-- The calls of the numbers, made one after the other: demand 3's list, its outputs and its replies in numbers
+unfoldable pub madeList : Setting → List ℕ → Buffers → Buffers
+unfolding run replies callsOf flatMap overStart replyNumbers
+madeList g xs b =
+    let calls : List Call = callsOf xs (b .outputs) in
+    let given : List Reply = replies g (b .memory) calls in
+    record {
+      memory = run g (b .memory) calls;
+      outputs = overStart (flatMap outputOf given) (b .outputs);
+      rows = overStart (flatMap replyNumbers given) (b .rows);
+    }
+
+-- A list that is wrong, or whose outputs or replies are too short, changes nothing.
+unfoldable pub runList : Setting → List ℕ → Buffers → Result Listed Buffers
+unfolding listTest listedBy madeList
+runList g xs b =
+    record {
+      answer = listedBy (listTest xs (length (b .outputs)) (length (b .rows)));
+      content =
+          elim (listTest xs (length (b .outputs)) (length (b .rows))) [ none ↦ madeList g xs b | some fault ↦ b ];
+    }
+
+-- What the code has found out once: what the tests of the book and of the picture found, and what a fetch of each of the first
+-- 16 pattern numbers begins with
+pub record Begun
+    (book : Book) (p : Plan) (W H words : ℕ) (tested picture : Outcome) (starts : List Outcome) : Type 0
+  where
+    pub book-found : foundBy tested ≡ recordTest book
+    pub picture-found : foundBy picture ≡ pictureTest p W H words
+    pub starts-found :
+        (n : ℕ) → n < 16 → getD starts n Outcome.Done ≡ outcomeOf (startTest (foundBy tested) (foundBy picture) book p n)
+
+-- a fetch's output after its reply, that of another call as it was
+abbrev pub stretchAfter : Reply → List ℕ → List ℕ
+stretchAfter (wrote a) old = old
+stretchAfter (loaded a) old = old
+stretchAfter (fetched a out) old = out
+
+-- One call was made: its reply's numbers, the memory and its output.
+pub record OneMade (g : Setting) (mem : List ℕ) (c : Call) (old row next out : List ℕ) : Type 0 where
+  pub row-is : row ≡ replyNumbers (reply g mem c)
+  pub memory-is : next ≡ after g mem c
+  pub output-is : out ≡ stretchAfter (reply g mem c) old

@@ -1,0 +1,266 @@
+// A list of demand 3's calls in numbers, made one after the other. The book, and whether the plan suits each pattern, are
+// tested once.
+use crate::banks::clear;
+use crate::fetching::entry_for;
+use crate::fetching::fetch_rest;
+use crate::fetching::start_outcome;
+use crate::places::picture_outcome;
+use crate::rows::counted_row;
+use crate::rows::loaded_row;
+use crate::rows::outcome_row;
+use crate::rows::put_row;
+use crate::words::load;
+use crate::words::store;
+use book::record_outcome;
+use scope::Book;
+use scope::Outcome;
+use scope::Plan;
+ghost use mathlib.Core.Path.{_≡_};
+ghost use mathlib.Core.Option.{none};
+ghost use Prim.Native.Nat.{ℕ, _*_, _/_, _≤_, _<_};
+ghost use lib.ListN.{length, getD};
+ghost use mathlib.Core.Bool.{true};
+ghost use Rattle.scope.specs.Plans.{isPlan};
+ghost use Rattle.scope.specs.declared.Outcome.{Outcome};
+ghost use Rattle.book.specs.Scan.{outcomeOf};
+ghost use Rattle.scope.specs.Numbers.{recordTest};
+ghost use Rattle.scope.specs.Calls.{pictureTest};
+ghost use Rattle.pictures.specs.Fetching.{foundBy, startTest};
+ghost use Rattle.pictures.specs.Lists.{setting, coordinateOf, callOf, roomOf, isCall, listFault, listTest, listedBy, buffers, madeList, runList, Begun, OneMade};
+
+// What came of a list: it was made, or it was not and nothing changed, because the numbers from this place on are no call's, or
+// because the outputs or the replies are too short.
+pub enum Listed {
+    Made,
+    NotCalls(u64),
+    Short,
+}
+
+// The last 16 bits of a number, in two's complement.
+fn coordinate(x: u64) -> i16
+    ensures { λ r. ⌜ r ≡ coordinateOf x ⌝ }
+{
+    let y = x % 65536;
+    if y < 32768 {
+        y as i16
+    } else {
+        (y as i32 - 65536) as i16
+    }
+}
+
+// The room of a call's output.
+fn room_of(kind: u64, room: u64) -> u64
+    ensures { λ r. ⌜ r ≡ roomOf kind room ⌝ }
+{
+    if kind < 3 { 0 } else { room }
+}
+
+// Whether these are the numbers of a call.
+fn is_call(kind: u64, i: u64, j: u64, n: u64) -> bool
+    ensures { λ r. ⌜ r ≡ isCall kind i j n ⌝ }
+{
+    if 3 < kind {
+        return false;
+    }
+    if 65535 < i {
+        return false;
+    }
+    if 65535 < j {
+        return false;
+    }
+    if 0 < kind {
+        return true;
+    }
+    n < 65536
+}
+
+// The first numbers that are no call's, or the first fetch whose room is not there.
+fn list_fault(numbers: &[u64], outs: usize) -> Listed
+    ensures { λ r. ⌜ r ≡ listedBy (listFault (length (now (numbers .entry)) / 5) 0 (now (numbers .entry)) outs) ⌝ }
+{
+    let mut left = numbers.len() / 5;
+    let mut k = 0;
+    let mut room = outs;
+    while 0 < left {
+        let kind = numbers[k];
+        if !is_call(kind, numbers[k + 1], numbers[k + 2], numbers[k + 3]) {
+            return Listed::NotCalls(k as u64);
+        }
+        let own = room_of(kind, numbers[k + 4]);
+        if (room as u64) < own {
+            return Listed::Short;
+        }
+        room -= own as usize;
+        k += 5;
+        left -= 1;
+    }
+    Listed::Made
+}
+
+// Whether the numbers are a list of calls, with outputs and replies that are long enough.
+fn list_outcome(numbers: &[u64], outs: usize, rows: usize) -> Listed
+    ensures { λ r. ⌜ r ≡ listedBy (listTest (now (numbers .entry)) outs rows) ⌝ }
+{
+    let fault = list_fault(numbers, outs);
+    if let Listed::Made = fault {
+        let calls = numbers.len() / 5;
+        if numbers.len() % 5 != 0 {
+            return Listed::NotCalls((5 * calls) as u64);
+        }
+        if rows / 12 < calls {
+            return Listed::Short;
+        }
+    }
+    fault
+}
+
+// What a fetch of each of the first 16 pattern numbers begins with.
+fn starts_of(tested: Outcome, picture: Outcome, book: Book, p: Plan) -> [Outcome; 16]
+    requires { ⌜ (foundBy tested ≡ recordTest book) × (foundBy picture ≡ none → isPlan p ≡ true) ⌝ }
+    ensures { λ r. ⌜ ((n : ℕ) → n < 16 → getD r n Outcome.Done ≡ outcomeOf (startTest (foundBy tested) (foundBy picture) book p n)) ⌝ }
+{
+    let mut starts = [Outcome::Done; 16];
+    let mut n = 0;
+    while n < 16 {
+        starts[n] = start_outcome(tested, picture, book, p, n);
+        n += 1;
+    }
+    starts
+}
+
+// The same for any pattern number.
+fn start_for(
+    starts: [Outcome; 16],
+    tested: Outcome,
+    picture: Outcome,
+    book: Book,
+    p: Plan,
+    n: usize,
+) -> Outcome
+    requires { ⌜ (foundBy tested ≡ recordTest book) × (foundBy picture ≡ none → isPlan p ≡ true) × ((m : ℕ) → m < 16 → getD starts m Outcome.Done ≡ outcomeOf (startTest (foundBy tested) (foundBy picture) book p m)) ⌝ }
+    ensures { λ r. ⌜ r ≡ outcomeOf (startTest (foundBy tested) (foundBy picture) book p n) ⌝ }
+{
+    if n < 16 {
+        return starts[n];
+    }
+    start_outcome(tested, picture, book, p, n)
+}
+
+// Makes the call of these numbers. Only a fetch uses the output.
+fn make_call(
+    book: Book,
+    tested: Outcome,
+    picture: Outcome,
+    starts: [Outcome; 16],
+    p: Plan,
+    w: u32,
+    h: u32,
+    mem: &mut [u16],
+    kind: u64,
+    i: u64,
+    j: u64,
+    n: u64,
+    out: &mut [u16],
+) -> [u64; 12]
+    requires { ⌜ Begun book p w h (length (now mem)) tested picture starts ⌝ }
+    ensures { λ r. ⌜ OneMade (setting book p w h) (now (mem .entry)) (callOf kind i j n (now (out .entry))) (now (out .entry)) r (now (mem .exit)) (now (out .exit)) ⌝ }
+{
+    if kind == 1 {
+        return outcome_row(clear(p, w, h, mem, n));
+    }
+    let x = coordinate(i);
+    let y = coordinate(j);
+    if kind == 0 {
+        return outcome_row(store(p, w, h, mem, x, y, (n % 65536) as u16));
+    }
+    if kind == 2 {
+        return loaded_row(load(p, w, h, mem, x, y));
+    }
+    let start = start_for(starts, tested, picture, book, p, n as usize);
+    let t = entry_for(book, n as usize);
+    counted_row(fetch_rest(start, false, t, p, w, h, mem, x, y, out))
+}
+
+// Makes the calls of a list of numbers, five to a call, one after the other.
+fn make_calls(
+    book: Book,
+    tested: Outcome,
+    picture: Outcome,
+    starts: [Outcome; 16],
+    p: Plan,
+    w: u32,
+    h: u32,
+    mem: &mut [u16],
+    numbers: &[u64],
+    outs: &mut [u16],
+    rows: &mut [u64],
+)
+    requires { ⌜ Begun book p w h (length (now mem)) tested picture starts × (listFault (length (now numbers) / 5) 0 (now numbers) (length (now outs)) ≡ none) × (12 * (length (now numbers) / 5) ≤ length (now rows)) ⌝ }
+    ensures { λ r. ⌜ buffers (now (mem .exit)) (now (outs .exit)) (now (rows .exit)) ≡ madeList (setting book p w h) (now (numbers .entry)) (buffers (now (mem .entry)) (now (outs .entry)) (now (rows .entry))) ⌝ }
+{
+    let mut left = numbers.len() / 5;
+    let mut k = 0;
+    let mut q = 0;
+    let mut at = 0;
+    while 0 < left {
+        let kind = numbers[k];
+        let end = at + room_of(kind, numbers[k + 4]) as usize;
+        let row = make_call(
+            book,
+            tested,
+            picture,
+            starts,
+            p,
+            w,
+            h,
+            mem,
+            kind,
+            numbers[k + 1],
+            numbers[k + 2],
+            numbers[k + 3],
+            &mut outs[at..end],
+        );
+        put_row(row, &mut rows[q..]);
+        at = end;
+        k += 5;
+        q += 12;
+        left -= 1;
+    }
+}
+
+// Makes a list of calls on a picture, five numbers to a call, each on the memory as the one before left it, and puts twelve
+// numbers to a reply.
+pub fn run_list(
+    book: Book,
+    p: Plan,
+    w: u32,
+    h: u32,
+    mem: &mut [u16],
+    numbers: &[u64],
+    outs: &mut [u16],
+    rows: &mut [u64],
+) -> Listed
+    ensures answer { λ r. ⌜ r ≡ runList (setting book p w h) (now (numbers .entry)) (buffers (now (mem .entry)) (now (outs .entry)) (now (rows .entry))) .answer ⌝ }
+    ensures left { λ r. ⌜ buffers (now (mem .exit)) (now (outs .exit)) (now (rows .exit)) ≡ runList (setting book p w h) (now (numbers .entry)) (buffers (now (mem .entry)) (now (outs .entry)) (now (rows .entry))) .content ⌝ }
+{
+    let outcome = list_outcome(numbers, outs.len(), rows.len());
+    if let Listed::Made = outcome {
+        let tested = record_outcome(book);
+        let picture = picture_outcome(p, w, h, mem.len());
+        let starts = starts_of(tested, picture, book, p);
+        make_calls(
+            book,
+            tested,
+            picture,
+            starts,
+            p,
+            w,
+            h,
+            mem,
+            numbers,
+            outs,
+            rows,
+        );
+    }
+    outcome
+}
