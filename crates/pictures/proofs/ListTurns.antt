@@ -1,0 +1,176 @@
+-- A list of calls that is made one after the other. It goes by what is left: what the calls that are left do from here on is what
+-- the whole list does from the start.
+-- Assumes nothing.
+use Prim.Native.Nat.{ℕ, zero, suc, _+_, _*_, _-_, _/_, _≤_, _<_}
+use native.Mathlib.Omega.{arith}
+use mathlib.Core.Path.{_≡_, refl, sym, _∙_, ap, ap₂}
+use mathlib.Core.Option.{none}
+use mathlib.Core.List.{List, [], _∷_, _++_, flatMap}
+use lib.ListN.{length, getD, take, drop, length-drop}
+use lib.Seq.{drop-drop, length-take-le}
+use Rattle.scope.specs.Search.{stateAfter, repliesOf}
+use Rattle.scope.specs.Banks.{overStart}
+use Rattle.scope.specs.promises.Demand.{Call, Reply, Setting, after, reply, run, replies}
+use Rattle.pictures.specs.Lists.{callAt, roomAt, callsFrom, callsOf, listFault, replyNumbers, outputOf, Buffers, buffers, madeList, OneMade}
+use Rattle.pictures.proofs.ReplyRows.{length-reply}
+use Rattle.pictures.proofs.ListFaults.{fault-goes-on}
+use Rattle.pictures.proofs.Stretches.{putFrom, nothing-put, put-after, after-stretch, stretch-length}
+use Rattle.pictures.proofs.MadeCalls.{output-own}
+
+-- n calls are one and n - 1 more
+calls-step :
+    (n : ℕ) (xs outs : List ℕ) → 0 < n
+    → callsFrom n xs outs ≡ callAt xs (take (roomAt xs) outs) ∷ callsFrom (n - 1) (drop 5 xs) (drop (roomAt xs) outs)
+unfolding callsFrom
+calls-step zero xs outs h = absurd (omega arith)
+calls-step (suc n) xs outs h =
+    let same : n ≡ suc n - 1 = omega arith in
+    ap (λ (k : ℕ). callAt xs (take (roomAt xs) outs) ∷ callsFrom k (drop 5 xs) (drop (roomAt xs) outs)) same
+
+no-calls : (n : ℕ) (xs outs : List ℕ) → n ≡ 0 → callsFrom n xs outs ≡ []
+unfolding callsFrom
+no-calls n xs outs e = rw e refl
+
+-- The calls `rest` are left of `calls`: memory, outputs from place `at` and replies from place q on.
+record Midway
+    (g : Setting) (calls : List Call) (mem₀ outs₀ rows₀ : List ℕ)
+    (rest : List Call) (q at : ℕ) (mem outs rows : List ℕ) : Type 0
+  where
+    memory : run g mem rest ≡ run g mem₀ calls
+    outputs : putFrom at (flatMap outputOf (replies g mem rest)) outs ≡ overStart (flatMap outputOf (replies g mem₀ calls)) outs₀
+    answers : putFrom q (flatMap replyNumbers (replies g mem rest)) rows ≡ overStart (flatMap replyNumbers (replies g mem₀ calls)) rows₀
+
+module _ (g : Setting) (calls : List Call) (mem₀ outs₀ rows₀ : List ℕ) where
+  abbrev Mid : List Call → ℕ → ℕ → List ℕ → List ℕ → List ℕ → Type 0
+  Mid = Midway g calls mem₀ outs₀ rows₀
+
+  same-midway :
+      {rest rest' : List Call} {q at : ℕ} {mem mem' outs outs' rows rows' : List ℕ} → rest' ≡ rest → mem' ≡ mem → outs' ≡ outs
+      → rows' ≡ rows → Mid rest q at mem outs rows → Mid rest' q at mem' outs' rows'
+  same-midway a b c d w = rw (a, b, c, d) w
+
+  -- one call is made, with an output of r words
+  one-more :
+      (q at r : ℕ) (mem outs rows : List ℕ) (c : Call) (rest : List Call) → at + r ≤ length outs → q + 12 ≤ length rows
+      → length (outputOf (reply g mem c)) ≡ r
+      → Mid (c ∷ rest) q at mem outs rows
+      → Mid rest (q + 12) (at + r) (after g mem c) (take at outs ++ (outputOf (reply g mem c) ++ drop r (drop at outs)))
+      (take q rows ++ (replyNumbers (reply g mem c) ++ drop 12 (drop q rows)))
+  unfolding run replies stateAfter repliesOf flatMap
+  one-more q at r mem outs rows c rest room fits size w =
+      record {
+        memory = w .memory;
+        outputs =
+            put-after outs (outputOf (reply g mem c)) at r room size (flatMap outputOf (replies g (after g mem c) rest)) ∙ w .outputs;
+        answers =
+            put-after rows (replyNumbers (reply g mem c)) q 12 fits (length-reply (reply g mem c))
+            (flatMap replyNumbers (replies g (after g mem c) rest))
+            ∙ w .answers;
+      }
+
+-- Where a loop over the numbers stands: `left` calls are left from number k on, with the outputs' words from `at` on and the
+-- replies' numbers from q on.
+pub record Going
+    (g : Setting) (numbers mem₀ outs₀ rows₀ : List ℕ) (left k q at : ℕ) (mem outs rows : List ℕ) : Type 0
+  where
+    pub numbers-left : k + 5 * left ≤ length numbers
+    pub row-room : q + 12 * left ≤ length rows
+    pub out-room : at ≤ length outs
+    pub no-fault : listFault left k (drop k numbers) (length outs - at) ≡ none
+    pub mem-long : length mem ≡ length mem₀
+    pub outs-long : length outs ≡ length outs₀
+    pub rows-long : length rows ≡ length rows₀
+    midway : Midway g (callsOf numbers outs₀) mem₀ outs₀ rows₀ (callsFrom left (drop k numbers) (drop at outs)) q at mem outs rows
+
+module _ (g : Setting) (numbers mem₀ outs₀ rows₀ : List ℕ) where
+  abbrev Goes : ℕ → ℕ → ℕ → ℕ → List ℕ → List ℕ → List ℕ → Type 0
+  Goes = Going g numbers mem₀ outs₀ rows₀
+
+  pub going-start :
+      listFault (length numbers / 5) 0 numbers (length outs₀) ≡ none → 12 * (length numbers / 5) ≤ length rows₀
+      → Goes (length numbers / 5) 0 0 0 mem₀ outs₀ rows₀
+  unfolding callsOf
+  going-start no-fault fits =
+      record {
+        numbers-left = omega arith;
+        row-room = omega arith;
+        out-room = omega arith;
+        no-fault = let whole : length outs₀ - 0 ≡ length outs₀ = omega arith in rw whole no-fault;
+        mem-long = refl;
+        outs-long = refl;
+        rows-long = refl;
+        midway = record { memory = refl; outputs = refl; answers = refl };
+      }
+
+  module _ {left k q at : ℕ} {mem outs rows : List ℕ} (w : Goes left k q at mem outs rows) where
+    pub going-end : left ≡ 0 → buffers mem outs rows ≡ madeList g numbers (buffers mem₀ outs₀ rows₀)
+    unfolding madeList run replies stateAfter repliesOf flatMap
+    going-end e =
+        let m = same-midway g _ mem₀ outs₀ rows₀ (sym (no-calls left (drop k numbers) (drop at outs) e)) refl refl refl (w .midway) in
+        let outputs : outs ≡ _ = sym (nothing-put at outs) ∙ m .outputs in
+        let rows-are : rows ≡ _ = sym (nothing-put q rows) ∙ m .answers in
+        cc (m .memory, outputs, rows-are)
+
+    module _ (some-left : 0 < left) where
+      -- the next call, with the output that is its own
+      abbrev xs : List ℕ
+      xs = drop k numbers
+
+      abbrev r : ℕ
+      r = roomAt xs
+
+      abbrev old : List ℕ
+      old = take r (drop at outs)
+
+      room-there : r ≤ length outs - at
+      room-there = fault-goes-on left k xs (length outs - at) some-left (w .no-fault) .0
+
+      pub room-end : at + r ≤ length outs
+      room-end = omega (arith, room-there, w .out-room)
+
+      pub going-turn :
+          {row next end : List ℕ} → OneMade g mem (callAt xs old) old row next end
+          → length next ≡ length mem
+          → length end ≡ r
+          → Goes (left - 1) (k + 5) (q + 12) (at + r) next (take at outs ++ (end ++ drop r (drop at outs)))
+          (take q rows ++ (row ++ drop 12 (drop q rows)))
+      going-turn {row} {next} {end} made next-long end-long =
+          record {
+            numbers-left = omega (arith, w .numbers-left);
+            row-room = omega (arith, w .row-room, rows-size);
+            out-room = omega (arith, room-end, outs-size);
+            no-fault =
+                let same-room : length (take at outs ++ (end ++ drop r (drop at outs))) - (at + r) ≡ length outs - at - r =
+                omega (arith, outs-size, room-end) in
+                rw (same-room, ← next-numbers) (fault-goes-on left k xs (length outs - at) some-left (w .no-fault) .1);
+            mem-long = next-long ∙ w .mem-long;
+            outs-long = outs-size ∙ w .outs-long;
+            rows-long = rows-size ∙ w .rows-long;
+            midway =
+                same-midway g _ mem₀ outs₀ rows₀
+                (ap₂ (callsFrom (left - 1)) (sym next-numbers) (after-stretch outs end at r room-end end-long)) (made .memory-is)
+                (ap (λ (ys : List ℕ). take at outs ++ (ys ++ drop r (drop at outs))) end-is)
+                (ap (λ (ys : List ℕ). take q rows ++ (ys ++ drop 12 (drop q rows))) (made .row-is))
+                (one-more g _ mem₀ outs₀ rows₀ q at r mem outs rows c (callsFrom (left - 1) (drop 5 xs) (drop r (drop at outs))) room-end
+                row-fits
+                (ap length (sym end-is) ∙ end-long)
+                (same-midway g _ mem₀ outs₀ rows₀ (sym (calls-step left xs (drop at outs) some-left)) refl refl refl (w .midway)));
+          }
+        where
+          c : Call
+          c = callAt xs old
+
+          end-is : end ≡ outputOf (reply g mem c)
+          end-is = made .output-is ∙ output-own g mem xs (drop at outs)
+
+          next-numbers : drop 5 xs ≡ drop (k + 5) numbers
+          next-numbers = drop-drop 5 k numbers
+
+          row-fits : q + 12 ≤ length rows
+          row-fits = omega (arith, w .row-room)
+
+          outs-size : length (take at outs ++ (end ++ drop r (drop at outs))) ≡ length outs
+          outs-size = stretch-length outs end at r room-end end-long
+
+          rows-size : length (take q rows ++ (row ++ drop 12 (drop q rows))) ≡ length rows
+          rows-size = stretch-length rows row q 12 row-fits (ap length (made .row-is) ∙ length-reply (reply g mem c))
