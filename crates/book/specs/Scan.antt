@@ -9,9 +9,9 @@ use lib.Dec.{ltb}
 use lib.IntN.{pos, natAbs, _+ℤ_}
 use lib.ListN.{length}
 use Rattle.scope.specs.Search.{first, gather, whenever, firstOf}
-use Rattle.scope.specs.Plans.{Pixel, pixelAt}
+use Rattle.scope.specs.Plans.{Pixel}
 use Rattle.scope.specs.Books.{byte, signed, patternOf}
-use Rattle.scope.specs.Numbers.{countTest, small, pixelTest, countRead}
+use Rattle.scope.specs.Numbers.{small, pixelTest, countRead}
 use Rattle.scope.specs.Calls.{answered}
 use Rattle.scope.specs.declared.Pattern.{Pattern}
 use Rattle.scope.specs.declared.Refusal.{Refusal}
@@ -48,11 +48,6 @@ patternFrom s i = patternOf (gather 0 (byte s i) (pixelFrom s (i + 1)))
 -- the number of the entry that stands for pattern n: n, or the last one where there is none
 abbrev pub entryNumber : ℕ → ℕ
 entryNumber n = cond (ltb n 16) n 15
-
--- the tests of one pattern of a record
-unfoldable pub patternTestOf : Pattern → Option Refusal
-unfolding firstOf first countTest pixelTest pixelAt
-patternTestOf t = firstOf (countTest 64 (t .used) 0 ∷ first 0 (t .used) (pixelTest 0 0 (pixelAt t)) ∷ [])
 
 -- a pixel's cell, 0 to 1023, in the window of columns and rows from -16 to 15; 1024 where the column is outside, else 1025 where
 -- the row is

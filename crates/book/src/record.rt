@@ -7,9 +7,9 @@ use scope::Refusal;
 ghost use mathlib.Core.Path.{_≡_};
 ghost use Rattle.scope.specs.Search.{first};
 ghost use Rattle.scope.specs.Plans.{pixelAt};
-ghost use Rattle.scope.specs.Numbers.{pixelTest};
+ghost use Rattle.scope.specs.Numbers.{pixelTest, patternTest};
 ghost use Rattle.scope.specs.Calls.{recordOutcome};
-ghost use Rattle.book.specs.Scan.{outcomeOf, entryNumber, patternTestOf};
+ghost use Rattle.book.specs.Scan.{outcomeOf, entryNumber};
 ghost use Prim.Native.Nat.{_≤_};
 
 // The number of the entry that stands for pattern n: n, or the last one where there is none.
@@ -45,7 +45,7 @@ fn pixels_outcome(t: Pattern) -> Outcome
 
 // The tests of a pattern.
 pub fn pattern_outcome(t: Pattern) -> Outcome
-    ensures { λ r. ⌜ r ≡ outcomeOf (patternTestOf t) ⌝ }
+    ensures { λ r. ⌜ r ≡ outcomeOf (patternTest t) ⌝ }
 {
     let used = t.used;
     if used == 0 {

@@ -66,9 +66,9 @@ pixel-legal-iff i j pixel e =
     (last-test (refuses-iff _ (Repeat i) (no-repeat-iff pixel e)))) .iff
 
 -- 2, 3, 4 of a pattern
-pub pattern-legal-iff : (book : Book) (n : ℕ) → (patternTest book n ≡ none) ↔ IsPattern (patternAt book n)
+pub pattern-legal-iff : (t : Pattern) → (patternTest t ≡ none) ↔ IsPattern t
 unfolding patternTest
-pattern-legal-iff book n =
+pattern-legal-iff t =
     Iff·trans
     (test-before (count-legal-iff 64 (t .used) 0)
     (last-test (first-iff (t .used) (pixelTest 0 0 (pixelAt t)) _ (pixel-legal-iff 0 0 (pixelAt t)))) .iff) (
@@ -81,9 +81,6 @@ pattern-legal-iff book n =
       },
       λ h. ((h .least, h .most), λ e p. (h .column e p, (h .row e p, λ l q. h .different l e q p))),
     )
-  where
-    t : Pattern
-    t = patternAt book n
 
 -- 2, 3, 4 of a book record
 pub book-legal-iff : (book : Book) → (recordTest book ≡ none) ↔ IsBook book
@@ -91,5 +88,5 @@ unfolding recordTest
 book-legal-iff book =
     Iff·trans
     (test-before (count-legal-iff 16 (book .count) 0)
-    (last-test (first-iff (book .count) (patternTest book) _ (pattern-legal-iff book))) .iff)
+    (last-test (first-iff (book .count) (λ n. patternTest (patternAt book n)) _ (λ n. pattern-legal-iff (patternAt book n)))) .iff)
     (λ h. record { least = h .0 .0; most = h .0 .1; each = h .1 }, λ h. ((h .least, h .most), h .each))

@@ -14,6 +14,7 @@ use Rattle.scope.specs.Finding.{clashIn}
 use Rattle.scope.specs.Banks.{inside, depthOf, pixelOf}
 use Rattle.scope.specs.Books.{byte, start, place, pixelIn}
 use Rattle.scope.specs.declared.Plan.{Plan}
+use Rattle.scope.specs.declared.Pattern.{Pattern}
 use Rattle.scope.specs.declared.Book.{Book}
 use Rattle.scope.specs.declared.Clash.{Clash}
 use Rattle.scope.specs.declared.Refusal.{Refusal}
@@ -118,17 +119,14 @@ pixelTest i j pixel e =
     ∷ [])
 
 -- "A call given a book record tests 2, 3, 4 in book order"; the place is 0
-unfoldable pub patternTest : Book → ℕ → Option Refusal
-unfolding firstOf first countTest pixelTest pixelAt patternAt
-patternTest book n =
-    firstOf
-    (countTest 64 (patternAt book n .used) 0
-    ∷ first 0 (patternAt book n .used) (pixelTest 0 0 (pixelAt (patternAt book n)))
-    ∷ [])
+unfoldable pub patternTest : Pattern → Option Refusal
+unfolding firstOf first countTest pixelTest pixelAt
+patternTest t = firstOf (countTest 64 (t .used) 0 ∷ first 0 (t .used) (pixelTest 0 0 (pixelAt t)) ∷ [])
 
 unfoldable pub recordTest : Book → Option Refusal
-unfolding firstOf first countTest patternTest
-recordTest book = firstOf (countTest 16 (book .count) 0 ∷ first 0 (book .count) (patternTest book) ∷ [])
+unfolding firstOf first countTest patternTest patternAt
+recordTest book =
+    firstOf (countTest 16 (book .count) 0 ∷ first 0 (book .count) (λ n. patternTest (patternAt book n)) ∷ [])
 
 -- "A book is read left to right: a count is tested when reached"; 1: "book ends early", at the book's length
 unfoldable pub countRead : List ℕ → ℕ → ℕ → Option Refusal
