@@ -1,7 +1,7 @@
 -- Bytes that begin with a pattern count, whole patterns and perhaps a part of the next: what is read of them, and that the
 -- pattern or pixel that comes next decides the answer if it is refused.
 -- Assumes nothing.
-use Prim.Native.Nat.{ℕ, _<_}
+use Prim.Native.Nat.{ℕ, _+_, _<_}
 use native.Mathlib.Nat.{zero-add}
 use native.Mathlib.Omega.{arith}
 use mathlib.Core.Path.{_≡_, refl, sym, _∙_, ap, subst}
@@ -11,7 +11,7 @@ use mathlib.Core.List.{List, [], _∷_, _++_, flatMap, List·Memᴰ, List·Mem�
 use lib.ListN.{length, getD, length-append}
 use Rattle.scope.specs.Search.{gather}
 use Rattle.scope.specs.Plans.{Pixel}
-use Rattle.scope.specs.Books.{byte, start, place, pixelIn, patternOf, pixelBytes}
+use Rattle.scope.specs.Books.{byte, start, patternOf, pixelBytes}
 use Rattle.scope.specs.Numbers.{countRead, pixelRead, patternRead, extraTest, bytesTest}
 use Rattle.scope.specs.promises.Meaning.{IsPattern}
 use Rattle.scope.specs.promises.RefusalPromises.{bytesSoFar, PatternsSoFar, bytesWithin, PixelsSoFar}
@@ -21,7 +21,7 @@ use Rattle.checks.proofs.Lists.{append-assoc, mem-getD}
 use Rattle.checks.proofs.BookRefusals.{search-refuses}
 use Rattle.checks.proofs.Patterns.{pattern-in-range}
 use Rattle.book.proofs.Records.{used-patternOf, pixels-patternOf}
-use Rattle.book.proofs.Bytes.{Rest, length-of-rest, first-of-rest, others-of-rest, patternIn, first-place}
+use Rattle.book.proofs.Bytes.{Rest, length-of-rest, first-of-rest, others-of-rest, place, pixelIn, patternIn, first-place}
 use Rattle.book.proofs.Written.{AllInRange, pixels-at-rest, patterns-at-rest}
 use Rattle.book.proofs.Reading.{LegalAt, gathered-pattern-iff, count-read-iff, pixel-read-iff, pattern-is-read}
 
@@ -55,7 +55,7 @@ module _
   count-so-far =
       count-read-iff s 16 0 .1 (omega (arith, length-of-rest all), rw (first-of-rest all) (legal .least, legal .most))
 
-  whole-so-far : (n : ℕ) → n < length ts → patternRead s n ≡ none
+  whole-so-far : (n : ℕ) → n < length ts → patternRead s (start s n) ≡ none
   whole-so-far n h =
       pattern-is-read s (length ts) n (rest-so-far .inside) h (rw is (legal .whole _ (mem-getD ts n [] h)))
     where
@@ -65,11 +65,12 @@ module _
           ∙ ap (λ us. getD us n []) (patterns-so-far .0)
 
   -- and decides the answer if it is refused
-  pub next-pattern-decides : (r : Refusal) → patternRead s (length ts) ≡ some r → bytesTest s ≡ some r
+  pub next-pattern-decides : (r : Refusal) → patternRead s (start s (length ts)) ≡ some r → bytesTest s ≡ some r
   unfolding bytesTest
   next-pattern-decides r e =
       let below : length ts < byte s 0 = omega (arith, legal .due, first-of-rest all) in
-      search-refuses (countRead s 16 0) (byte s 0) (patternRead s) (extraTest s ∷ []) r (length ts) count-so-far below e whole-so-far
+      search-refuses (countRead s 16 0) (byte s 0) (λ n. patternRead s (start s n)) (extraTest s ∷ []) r (length ts)
+      count-so-far below e whole-so-far
 
 -- Bytes s that begin so, have then the count c of the next pattern and its first pixels t, and go on with rest.
 module _
@@ -111,9 +112,8 @@ module _
       by-start (inl is) e h = absurd (omega (arith, ap length is))
       by-start (inr h) e k = gathered-pattern-iff (length t) (pixelIn s (length ts)) .0 (rw pixels-before-within h) .1 e k
 
-  each-of-within : (e : ℕ) → e < length t → pixelRead s (length ts) e ≡ none
-  unfolding place
-  each-of-within e h = pixel-read-iff s (length ts) e .1 (omega (arith, rest-of-within .inside), legal-of-within e h)
+  each-of-within : (e : ℕ) → e < length t → pixelRead s (start s (length ts) + 1) e ≡ none
+  each-of-within e h = pixel-read-iff s (start s (length ts) + 1) e .1 (omega (arith, rest-of-within .inside), legal-of-within e h)
 
   count-of-within : countRead s 64 (start s (length ts)) ≡ none
   count-of-within =
@@ -121,10 +121,10 @@ module _
       (omega (arith, length-of-rest count-at-rest), rw (first-of-rest count-at-rest) (omega (arith, legal .due), legal .most))
 
   -- and it decides the answer if it is refused
-  pub next-pixel-decides : (r : Refusal) → pixelRead s (length ts) (length t) ≡ some r → bytesTest s ≡ some r
+  pub next-pixel-decides : (r : Refusal) → pixelRead s (start s (length ts) + 1) (length t) ≡ some r → bytesTest s ≡ some r
   unfolding patternRead
   next-pixel-decides r e =
       let due : length t < byte s (start s (length ts)) = omega (arith, legal .due, first-of-rest count-at-rest) in
       next-pattern-decides s m ts (c ∷ (flatMap pixelBytes t ++ rest)) (legal .first) patterns-before-within r
-      (search-refuses (countRead s 64 (start s (length ts))) (byte s (start s (length ts))) (pixelRead s (length ts)) [] r (length t)
-      count-of-within due e each-of-within)
+      (search-refuses (countRead s 64 (start s (length ts))) (byte s (start s (length ts)))
+      (pixelRead s (start s (length ts) + 1)) [] r (length t) count-of-within due e each-of-within)

@@ -7,8 +7,8 @@ ghost use Prim.Native.Nat.{_≤_};
 ghost use lib.ListN.{length};
 ghost use Rattle.scope.specs.Search.{first};
 ghost use Rattle.scope.specs.Books.{signed};
-ghost use Rattle.scope.specs.Numbers.{bytesTest};
-ghost use Rattle.book.specs.Scan.{outcomeOf, pixelReadFrom, patternReadFrom};
+ghost use Rattle.scope.specs.Numbers.{pixelRead, patternRead, bytesTest};
+ghost use Rattle.book.specs.Scan.{outcomeOf};
 
 // The number that a byte is in two's complement.
 pub fn signed_byte(b: u8) -> i8
@@ -24,7 +24,7 @@ pub fn signed_byte(b: u8) -> i8
 // The tests of `count` pixels that begin at place `at`. Each pixel that was read has its flag set.
 fn pixels_outcome(s: &[u8], at: usize, count: usize) -> Outcome
     requires { ⌜ (at ≤ length (now s)) × (count ≤ 64) ⌝ }
-    ensures { λ r. ⌜ r ≡ outcomeOf (first 0 count (pixelReadFrom (now (s .entry)) at)) ⌝ }
+    ensures { λ r. ⌜ r ≡ outcomeOf (first 0 count (pixelRead (now (s .entry)) at)) ⌝ }
 {
     let mut seen = [false; 1024];
     let mut e = 0;
@@ -52,7 +52,7 @@ fn pixels_outcome(s: &[u8], at: usize, count: usize) -> Outcome
 // The tests of the pattern whose pixel count is at place `at`.
 fn pattern_outcome(s: &[u8], at: usize) -> Outcome
     requires { ⌜ at ≤ length (now s) ⌝ }
-    ensures { λ r. ⌜ r ≡ outcomeOf (patternReadFrom (now (s .entry)) at) ⌝ }
+    ensures { λ r. ⌜ r ≡ outcomeOf (patternRead (now (s .entry)) at) ⌝ }
 {
     if s.len() <= at {
         return Outcome::Refused(Refusal::Ends(s.len()));

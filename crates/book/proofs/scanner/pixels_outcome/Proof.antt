@@ -14,10 +14,11 @@ use borrow.Author.Count.{below-none, below-more}
 use Rattle.integers.proofs.Raised.{number-handed}
 use Rattle.scope.specs.Search.{first}
 use Rattle.scope.specs.Plans.{at}
-use Rattle.scope.specs.Numbers.{pixelTest}
+use Rattle.scope.specs.Books.{pixelFrom}
+use Rattle.scope.specs.Numbers.{pixelTest, pixelRead}
 use Rattle.scope.specs.declared.Refusal.{Refusal}
 use Rattle.scope.specs.declared.Outcome.{Outcome}
-use Rattle.book.specs.Scan.{cellOf, outcomeOf, pixelFrom, pixelReadFrom}
+use Rattle.book.specs.Scan.{cellOf, outcomeOf}
 use Rattle.book.proofs.Window.{Seen, none-seen, more-seen, cell-at-most}
 use Rattle.book.proofs.Window.{column-found, row-found, repeat-found, nothing-found}
 use Rattle.book.proofs.Outcomes.{refused-at, done-after}
@@ -29,7 +30,7 @@ abbrev Inv-loop : tie.InvT-loop
 Inv-loop s at count seen₀ e₀ seen e =
     (e ≤ count)
     × (at + 2 * e ≤ length s)
-    × ((l : ℕ) → l < e → pixelReadFrom s at l ≡ none)
+    × ((l : ℕ) → l < e → pixelRead s at l ≡ none)
     × Seen seen (pixelFrom s at) e
 
 abbrev μ-loop : tie.MeasureT-loop
@@ -53,8 +54,8 @@ module _ (k : tie.In-loop Inv-loop μ-loop) where
   e = k .before .loop .e
 
   refused :
-      {r : Refusal} → pixelReadFrom s place e ≡ some r
-      → Outcome.Refused r ≡ outcomeOf (first 0 (entry .args .count) (pixelReadFrom s place))
+      {r : Refusal} → pixelRead s place e ≡ some r
+      → Outcome.Refused r ≡ outcomeOf (first 0 (entry .args .count) (pixelRead s place))
   refused found = refused-at (k .before .loop .inv .2) (k .loop-test .taken) found
 
 returns : tie.Need-returns Inv-loop μ-loop
@@ -78,7 +79,7 @@ module _ (c : tie.After-cell Inv-loop μ-loop) where
       ∙ ap₂ (λ (i j : ℤ). cellOf (at i j)) (number-handed w8 (x .ok) ∙ x .ensures) (number-handed w8 (y .ok) ∙ y .ensures)
 
   test-is :
-      pixelReadFrom (s turn) (place turn) (e turn)
+      pixelRead (s turn) (place turn) (e turn)
       ≡ pixelTest (place turn + 2 * e turn) (place turn + 2 * e turn + 1) (pixelFrom (s turn) (place turn)) (e turn)
   test-is = both-there (s turn) (place turn) (e turn) (omega (arith, there .if1 .left))
 
