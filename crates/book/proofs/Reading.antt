@@ -13,22 +13,18 @@ use Rattle.scope.specs.Search.{gather}
 use Rattle.scope.specs.Plans.{Pixel, pixelAt, patternAt}
 use Rattle.scope.specs.Books.{byte, start, pixelFrom, patternFrom, patternOf, bookOf, bookIn}
 use Rattle.scope.specs.Numbers.{countRead, pixelRead, patternRead, extraTest, bytesTest}
-use Rattle.scope.specs.promises.Meaning.{InRange, IsPattern, IsBook}
+use Rattle.scope.specs.promises.Meaning.{PixelLegal, IsPattern, IsBook}
 use Rattle.scope.specs.declared.Refusal.the-variants.{Ends, Extra}
 use Rattle.checks.proofs.Searches.{length-gather, getD-gather}
 use Rattle.checks.proofs.Booleans.{refuses-iff, last-test, test-before, first-iff}
 use Rattle.checks.proofs.BookTests.{count-legal-iff, pixel-legal-iff}
-use Rattle.checks.proofs.Patterns.{origin}
+use Rattle.checks.proofs.Patterns.{origin, legal-same}
 use Rattle.book.proofs.Records.{used-patternOf, pixelAt-patternOf, count-bookOf, patternAt-bookOf}
 use Rattle.book.proofs.Bytes.{patternIn, patternsIn, pixelIn, next-start, start-after}
 
 -- n is 1 to most.
 abbrev pub FromTo : ℕ → ℕ → Type 0
 FromTo most n = (1 ≤ n) × (n ≤ most)
-
--- The pixel at position e is in range, and no earlier position has it.
-abbrev pub LegalAt : (ℕ → Pixel) → ℕ → Type 0
-LegalAt pixel e = InRange (pixel e .column) × (InRange (pixel e .row) × ((l : ℕ) → l < e → pixel l ≡ pixel e → ⊥))
 
 -- The record of u gathered pixels is a pattern exactly if u is 1 to 64 and each pixel is legal.
 module _ (u : ℕ) (f : ℕ → Pixel) where
@@ -39,40 +35,30 @@ module _ (u : ℕ) (f : ℕ → Pixel) where
   pixel-of-gathered most e h =
       pixelAt-patternOf (gather 0 u f) e (omega arith) ∙ getD-gather 0 u f e origin h ∙ ap f (zero-add e)
 
-  pub gathered-pattern-iff : IsPattern (patternOf (gather 0 u f)) ↔ (FromTo 64 u × ((e : ℕ) → e < u → LegalAt f e))
+  pub gathered-pattern-iff : IsPattern (patternOf (gather 0 u f)) ↔ (FromTo 64 u × ((e : ℕ) → e < u → PixelLegal f e))
   gathered-pattern-iff = (there, back)
     where
-      there : IsPattern (patternOf (gather 0 u f)) → FromTo 64 u × ((e : ℕ) → e < u → LegalAt f e)
+      there : IsPattern (patternOf (gather 0 u f)) → FromTo 64 u × ((e : ℕ) → e < u → PixelLegal f e)
       there legal = ((omega (arith, used-of-gathered), most), each)
         where
           most : u ≤ 64
           most = omega (arith, used-of-gathered)
 
-          each : (e : ℕ) → e < u → LegalAt f e
+          each : (e : ℕ) → e < u → PixelLegal f e
           each e h =
-              let k : e < patternOf (gather 0 u f) .used = omega (arith, used-of-gathered) in
-              let here = pixel-of-gathered most e h in
-              let new : (l : ℕ) → l < e → f l ≡ f e → ⊥ =
-              λ l before same. legal .different l e before k (pixel-of-gathered most l (omega arith) ∙ same ∙ sym here) in
-              (rw here at (legal .column e k), (rw here at (legal .row e k), new))
+              legal-same e (pixelAt (patternOf (gather 0 u f))) f (λ l before. pixel-of-gathered most l (omega arith))
+              (legal .each e (omega (arith, used-of-gathered)))
 
-      back : FromTo 64 u × ((e : ℕ) → e < u → LegalAt f e) → IsPattern (patternOf (gather 0 u f))
+      back : FromTo 64 u × ((e : ℕ) → e < u → PixelLegal f e) → IsPattern (patternOf (gather 0 u f))
       back ((least, most), each) =
           record {
             least = omega (arith, used-of-gathered);
             most = omega (arith, used-of-gathered);
-            column = λ e k. let h = inside e k in rw (here e h) (each e h .0);
-            row = λ e k. let h = inside e k in rw (here e h) (each e h .1 .0);
-            different = λ e l before k same.
-                let h = inside l k in
-                each l h .1 .1 e before (sym (here e (omega arith)) ∙ same ∙ here l h);
+            each = λ e k.
+                let h : e < u = omega (arith, used-of-gathered) in
+                legal-same e f (pixelAt (patternOf (gather 0 u f))) (λ l before. sym (pixel-of-gathered most l (omega arith)))
+                (each e h);
           }
-        where
-          inside : (e : ℕ) → e < patternOf (gather 0 u f) .used → e < u
-          inside e k = omega (arith, used-of-gathered)
-
-          here : (e : ℕ) → e < u → pixelAt (patternOf (gather 0 u f)) e ≡ f e
-          here = pixel-of-gathered most
 
 -- The record of c gathered patterns is a book exactly if c is 1 to 16 and the record of each is a pattern.
 module _ (c : ℕ) (g : ℕ → List Pixel) where
@@ -108,7 +94,7 @@ module _ (c : ℕ) (g : ℕ → List Pixel) where
 abbrev pub PatternRead : List ℕ → ℕ → Type 0
 PatternRead s i =
     ((i < length s) × FromTo 64 (byte s i))
-    × ((e : ℕ) → e < byte s i → (i + 1 + 2 * e + 2 ≤ length s) × LegalAt (pixelFrom s (i + 1)) e)
+    × ((e : ℕ) → e < byte s i → (i + 1 + 2 * e + 2 ≤ length s) × PixelLegal (pixelFrom s (i + 1)) e)
 
 abbrev pub BytesRead : List ℕ → Type 0
 BytesRead s =
@@ -121,7 +107,7 @@ module _ (s : List ℕ) where
   count-read-iff most i =
       test-before (refuses-iff _ (Ends (length s)) (leb-false-iff (length s) i)) (last-test (count-legal-iff most (byte s i) i)) .iff
 
-  pub pixel-read-iff : (i e : ℕ) → (pixelRead s i e ≡ none) ↔ ((i + 2 * e + 2 ≤ length s) × LegalAt (pixelFrom s i) e)
+  pub pixel-read-iff : (i e : ℕ) → (pixelRead s i e ≡ none) ↔ ((i + 2 * e + 2 ≤ length s) × PixelLegal (pixelFrom s i) e)
   unfolding pixelRead
   pixel-read-iff i e =
       test-before (refuses-iff _ (Ends (length s)) (ltb-false-iff (length s) (i + 2 * e + 2)))

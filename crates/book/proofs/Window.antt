@@ -212,7 +212,8 @@ module _ {flags : List Bool} {pixel : ℕ → Pixel} {e k : ℕ} (seen : Seen fl
         (cell-injective (pixel (a .index)) (pixel e) (omega (arith, a .is)) (a .is ∙ is))
 
     pub nothing-found : k < 1024 → getD flags k false ≡ false → pixelTest i j pixel e ≡ none
-    nothing-found h t = pixel-legal-iff i j pixel e .1 (in-range h .0, (in-range h .1, unlike))
+    nothing-found h t =
+        pixel-legal-iff i j pixel e .1 (record { column = in-range h .0; row = in-range h .1; new = unlike })
       where
         unlike : (l : ℕ) → l < e → pixel l ≡ pixel e → ⊥
         unlike l p same =

@@ -94,7 +94,7 @@ pixel-decides t e r up here =
     (count-legal-iff 64 (t .used) 0 .1 (omega (arith, up .below), up .most))
     (up .below)
     here
-    (λ l earlier. pixel-legal-iff 0 0 (pixelAt t) l .1 (up .column l earlier, (up .row l earlier, λ k p. up .different k l p earlier)))
+    (λ l earlier. pixel-legal-iff 0 0 (pixelAt t) l .1 (up .each l earlier))
 
 -- and a book that of its first illegal pattern.
 pattern-decides :
