@@ -13,7 +13,7 @@ use Rattle.integers.proofs.Comparisons.{leb-iff, leb-false-iff}
 use Rattle.scope.specs.Search.{first, whenever, firstOf}
 use Rattle.scope.specs.Plans.{Pixel, at}
 use Rattle.scope.specs.Books.{byte, signed, start, bookOf}
-use Rattle.scope.specs.Numbers.{refusal, turnedDown, ofOutcome, countTest, pixelTest, countRead, pixelRead, patternRead}
+use Rattle.scope.specs.Numbers.{refusal, turnedDown, ofOutcome, countTest, pixelTest, countRead, patternRead}
 use Rattle.scope.specs.Numbers.{extraTest, bytesTest, numberTest}
 use Rattle.scope.specs.Calls.{readBook, partTest, partOutcome}
 use Rattle.scope.specs.promises.Meaning.{InRange}

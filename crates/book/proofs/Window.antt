@@ -10,7 +10,7 @@ use mathlib.Core.Option.{none, some}
 use mathlib.Core.List.{List, [], _∷_}
 use lib.IntN.{ℤ, pos, negsuc, natAbs, _+ℤ_}
 use lib.Signed.{_≤ℤ_}
-use lib.ListN.{length, getD, set, replicate, length-set, length-replicate, getD-replicate}
+use lib.ListN.{getD, set, replicate, length-set, length-replicate, getD-replicate}
 use Rattle.integers.proofs.Ring.{reify}
 use Rattle.integers.proofs.Order.{le-by, eq-by, of-le, of-eq}
 use Rattle.scope.specs.Plans.{Pixel}

@@ -10,7 +10,7 @@ use lib.ListN.{length, length-append}
 use Rattle.integers.proofs.Comparisons.{leb-false-iff}
 use Rattle.scope.specs.Search.{first, firstOf}
 use Rattle.scope.specs.Books.{byte, start, pixelFrom}
-use Rattle.scope.specs.Numbers.{pixelTest, countRead, pixelRead, patternRead, bytesTest}
+use Rattle.scope.specs.Numbers.{countRead, pixelRead, patternRead, bytesTest}
 use Rattle.scope.specs.Calls.{readBook}
 use Rattle.scope.specs.Program.{refusedLine, programText}
 use Rattle.scope.specs.declared.Refusal.{Refusal}
