@@ -152,7 +152,7 @@ none-seen pixel =
 
 -- The next pixel, with its cell k.
 module _ {flags : List Bool} {pixel : ℕ → Pixel} {e k : ℕ} (seen : Seen flags pixel e) (is : k ≡ cellOf (pixel e)) where
-  pub more-seen : k < 1024 → Seen (set flags k true) pixel (e + 1)
+  more-seen : k < 1024 → Seen (set flags k true) pixel (e + 1)
   more-seen h =
       record {
         size = length-set flags k true ∙ seen .size;
@@ -187,7 +187,7 @@ module _ {flags : List Bool} {pixel : ℕ → Pixel} {e k : ℕ} (seen : Seen fl
 
   -- what its tests find, with i and j the places of its column and row
   module _ (i j : ℕ) where
-    pub column-found : k ≡ 1024 → pixelTest i j pixel e ≡ some (Refusal.Coordinate i)
+    column-found : k ≡ 1024 → pixelTest i j pixel e ≡ some (Refusal.Coordinate i)
     column-found h = by-place (placed (pixel e))
       where
         by-place : Placed (pixel e) → pixelTest i j pixel e ≡ some (Refusal.Coordinate i)
@@ -195,7 +195,7 @@ module _ {flags : List Bool} {pixel : ℕ → Pixel} {e k : ℕ} (seen : Seen fl
         by-place (above c f d) = absurd (omega arith)
         by-place (inside c r d) = absurd (omega arith)
 
-    pub row-found : k ≡ 1025 → pixelTest i j pixel e ≡ some (Refusal.Coordinate j)
+    row-found : k ≡ 1025 → pixelTest i j pixel e ≡ some (Refusal.Coordinate j)
     row-found h = by-place (placed (pixel e))
       where
         by-place : Placed (pixel e) → pixelTest i j pixel e ≡ some (Refusal.Coordinate j)
@@ -203,13 +203,13 @@ module _ {flags : List Bool} {pixel : ℕ → Pixel} {e k : ℕ} (seen : Seen fl
         by-place (above c f d) = row-refused i j pixel e c f
         by-place (inside c r d) = absurd (omega arith)
 
-    pub repeat-found : k < 1024 → getD flags k false ≡ true → pixelTest i j pixel e ≡ some (Refusal.Repeat i)
+    repeat-found : k < 1024 → getD flags k false ≡ true → pixelTest i j pixel e ≡ some (Refusal.Repeat i)
     repeat-found h t =
         let (l, below, cell) = seen .only k h t in
         repeat-refused i j pixel e (in-range h .0) (in-range h .1) l below
         (cell-injective (pixel l) (pixel e) (omega arith) (cell ∙ is))
 
-    pub nothing-found : k < 1024 → getD flags k false ≡ false → pixelTest i j pixel e ≡ none
+    nothing-found : k < 1024 → getD flags k false ≡ false → pixelTest i j pixel e ≡ none
     nothing-found h t =
         pixel-legal-iff i j pixel e .1 (record { column = in-range h .0; row = in-range h .1; new = unlike })
       where
