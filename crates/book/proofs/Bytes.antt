@@ -18,7 +18,7 @@ use Rattle.integers.proofs.Ring.{ring, reify}
 use Rattle.integers.proofs.Order.{eq-by}
 use Rattle.scope.specs.Search.{gather}
 use Rattle.scope.specs.Plans.{Pixel}
-use Rattle.scope.specs.Books.{byte, signed, unsigned, start, place, pixelIn, partIn, pixelBytes, patternBytes}
+use Rattle.scope.specs.Books.{byte, signed, unsigned, start, pixelFrom, patternFrom, partIn, pixelBytes, patternBytes}
 use Rattle.scope.specs.promises.Meaning.{InRange}
 use Rattle.scope.specs.promises.BookPromises.{TwosComplement, Bytes}
 use Rattle.checks.proofs.Searches.{length-gather}
@@ -92,29 +92,33 @@ one-before {s} {j} {xs} i next r =
     let after : drop (suc i) s ≡ xs = rw same at (r .is) in
     record { inside = omega arith; is = drop-cons s i 0 (omega arith) ∙ ap {B = List ℕ} (λ ys. getD s i 0 ∷ ys) after }
 
--- The patterns that a book's bytes tell, by their counts.
+-- Pattern n of a book's bytes: the place of its pixel at position e, that pixel, and all of them; and all patterns.
+abbrev pub place : List ℕ → ℕ → ℕ → ℕ
+place s n e = start s n + 1 + 2 * e
+
+abbrev pub pixelIn : List ℕ → ℕ → ℕ → Pixel
+pixelIn s n = pixelFrom s (start s n + 1)
+
 abbrev pub patternIn : List ℕ → ℕ → List Pixel
-patternIn s n = gather 0 (byte s (start s n)) (pixelIn s n)
+patternIn s n = patternFrom s (start s n)
 
 abbrev pub patternsIn : List ℕ → List (List Pixel)
 patternsIn s = gather 0 (byte s 0) (patternIn s)
 
 length-pixel-bytes : (s : List ℕ) (n : ℕ) → length (flatMap pixelBytes (patternIn s n)) ≡ 2 * byte s (start s n)
-unfolding pixelBytes
+unfolding pixelBytes patternFrom
 length-pixel-bytes s n =
     omega (arith, length-flatMap pixelBytes 2 (λ v. refl) (patternIn s n), length-gather 0 (byte s (start s n)) (pixelIn s n))
 
 -- How the places follow each other.
 pub next-place : (s : List ℕ) (n e : ℕ) → place s n (suc e) ≡ place s n e + 1 + 1
-unfolding place
 next-place s n e = omega arith
 
 pub first-place : (s : List ℕ) (n : ℕ) → place s n 0 ≡ start s n + 1
-unfolding place
 first-place s n = omega arith
 
 pub last-place : (s : List ℕ) (n : ℕ) → place s n (byte s (start s n)) ≡ start s (suc n)
-unfolding place start
+unfolding start
 last-place s n = omega arith
 
 pub next-start : (s : List ℕ) (n : ℕ) → start s (suc n) ≡ start s n + 1 + 2 * byte s (start s n)
@@ -133,7 +137,7 @@ start-after s n (suc c) h = by-order (ℕ-discrete n c) (start-after s n c)
 -- A pattern begins after the bytes of those before it.
 pub start-is-length :
     (s : List ℕ) (u e : ℕ) → start s (e + u) ≡ start s e + length (flatMap patternBytes (gather e u (patternIn s)))
-unfolding flatMap gather patternBytes
+unfolding flatMap gather patternBytes patternFrom
 start-is-length s zero e = ap (start s) (add-zero e) ∙ sym (add-zero (start s e))
 start-is-length s (suc u) e =
     ap (start s) (add-suc e u ∙ sym (suc-add e u))
@@ -159,18 +163,19 @@ items-before s bytes item at each (suc u) e xs r =
 -- What stands before a place is the bytes of the pixels and patterns read there.
 module _ (s : List ℕ) (small : Bytes s) where
   pixel-before : (n e : ℕ) (xs : List ℕ) → Rest s (place s n (suc e)) xs → Rest s (place s n e) (pixelBytes (pixelIn s n e) ++ xs)
-  unfolding pixelBytes pixelIn
+  unfolding pixelBytes pixelFrom
   pixel-before n e xs r =
       rw (unsigned-signed (byte s (place s n e)) (small _), unsigned-signed (byte s (place s n e + 1)) (small _))
       (one-before (place s n e) refl (one-before (place s n e + 1) (next-place s n e) r))
 
   pixels-before :
       (n : ℕ) (xs : List ℕ) → Rest s (start s (suc n)) xs → Rest s (place s n 0) (flatMap pixelBytes (patternIn s n) ++ xs)
+  unfolding patternFrom
   pixels-before n xs r =
       items-before s pixelBytes (pixelIn s n) (place s n) (pixel-before n) (byte s (start s n)) 0 xs (rw (zero-add, last-place) r)
 
   pattern-before : (n : ℕ) (xs : List ℕ) → Rest s (start s (suc n)) xs → Rest s (start s n) (patternBytes (patternIn s n) ++ xs)
-  unfolding patternBytes
+  unfolding patternBytes patternFrom
   pattern-before n xs r = rw length-gather (one-before (start s n) (first-place s n) (pixels-before n xs r))
 
   patterns-before :
@@ -192,5 +197,6 @@ module _ (s : List ℕ) (small : Bytes s) where
   part-is-pixel-bytes n h =
       let u : ℕ = byte s (start s n) in
       let over : Rest s (start s (suc n)) (drop (start s (suc n)) s) = record { inside = h; is = refl } in
-      ap (take (2 * u)) (pixels-before n (drop (start s (suc n)) s) over .is)
+      ap (λ i. take (2 * u) (drop i s)) (sym (first-place s n))
+      ∙ ap (take (2 * u)) (pixels-before n (drop (start s (suc n)) s) over .is)
       ∙ take-at (flatMap pixelBytes (patternIn s n)) (drop (start s (suc n)) s) (2 * u) (length-pixel-bytes s n)

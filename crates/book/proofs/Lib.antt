@@ -12,6 +12,7 @@ pub mod Longer  -- bytes with more bytes after them
 pub mod ReaderRefusals  -- number and place for bytes that are not taken
 pub mod Outcomes  -- a test's answer, and that of a loop that runs through tests
 pub mod Window  -- a pixel's cell, and the flags of the pixels so far
+pub mod PixelLoops  -- a loop over a pattern's pixels
 pub mod Scanning  -- the tests as the code makes them, pattern after pattern
 pub mod RecordLoops  -- a loop over a record's patterns
 pub mod PutBooks  -- the bytes as the writer puts them

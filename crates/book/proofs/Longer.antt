@@ -4,15 +4,16 @@
 use Prim.Native.Nat.{ℕ, zero, suc, _+_, _*_, _≤_, _<_}
 use native.Mathlib.Omega.{arith}
 use mathlib.Core.Path.{_≡_, refl, _∙_, ap}
-use mathlib.Core.Option.{none, some}
+use mathlib.Core.Option.{Option, none, some}
 use mathlib.Core.List.{List, [], _∷_, _++_}
 use lib.Dec.{ltb}
 use lib.ListN.{length, length-append, List·getD-append}
 use Rattle.integers.proofs.Comparisons.{ltb-iff}
 use Rattle.scope.specs.Search.{first, gather}
-use Rattle.scope.specs.Books.{byte, start, place, pixelIn, patternOf, bookIn}
+use Rattle.scope.specs.Books.{byte, start, pixelFrom, patternFrom, patternOf, bookIn}
 use Rattle.scope.specs.Numbers.{countRead, patternRead, extraTest, bytesTest}
 use Rattle.scope.specs.promises.Meaning.{IsPattern}
+use Rattle.scope.specs.declared.Refusal.{Refusal}
 use Rattle.scope.specs.declared.Refusal.the-variants.{Extra}
 use Rattle.checks.proofs.Searches.{gather-same, none-first, some-whenever}
 use Rattle.checks.proofs.Chains.{chain-refuses, chain-goes-on}
@@ -21,19 +22,23 @@ use Rattle.book.proofs.Reading.{FromTo, gathered-book-iff, count-read-i
 
 -- Where the count and all patterns are read and a byte is left, that decides the answer.
 pub extra-decides :
-    (s : List ℕ) → countRead s 16 0 ≡ none → ((n : ℕ) → n < byte s 0 → patternRead s n ≡ none) → start s (byte s 0) < length s
+    (s : List ℕ) → countRead s 16 0 ≡ none → ((n : ℕ) → n < byte s 0 → patternRead s (start s n) ≡ none)
+    → start s (byte s 0) < length s
     → bytesTest s ≡ some (Extra (start s (byte s 0)))
 unfolding bytesTest extraTest
 extra-decides s count each more =
-    chain-goes-on (countRead s 16 0) (first 0 (byte s 0) (patternRead s) ∷ extraTest s ∷ []) count
-    ∙ chain-goes-on (first 0 (byte s 0) (patternRead s)) (extraTest s ∷ []) patterns
+    chain-goes-on (countRead s 16 0) (first 0 (byte s 0) each-read ∷ extraTest s ∷ []) count
+    ∙ chain-goes-on (first 0 (byte s 0) each-read) (extraTest s ∷ []) patterns
     ∙ chain-refuses (extraTest s) [] (Extra end) (some-whenever (ltb end (length s)) (Extra end) (ltb-iff end (length s) .1 more))
   where
     end : ℕ
     end = start s (byte s 0)
 
-    patterns : first 0 (byte s 0) (patternRead s) ≡ none
-    patterns = none-first 0 (byte s 0) (patternRead s) (λ n _ h. each n (omega arith))
+    each-read : ℕ → Option Refusal
+    each-read n = patternRead s (start s n)
+
+    patterns : first 0 (byte s 0) each-read ≡ none
+    patterns = none-first 0 (byte s 0) each-read (λ n _ h. each n (omega arith))
 
 -- Bytes s with rest after them: what stands before the end of s is read as in s alone.
 module _ (s rest : List ℕ) where
@@ -49,26 +54,20 @@ module _ (s rest : List ℕ) where
       next-same : start (s ++ rest) n ≡ start s n → start (s ++ rest) (suc n) ≡ start s (suc n)
       next-same e = rw (e, same-byte (start s n) (omega arith)) refl
 
-  module _ (n : ℕ) where
-    pub same-count : start s n < length s → byte (s ++ rest) (start (s ++ rest) n) ≡ byte s (start s n)
-    same-count h = ap (byte (s ++ rest)) (same-start n (omega arith)) ∙ same-byte (start s n) h
+  pub same-pixel : (i e : ℕ) → i + 2 * e + 2 ≤ length s → pixelFrom (s ++ rest) i e ≡ pixelFrom s i e
+  unfolding pixelFrom
+  same-pixel i e h = rw (same-byte (i + 2 * e) (omega arith), same-byte (i + 2 * e + 1) (omega arith)) refl
 
-    pub same-place : (e : ℕ) → start s n ≤ length s → place (s ++ rest) n e ≡ place s n e
-    unfolding place
-    same-place e h = rw (same-start n h) refl
+  same-pattern-from : (i : ℕ) → i + 1 + 2 * byte s i ≤ length s → patternFrom (s ++ rest) i ≡ patternFrom s i
+  unfolding patternFrom
+  same-pattern-from i h =
+      ap (λ u. gather 0 u (pixelFrom (s ++ rest) (i + 1))) (same-byte i (omega arith))
+      ∙ gather-same 0 (byte s i) (pixelFrom (s ++ rest) (i + 1)) (pixelFrom s (i + 1)) (λ e _ k. same-pixel (i + 1) e (omega arith))
 
-    pub same-pixel : (e : ℕ) → place s n e + 2 ≤ length s → pixelIn (s ++ rest) n e ≡ pixelIn s n e
-    unfolding pixelIn place
-    same-pixel e h =
-        let i : ℕ = start s n + 1 + 2 * e in
-        rw (same-start n (omega arith), same-byte i (omega arith), same-byte (i + 1) (omega arith)) refl
-
-    same-pattern : start s (suc n) ≤ length s → patternIn (s ++ rest) n ≡ patternIn s n
-    unfolding place
-    same-pattern h =
-        let inside : start s n + 1 + 2 * byte s (start s n) ≤ length s = omega (arith, next-start s n) in
-        ap (λ u. gather 0 u (pixelIn (s ++ rest) n)) (same-count (omega arith))
-        ∙ gather-same 0 (byte s (start s n)) (pixelIn (s ++ rest) n) (pixelIn s n) (λ e _ k. same-pixel e (omega arith))
+  same-pattern : (n : ℕ) → start s (suc n) ≤ length s → patternIn (s ++ rest) n ≡ patternIn s n
+  same-pattern n h =
+      let inside : start s n + 1 + 2 * byte s (start s n) ≤ length s = omega (arith, next-start s n) in
+      ap (patternFrom (s ++ rest)) (same-start n (omega arith)) ∙ same-pattern-from (start s n) inside
 
 -- Where s is taken, all of it is read as before.
 module _ (s rest : List ℕ) (taken : bytesTest s ≡ none) where
@@ -94,7 +93,7 @@ module _ (s rest : List ℕ) (taken : bytesTest s ≡ none) where
   count-still-read =
       count-read-iff (s ++ rest) 16 0 .1 (omega (arith, some-byte, length-append s rest), rw same-first (book-of-taken .0))
 
-  pattern-still-read : (n : ℕ) → n < byte (s ++ rest) 0 → patternRead (s ++ rest) n ≡ none
+  pattern-still-read : (n : ℕ) → n < byte (s ++ rest) 0 → patternRead (s ++ rest) (start (s ++ rest) n) ≡ none
   pattern-still-read n h =
       let below : n < byte s 0 = omega (arith, same-first) in
       pattern-is-read (s ++ rest) (byte (s ++ rest) 0) n (omega (arith, same-end, length-append s rest)) h

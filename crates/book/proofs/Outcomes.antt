@@ -22,7 +22,7 @@ pub answered-by-done : (t : Option Refusal) → t ≡ none → Outcome.Done ≡ 
 answered-by-done t e = sym (answered-none t Outcome.Refused Outcome.Done e)
 
 -- the other way round
-done-not-refused : {r : Refusal} → Outcome.Done ≡ Outcome.Refused r → ⊥
+pub done-not-refused : {r : Refusal} → Outcome.Done ≡ Outcome.Refused r → ⊥
 done-not-refused e = let z : _≡_ {A = ℕ} 0 1 = cc in omega arith
 
 module _ {outcome : Outcome} where

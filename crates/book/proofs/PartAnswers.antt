@@ -6,13 +6,12 @@ use mathlib.Core.Path.{_≡_, sym}
 use mathlib.Core.Option.{none, some}
 use mathlib.Core.List.{List}
 use lib.ListN.{length}
-use Rattle.scope.specs.Books.{byte, start, place}
+use Rattle.scope.specs.Books.{byte, start}
 use Rattle.scope.specs.Numbers.{bytesTest}
 use Rattle.scope.specs.Calls.{partTest, partOutcome, partPlace}
 use Rattle.scope.specs.declared.Outcome.{Outcome}
 use Rattle.scope.specs.declared.Refusal.{Refusal}
 use Rattle.checks.proofs.Chains.{answered-none, answered-some}
-use Rattle.book.proofs.Bytes.{first-place}
 use Rattle.book.proofs.Outcomes.{done-found-nothing, refused-found}
 use Rattle.book.proofs.Parts.{part-test-iff}
 use Rattle.book.proofs.Taken.{pattern-bounds}
@@ -25,7 +24,7 @@ module _ (s : List ℕ) (n : ℕ) {outcome : Outcome} (answer : outcome ≡ part
 
     pub refused-place : 0 ≡ partPlace s n
     unfolding partPlace
-    refused-place = sym (answered-some (partTest s n) (λ r. 0) (place s n 0) r refused-part)
+    refused-place = sym (answered-some (partTest s n) (λ r. 0) (start s n + 1) r refused-part)
 
   module _ (done : outcome ≡ Outcome.Done) where
     pub taken-part : partTest s n ≡ none
@@ -43,7 +42,7 @@ module _ (s : List ℕ) (n : ℕ) {outcome : Outcome} (answer : outcome ≡ part
     module _ {at : ℕ} (is : at ≡ start s n) where
       pub taken-place : at + 1 ≡ partPlace s n
       unfolding partPlace
-      taken-place = omega (arith, is, first-place s n, answered-none (partTest s n) (λ r. 0) (place s n 0) taken-part)
+      taken-place = omega (arith, is, answered-none (partTest s n) (λ r. 0) (start s n + 1) taken-part)
 
       pub taken-bounds : (n < 16) × (byte s at ≤ 64) × (at + 1 + 2 * byte s at ≤ length s)
       taken-bounds = pattern-bounds s (part-in-book .0) n is (part-in-book .1)

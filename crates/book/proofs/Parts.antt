@@ -10,7 +10,7 @@ use mathlib.Core.List.{List, [], _∷_, flatMap}
 use lib.ListN.{length, take}
 use Rattle.scope.specs.Search.{gather}
 use Rattle.scope.specs.Plans.{patternAt, pixels, patterns}
-use Rattle.scope.specs.Books.{byte, start, place, partIn, bookIn, pixelBytes, patternBytes}
+use Rattle.scope.specs.Books.{byte, start, partIn, bookIn, pixelBytes, patternBytes}
 use Rattle.scope.specs.Numbers.{value, refusal, ofOutcome, bytesTest}
 use Rattle.scope.specs.Calls.{readBook, partTest, patternPart, partOutcome, partPlace}
 use Rattle.scope.specs.promises.BookPromises.{Bytes, PartsAre}
@@ -21,7 +21,7 @@ use Rattle.checks.proofs.Chains.{value-not-refusal, answered-none, answered-som
 use Rattle.checks.proofs.Booleans.{last-test, test-before}
 use Rattle.checks.proofs.Tests.{number-in-book-iff}
 use Rattle.checks.proofs.Patterns.{getD-patterns}
-use Rattle.book.proofs.Bytes.{patternIn, first-place, start-after, start-is-length, part-is-pixel-bytes}
+use Rattle.book.proofs.Bytes.{patternIn, start-after, start-is-length, part-is-pixel-bytes}
 use Rattle.book.proofs.Reading.{bytes-taken-iff}
 use Rattle.book.proofs.ReadWrite.{book-read, read-taken-iff, count-of-read, patterns-of-read}
 
@@ -88,8 +88,7 @@ module _ (s : List ℕ) (n : ℕ) where
       let (read, below) = part-taken e in
       let before : start s n ≡ 1 + length (flatMap patternBytes (gather 0 n (patternIn s))) =
       ap (start s) (sym (zero-add n)) ∙ start-is-length s n 0 in
-      answered-none (partTest s n) (λ r. 0) (place s n 0) (part-test-iff .1 (read, below))
-      ∙ first-place s n
+      answered-none (partTest s n) (λ r. 0) (start s n + 1) (part-test-iff .1 (read, below))
       ∙ rw (patterns-before-part read below) (ap (λ k. k + 1) before)
 
   -- on a refusal its tests found one
@@ -113,7 +112,7 @@ module _ (s : List ℕ) (n : ℕ) where
   unfolding partPlace
   part-place-empty m i c e =
       let found = part-refused m i c e in
-      answered-some (partTest s n) (λ r. 0) (place s n 0) (found .0) (found .1)
+      answered-some (partTest s n) (λ r. 0) (start s n + 1) (found .0) (found .1)
 
 -- A pattern's part is taken exactly if the book is and has that pattern, and is the bytes of its pixels where they stand;
 -- else it is empty.

@@ -12,8 +12,8 @@ use lib.ListN.{length}
 use Rattle.integers.proofs.Comparisons.{leb-iff, leb-false-iff}
 use Rattle.scope.specs.Search.{first, whenever, firstOf}
 use Rattle.scope.specs.Plans.{Pixel, at}
-use Rattle.scope.specs.Books.{byte, signed, start, place, pixelIn, bookOf}
-use Rattle.scope.specs.Numbers.{refusal, turnedDown, ofOutcome, countTest, pixelTest, countRead, pixelRead, patternRead}
+use Rattle.scope.specs.Books.{byte, signed, start, bookOf}
+use Rattle.scope.specs.Numbers.{refusal, turnedDown, ofOutcome, countTest, pixelTest, countRead, patternRead}
 use Rattle.scope.specs.Numbers.{extraTest, bytesTest, numberTest}
 use Rattle.scope.specs.Calls.{readBook, partTest, partOutcome}
 use Rattle.scope.specs.promises.Meaning.{InRange}
@@ -27,8 +27,7 @@ use Rattle.checks.proofs.Searches.{At, mem-gather, none-whenever, some-whenever
 use Rattle.checks.proofs.Lists.{append-nil}
 use Rattle.checks.proofs.Chains.{value-not-refusal, chain-refuses, chain-goes-on, answered-some, RefusedBy, answered-refusal}
 use Rattle.checks.proofs.BookRefusals.{count-refused, column-refused, row-refused, repeat-refused}
-use Rattle.book.specs.Scan.{pixelFrom}
-use Rattle.book.proofs.Bytes.{Rest, length-of-rest, first-of-rest}
+use Rattle.book.proofs.Bytes.{Rest, length-of-rest, first-of-rest, place, pixelIn}
 use Rattle.book.proofs.Written.{pixel-of-bytes}
 use Rattle.book.proofs.Reading.{FromTo}
 use Rattle.book.proofs.ReadWrite.{read-taken-iff}
@@ -36,7 +35,7 @@ use Rattle.book.proofs.Parts.{count-read}
 use Rattle.book.proofs.Prefixes.{rest-so-far, length-so-far, next-pattern-decides}
 use Rattle.book.proofs.Prefixes.{rest-of-within, length-of-within, pixels-before-within, next-pixel-decides}
 use Rattle.book.proofs.Longer.{more-after-taken}
-use Rattle.book.proofs.Scanning.{pattern-read-from, pixel-read-from, ends-early, both-there, count-decides-from}
+use Rattle.book.proofs.Scanning.{ends-early, both-there, count-decides-from}
 
 -- What each test of the reader gives where it refuses.
 module _ (s : List ℕ) where
@@ -55,25 +54,11 @@ module _ (s : List ℕ) where
       ∙ chain-goes-on _ _ (none-whenever _ _ (leb-false-iff (length s) i .1 h))
       ∙ chain-refuses _ _ _ (count-refused most (byte s i) i bad)
 
-  module _ (n e : ℕ) where
-    ends-before-pixel : length s < place s n e + 2 → pixelRead s n e ≡ some (Ends (length s))
-    unfolding place
-    ends-before-pixel h = pixel-read-from s n e ∙ ends-early s (start s n + 1) e h
-
-    pixel-not-taken :
-        (r : Refusal) → place s n e + 2 ≤ length s → pixelTest (place s n e) (place s n e + 1) (pixelIn s n) e ≡ some r
-        → pixelRead s n e ≡ some r
-    unfolding place pixelIn pixelFrom
-    pixel-not-taken r h found = pixel-read-from s n e ∙ both-there s (start s n + 1) e h ∙ found
-
-  -- a refused count decides on its pattern, and the first count on the bytes
-  count-decides : (n : ℕ) (r : Refusal) → countRead s 64 (start s n) ≡ some r → patternRead s n ≡ some r
-  count-decides n r e = pattern-read-from s n ∙ count-decides-from s (start s n) r e
-
+  -- the refused first count decides on the bytes
   pub first-count-decides : (r : Refusal) → countRead s 16 0 ≡ some r → bytesTest s ≡ some r
   unfolding bytesTest
   first-count-decides r e =
-      chain-refuses (countRead s 16 0) (first 0 (byte s 0) (patternRead s) ∷ extraTest s ∷ []) r e
+      chain-refuses (countRead s 16 0) (first 0 (byte s 0) (λ n. patternRead s (start s n)) ∷ extraTest s ∷ []) r e
 
   -- what the tests find is the reader's answer, and what it answers they found
   read-refused : (r : Refusal) → bytesTest s ≡ some r → readAnswer s ≡ turnedDown r
@@ -106,7 +91,7 @@ module _ (m : ℕ) (ts : List (List Pixel)) (legal : PatternsSoFar m ts) where
   ends-before-pattern : readAnswer (bytesSoFar m ts) ≡ refusal 1 (length (bytesSoFar m ts)) none
   ends-before-pattern =
       read-refused s (Ends (length s)) (next-pattern-decides s m ts [] legal all (Ends (length s))
-      (count-decides s (length ts) (Ends (length s))
+      (count-decides-from s (start s (length ts)) (Ends (length s))
       (ends-before-count s 64 (start s (length ts)) (omega (arith, length-so-far s m ts [] legal all)))))
     where
       s : List ℕ
@@ -120,7 +105,7 @@ module _ (m : ℕ) (ts : List (List Pixel)) (legal : PatternsSoFar m ts) where
       → readAnswer (bytesSoFar m ts ++ (c ∷ rest)) ≡ refusal 2 (length (bytesSoFar m ts)) none
   bad-count c rest bad =
       read-refused s (Count i) (next-pattern-decides s m ts (c ∷ rest) legal all (Count i)
-      (count-decides s (length ts) (Count i)
+      (count-decides-from s i (Count i)
       (count-not-taken s 64 i (omega (arith, length-of-rest here)) (λ h. bad (rw (first-of-rest here) at h)))))
       ∙ ap (λ j. refusal 2 j none) (length-so-far s m ts (c ∷ rest) legal all)
     where
@@ -143,7 +128,7 @@ module _ (m : ℕ) (ts : List (List Pixel)) (c : ℕ) (t : List Pixel) (legal : 
       → readAnswer (bytesWithin m ts c t ++ rest) ≡ refusal 1 (length (bytesWithin m ts c t ++ rest)) none
   ends-in-pattern rest short =
       read-refused s (Ends (length s)) (next-pixel-decides s m ts c t rest legal (from-start s) (Ends (length s))
-      (ends-before-pixel s (length ts) (length t)
+      (ends-early s (start s (length ts) + 1) (length t)
       (omega (arith, length-of-rest (rest-of-within s m ts c t rest legal (from-start s))))))
     where
       s : List ℕ
@@ -169,7 +154,8 @@ module _ (m : ℕ) (ts : List (List Pixel)) (c : ℕ) (t : List Pixel) (legal : 
     bad-pixel : (r : Refusal) → pixelTest here (suc here) pixel (length t) ≡ some r → readAnswer whole ≡ turnedDown r
     bad-pixel r found =
         read-refused whole r (next-pixel-decides whole m ts c t (x ∷ y ∷ rest) legal (from-start whole) r
-        (pixel-not-taken whole (length ts) (length t) r (omega (arith, length-of-rest pixel-at-rest)) (rw (is, next) found)))
+        (both-there whole (start whole (length ts) + 1) (length t) (omega (arith, length-of-rest pixel-at-rest))
+        ∙ rw (is, next) found))
       where
         is : place whole (length ts) (length t) ≡ here
         is = length-of-within whole m ts c t (x ∷ y ∷ rest) legal (from-start whole)

@@ -11,24 +11,20 @@ use lib.ListN.{length}
 use Rattle.integers.proofs.Comparisons.{leb-false-iff, ltb-false-iff}
 use Rattle.scope.specs.Search.{gather}
 use Rattle.scope.specs.Plans.{Pixel, pixelAt, patternAt}
-use Rattle.scope.specs.Books.{byte, start, place, pixelIn, patternOf, bookOf, bookIn}
+use Rattle.scope.specs.Books.{byte, start, pixelFrom, patternFrom, patternOf, bookOf, bookIn}
 use Rattle.scope.specs.Numbers.{countRead, pixelRead, patternRead, extraTest, bytesTest}
-use Rattle.scope.specs.promises.Meaning.{InRange, IsPattern, IsBook}
+use Rattle.scope.specs.promises.Meaning.{PixelLegal, IsPattern, IsBook}
 use Rattle.scope.specs.declared.Refusal.the-variants.{Ends, Extra}
 use Rattle.checks.proofs.Searches.{length-gather, getD-gather}
 use Rattle.checks.proofs.Booleans.{refuses-iff, last-test, test-before, first-iff}
 use Rattle.checks.proofs.BookTests.{count-legal-iff, pixel-legal-iff}
-use Rattle.checks.proofs.Patterns.{origin}
+use Rattle.checks.proofs.Patterns.{origin, legal-same}
 use Rattle.book.proofs.Records.{used-patternOf, pixelAt-patternOf, count-bookOf, patternAt-bookOf}
-use Rattle.book.proofs.Bytes.{patternIn, patternsIn, next-place, last-place, next-start, start-after}
+use Rattle.book.proofs.Bytes.{patternIn, patternsIn, pixelIn, next-start, start-after}
 
 -- n is 1 to most.
 abbrev pub FromTo : ℕ → ℕ → Type 0
 FromTo most n = (1 ≤ n) × (n ≤ most)
-
--- The pixel at position e is in range, and no earlier position has it.
-abbrev pub LegalAt : (ℕ → Pixel) → ℕ → Type 0
-LegalAt pixel e = InRange (pixel e .column) × (InRange (pixel e .row) × ((l : ℕ) → l < e → pixel l ≡ pixel e → ⊥))
 
 -- The record of u gathered pixels is a pattern exactly if u is 1 to 64 and each pixel is legal.
 module _ (u : ℕ) (f : ℕ → Pixel) where
@@ -39,40 +35,30 @@ module _ (u : ℕ) (f : ℕ → Pixel) where
   pixel-of-gathered most e h =
       pixelAt-patternOf (gather 0 u f) e (omega arith) ∙ getD-gather 0 u f e origin h ∙ ap f (zero-add e)
 
-  pub gathered-pattern-iff : IsPattern (patternOf (gather 0 u f)) ↔ (FromTo 64 u × ((e : ℕ) → e < u → LegalAt f e))
+  pub gathered-pattern-iff : IsPattern (patternOf (gather 0 u f)) ↔ (FromTo 64 u × ((e : ℕ) → e < u → PixelLegal f e))
   gathered-pattern-iff = (there, back)
     where
-      there : IsPattern (patternOf (gather 0 u f)) → FromTo 64 u × ((e : ℕ) → e < u → LegalAt f e)
+      there : IsPattern (patternOf (gather 0 u f)) → FromTo 64 u × ((e : ℕ) → e < u → PixelLegal f e)
       there legal = ((omega (arith, used-of-gathered), most), each)
         where
           most : u ≤ 64
           most = omega (arith, used-of-gathered)
 
-          each : (e : ℕ) → e < u → LegalAt f e
+          each : (e : ℕ) → e < u → PixelLegal f e
           each e h =
-              let k : e < patternOf (gather 0 u f) .used = omega (arith, used-of-gathered) in
-              let here = pixel-of-gathered most e h in
-              let new : (l : ℕ) → l < e → f l ≡ f e → ⊥ =
-              λ l before same. legal .different l e before k (pixel-of-gathered most l (omega arith) ∙ same ∙ sym here) in
-              (rw here at (legal .column e k), (rw here at (legal .row e k), new))
+              legal-same e (pixelAt (patternOf (gather 0 u f))) f (λ l before. pixel-of-gathered most l (omega arith))
+              (legal .each e (omega (arith, used-of-gathered)))
 
-      back : FromTo 64 u × ((e : ℕ) → e < u → LegalAt f e) → IsPattern (patternOf (gather 0 u f))
+      back : FromTo 64 u × ((e : ℕ) → e < u → PixelLegal f e) → IsPattern (patternOf (gather 0 u f))
       back ((least, most), each) =
           record {
             least = omega (arith, used-of-gathered);
             most = omega (arith, used-of-gathered);
-            column = λ e k. let h = inside e k in rw (here e h) (each e h .0);
-            row = λ e k. let h = inside e k in rw (here e h) (each e h .1 .0);
-            different = λ e l before k same.
-                let h = inside l k in
-                each l h .1 .1 e before (sym (here e (omega arith)) ∙ same ∙ here l h);
+            each = λ e k.
+                let h : e < u = omega (arith, used-of-gathered) in
+                legal-same e f (pixelAt (patternOf (gather 0 u f))) (λ l before. sym (pixel-of-gathered most l (omega arith)))
+                (each e h);
           }
-        where
-          inside : (e : ℕ) → e < patternOf (gather 0 u f) .used → e < u
-          inside e k = omega (arith, used-of-gathered)
-
-          here : (e : ℕ) → e < u → pixelAt (patternOf (gather 0 u f)) e ≡ f e
-          here = pixel-of-gathered most
 
 -- The record of c gathered patterns is a book exactly if c is 1 to 16 and the record of each is a pattern.
 module _ (c : ℕ) (g : ℕ → List Pixel) where
@@ -104,15 +90,15 @@ module _ (c : ℕ) (g : ℕ → List Pixel) where
                 rw (pattern-of-gathered most n h) (each n h);
           }
 
--- The count of pattern n and all its pixels are there and legal; and so for all patterns, with no byte after them.
+-- The pixel count at place i and all its pixels are there and legal; and so for all patterns, with no byte after them.
 abbrev pub PatternRead : List ℕ → ℕ → Type 0
-PatternRead s n =
-    ((start s n < length s) × FromTo 64 (byte s (start s n)))
-    × ((e : ℕ) → e < byte s (start s n) → (place s n e + 2 ≤ length s) × LegalAt (pixelIn s n) e)
+PatternRead s i =
+    ((i < length s) × FromTo 64 (byte s i))
+    × ((e : ℕ) → e < byte s i → (i + 1 + 2 * e + 2 ≤ length s) × PixelLegal (pixelFrom s (i + 1)) e)
 
 abbrev pub BytesRead : List ℕ → Type 0
 BytesRead s =
-    ((0 < length s) × FromTo 16 (byte s 0)) × (((n : ℕ) → n < byte s 0 → PatternRead s n) × (length s ≤ start s (byte s 0)))
+    ((0 < length s) × FromTo 16 (byte s 0)) × (((n : ℕ) → n < byte s 0 → PatternRead s (start s n)) × (length s ≤ start s (byte s 0)))
 
 -- What each test of the reader asks.
 module _ (s : List ℕ) where
@@ -121,48 +107,48 @@ module _ (s : List ℕ) where
   count-read-iff most i =
       test-before (refuses-iff _ (Ends (length s)) (leb-false-iff (length s) i)) (last-test (count-legal-iff most (byte s i) i)) .iff
 
-  pub pixel-read-iff : (n e : ℕ) → (pixelRead s n e ≡ none) ↔ ((place s n e + 2 ≤ length s) × LegalAt (pixelIn s n) e)
+  pub pixel-read-iff : (i e : ℕ) → (pixelRead s i e ≡ none) ↔ ((i + 2 * e + 2 ≤ length s) × PixelLegal (pixelFrom s i) e)
   unfolding pixelRead
-  pixel-read-iff n e =
-      test-before (refuses-iff _ (Ends (length s)) (ltb-false-iff (length s) (place s n e + 2)))
-      (last-test (pixel-legal-iff (place s n e) (place s n e + 1) (pixelIn s n) e)) .iff
+  pixel-read-iff i e =
+      test-before (refuses-iff _ (Ends (length s)) (ltb-false-iff (length s) (i + 2 * e + 2)))
+      (last-test (pixel-legal-iff (i + 2 * e) (i + 2 * e + 1) (pixelFrom s i) e)) .iff
 
-  pub pattern-read-iff : (n : ℕ) → (patternRead s n ≡ none) ↔ PatternRead s n
+  pub pattern-read-iff : (i : ℕ) → (patternRead s i ≡ none) ↔ PatternRead s i
   unfolding patternRead
-  pattern-read-iff n =
-      test-before (count-read-iff 64 (start s n)) (last-test (first-iff (byte s (start s n)) (pixelRead s n) _ (pixel-read-iff n))) .iff
+  pattern-read-iff i =
+      test-before (count-read-iff 64 i) (last-test (first-iff (byte s i) (pixelRead s (i + 1)) _ (pixel-read-iff (i + 1)))) .iff
 
   pub bytes-read-iff : (bytesTest s ≡ none) ↔ BytesRead s
   unfolding bytesTest extraTest
   bytes-read-iff =
       test-before (count-read-iff 16 0)
-      (test-before (first-iff (byte s 0) (patternRead s) _ pattern-read-iff)
+      (test-before (first-iff (byte s 0) (λ n. patternRead s (start s n)) _ (λ n. pattern-read-iff (start s n)))
       (last-test (refuses-iff _ (Extra (start s (byte s 0))) (ltb-false-iff (start s (byte s 0)) (length s))))) .iff
 
   -- the pixels of a pattern that was read reach to the next pattern
-  pub pattern-inside : (n : ℕ) → PatternRead s n → start s (suc n) ≤ length s
-  pattern-inside n ((_, (least, most)), each) = by-count (byte s (start s n)) refl
+  pub pattern-inside : (i : ℕ) → PatternRead s i → i + 1 + 2 * byte s i ≤ length s
+  pattern-inside i ((_, (least, most)), each) = by-count (byte s i) refl
     where
-      by-count : (u : ℕ) → byte s (start s n) ≡ u → start s (suc n) ≤ length s
+      by-count : (u : ℕ) → byte s i ≡ u → i + 1 + 2 * byte s i ≤ length s
       by-count zero count = absurd (omega arith)
-      by-count (suc e) count =
-          omega (arith, each e (omega arith) .0, next-place s n e, last-place s n, ap (place s n) count)
+      by-count (suc e) count = omega (arith, each e (omega arith) .0)
 
-  last-pattern-inside : (c : ℕ) → 1 ≤ c → ((n : ℕ) → n < c → PatternRead s n) → start s c ≤ length s
+  last-pattern-inside : (c : ℕ) → 1 ≤ c → ((n : ℕ) → n < c → PatternRead s (start s n)) → start s c ≤ length s
   last-pattern-inside zero least each = absurd (omega arith)
-  last-pattern-inside (suc n) least each = pattern-inside n (each n (omega arith))
+  last-pattern-inside (suc n) least each = omega (arith, pattern-inside (start s n) (each n (omega arith)), next-start s n)
 
   -- and where the bytes reach to pattern c, a pattern before it is read if its record is a pattern
-  pub pattern-is-read : (c n : ℕ) → start s c ≤ length s → n < c → IsPattern (patternOf (patternIn s n)) → patternRead s n ≡ none
-  unfolding place
+  pub pattern-is-read :
+      (c n : ℕ) → start s c ≤ length s → n < c → IsPattern (patternOf (patternIn s n)) → patternRead s (start s n) ≡ none
+  unfolding patternFrom
   pattern-is-read c n reach h legal =
       let (counted, each) = gathered-pattern-iff (byte s (start s n)) (pixelIn s n) .0 legal in
       let inside : start s n + 1 + 2 * byte s (start s n) ≤ length s = omega (arith, start-after s n c h, next-start s n) in
-      pattern-read-iff n .1 ((omega arith, counted), λ e k. (omega arith, each e k))
+      pattern-read-iff (start s n) .1 ((omega arith, counted), λ e k. (omega arith, each e k))
 
   -- bytes are taken exactly if they end where their counts say and their record is a book
   pub bytes-taken-iff : (bytesTest s ≡ none) ↔ ((start s (byte s 0) ≡ length s) × IsBook (bookIn s))
-  unfolding bookIn
+  unfolding bookIn patternFrom
   bytes-taken-iff = Iff·trans bytes-read-iff (there, back)
     where
       there : BytesRead s → (start s (byte s 0) ≡ length s) × IsBook (bookOf (patternsIn s))
@@ -180,5 +166,5 @@ module _ (s : List ℕ) where
           let book = gathered-book-iff (byte s 0) (patternIn s) .0 legal in
           let counted : FromTo 16 (byte s 0) = book .0 in (
             (omega (arith, start-after s 0 (byte s 0) (counted .0), next-start s 0), counted),
-            (λ n h. pattern-read-iff n .0 (pattern-is-read (byte s 0) n (omega arith) h (book .1 n h)), omega arith),
+            (λ n h. pattern-read-iff (start s n) .0 (pattern-is-read (byte s 0) n (omega arith) h (book .1 n h)), omega arith),
           )

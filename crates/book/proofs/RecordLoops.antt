@@ -12,14 +12,14 @@ use Rattle.scope.specs.declared.Pattern.{Pattern}
 use Rattle.scope.specs.declared.Outcome.{Outcome}
 use Rattle.scope.specs.declared.Refusal.{Refusal}
 use Rattle.checks.proofs.BookRefusals.{record-refuses}
-use Rattle.book.specs.Scan.{outcomeOf, patternTestOf}
+use Rattle.book.specs.Scan.{outcomeOf}
 use Rattle.book.proofs.Reading.{FromTo}
 use Rattle.book.proofs.Outcomes.{answered-by-refusal, answered-by-done, done-found-nothing, refused-found}
 use Rattle.book.proofs.Scanning.{record-pattern-decides, all-legal}
 
 -- the patterns before the n-th have passed their tests
 abbrev pub PassedBefore : Book → ℕ → Type 0
-PassedBefore book n = (m : ℕ) → m < n → patternTest book m ≡ none
+PassedBefore book n = (m : ℕ) → m < n → patternTest (patternAt book m) ≡ none
 
 module _ (book : Book) where
   pub count-not-taken : (FromTo 16 (book .count) → ⊥) → Outcome.Refused (Refusal.Count 0) ≡ recordOutcome book
@@ -27,11 +27,10 @@ module _ (book : Book) where
   count-not-taken bad = answered-by-refusal (recordTest book) _ (record-refuses .patterns-2 book bad)
 
   -- the n-th pattern, whose record is t, was tested
-  module _ {outcome : Outcome} {t : Pattern} {n : ℕ} (answer : outcome ≡ outcomeOf (patternTestOf t)) (is : t ≡ patternAt book n)
+  module _ {outcome : Outcome} {t : Pattern} {n : ℕ} (answer : outcome ≡ outcomeOf (patternTest t)) (is : t ≡ patternAt book n)
       (before : PassedBefore book n) where
-    of-pattern : outcome ≡ outcomeOf (patternTest book n)
-    unfolding patternTest patternTestOf
-    of-pattern = answer ∙ ap (λ (u : Pattern). outcomeOf (patternTestOf u)) is
+    of-pattern : outcome ≡ outcomeOf (patternTest (patternAt book n))
+    of-pattern = answer ∙ ap (λ (u : Pattern). outcomeOf (patternTest u)) is
 
     pub pattern-not-taken :
         {r : Refusal} → FromTo 16 (book .count) → n < book .count → outcome ≡ Outcome.Refused r

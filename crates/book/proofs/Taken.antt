@@ -7,10 +7,10 @@ use mathlib.Core.Path.{_≡_, refl, sym, _∙_, ap}
 use mathlib.Core.Option.{none}
 use mathlib.Core.List.{List}
 use lib.ListN.{length}
-use Rattle.scope.specs.Books.{byte, start, pixelIn, patternOf, bookIn}
+use Rattle.scope.specs.Books.{byte, start, patternFrom, patternOf, bookIn}
 use Rattle.scope.specs.Numbers.{bytesTest}
 use Rattle.scope.specs.promises.Meaning.{IsPattern}
-use Rattle.book.proofs.Bytes.{patternIn, next-start, start-after}
+use Rattle.book.proofs.Bytes.{pixelIn, patternIn, next-start, start-after}
 use Rattle.book.proofs.Reading.{FromTo, gathered-pattern-iff, gathered-book-iff, bytes-taken-iff}
 
 -- From the place of one pattern's pixel count to the next.
@@ -26,6 +26,7 @@ module _ (s : List ℕ) (taken : bytesTest s ≡ none) where
   pub pattern-bounds :
       {at : ℕ} (n : ℕ) → at ≡ start s n → n < byte s 0
       → (n < 16) × (byte s at ≤ 64) × (at + 1 + 2 * byte s at ≤ length s)
+  unfolding patternFrom
   pattern-bounds n is h = (
     omega (arith, counted .0),
     rw is (gathered-pattern-iff (byte s (start s n)) (pixelIn s n) .0 (counted .1 n h) .0 .1),

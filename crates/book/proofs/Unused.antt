@@ -58,14 +58,15 @@ module _ (book other : Book) (same : SameUsed book other) where
   same-pixel-tests n h =
       first-from-0-same (same .used n h) (λ e used. pixelTest-same 0 0 e _ _ (λ l before. same .pixel n l h (omega arith)))
 
-  same-pattern-tests : (n : ℕ) → n < book .count → patternTest book n ≡ patternTest other n
+  same-pattern-tests : (n : ℕ) → n < book .count → patternTest (patternAt book n) ≡ patternTest (patternAt other n)
   unfolding patternTest
   same-pattern-tests n h = cc (same .used n h, same-pixel-tests n h)
 
   pub same-record-tests : recordTest book ≡ recordTest other
   unfolding recordTest
   same-record-tests =
-      let all : first 0 (book .count) (patternTest book) ≡ first 0 (other .count) (patternTest other) =
+      let all :
+      first 0 (book .count) (λ n. patternTest (patternAt book n)) ≡ first 0 (other .count) (λ n. patternTest (patternAt other n)) =
       first-from-0-same (same .count) same-pattern-tests in
       cc (same .count)
 

@@ -1,5 +1,5 @@
 -- The window of a pattern's pixels, columns and rows from -16 to 15: which cell a pixel has, what the flags of the pixels so
--- far say, and what the tests of the next pixel find by its cell and its flag.
+-- far say, and what the tests of the next pixel find and answer by its cell and its flag.
 -- Assumes nothing.
 use Prim.Native.Nat.{ℕ, _+_, _-_, _*_, _≤_, _<_}
 use native.Mathlib.Omega.{arith}
@@ -10,19 +10,21 @@ use mathlib.Core.Option.{none, some}
 use mathlib.Core.List.{List, [], _∷_}
 use lib.IntN.{ℤ, pos, negsuc, natAbs, _+ℤ_}
 use lib.Signed.{_≤ℤ_}
-use lib.ListN.{length, getD, set, replicate, length-set, length-replicate, getD-replicate}
+use lib.ListN.{getD, set, replicate, length-set, length-replicate, getD-replicate}
 use Rattle.integers.proofs.Ring.{reify}
 use Rattle.integers.proofs.Order.{le-by, eq-by, of-le, of-eq}
 use Rattle.scope.specs.Plans.{Pixel}
 use Rattle.scope.specs.Numbers.{small, pixelTest}
 use Rattle.scope.specs.promises.Meaning.{InRange}
 use Rattle.scope.specs.declared.Refusal.{Refusal}
-use Rattle.checks.proofs.Searches.{true-not-false, not-true-is-false, At}
+use Rattle.scope.specs.declared.Outcome.{Outcome}
+use Rattle.checks.proofs.Searches.{true-not-false, not-true-is-false}
 use Rattle.checks.proofs.Lists.{getD-set-same, getD-set-other}
 use Rattle.checks.proofs.Patterns.{same-coordinates}
 use Rattle.checks.proofs.BookTests.{small-iff, pixel-legal-iff}
 use Rattle.checks.proofs.BookRefusals.{column-refused, row-refused, repeat-refused}
-use Rattle.book.specs.Scan.{cellOf}
+use Rattle.book.specs.Scan.{cellOf, Seen, Tested}
+use Rattle.book.proofs.Outcomes.{answered-by-refusal, answered-by-done, done-not-refused}
 
 -- A coordinate's distance from -16.
 abbrev pub offset : ℤ → ℕ
@@ -139,12 +141,7 @@ cell-injective v w h e = by-places (placed v) (placed w)
     by-places (inside c r is) (above d f it) = absurd (omega arith)
     by-places (inside c r is) (inside d s it) = both c r d s
 
--- The flags say which cells the pixels before position e have.
-pub record Seen (flags : List Bool) (pixel : ℕ → Pixel) (e : ℕ) : Type 0 where
-  pub size : length flags ≡ 1024
-  pub marked : (l : ℕ) → l < e → getD flags (cellOf (pixel l)) false ≡ true
-  pub only : (k : ℕ) → k < 1024 → getD flags k false ≡ true → At 0 e (λ l. cellOf (pixel l)) k
-
+-- Before the first pixel no flag is set.
 pub none-seen : (pixel : ℕ → Pixel) → Seen (replicate 1024 false) pixel 0
 none-seen pixel =
     record {
@@ -155,7 +152,7 @@ none-seen pixel =
 
 -- The next pixel, with its cell k.
 module _ {flags : List Bool} {pixel : ℕ → Pixel} {e k : ℕ} (seen : Seen flags pixel e) (is : k ≡ cellOf (pixel e)) where
-  pub more-seen : k < 1024 → Seen (set flags k true) pixel (e + 1)
+  more-seen : k < 1024 → Seen (set flags k true) pixel (e + 1)
   more-seen h =
       record {
         size = length-set flags k true ∙ seen .size;
@@ -173,11 +170,12 @@ module _ {flags : List Bool} {pixel : ℕ → Pixel} {e k : ℕ} (seen : Seen fl
           earlier (no q) = omega arith
 
       owner :
-          (m : ℕ) → m < 1024 → getD (set flags k true) m false ≡ true → Dec (m ≡ k) → At 0 (e + 1) (λ l. cellOf (pixel l)) m
-      owner m p t (yes d) = record { index = e; from = omega arith; below = omega arith; is = sym is ∙ sym d }
+          (m : ℕ) → m < 1024 → getD (set flags k true) m false ≡ true → Dec (m ≡ k)
+          → (l : ℕ) × (l < e + 1) × (cellOf (pixel l) ≡ m)
+      owner m p t (yes d) = (e, omega arith, sym is ∙ sym d)
       owner m p t (no d) =
-          let a = seen .only m p (sym (getD-set-other flags k m true false d) ∙ t) in
-          record { index = a .index; from = a .from; below = omega (arith, a .below); is = a .is }
+          let (l, below, cell) = seen .only m p (sym (getD-set-other flags k m true false d) ∙ t) in
+          (l, omega arith, cell)
 
   in-range : k < 1024 → InRange (pixel e .column) × InRange (pixel e .row)
   in-range h = by-place (placed (pixel e))
@@ -189,7 +187,7 @@ module _ {flags : List Bool} {pixel : ℕ → Pixel} {e k : ℕ} (seen : Seen fl
 
   -- what its tests find, with i and j the places of its column and row
   module _ (i j : ℕ) where
-    pub column-found : k ≡ 1024 → pixelTest i j pixel e ≡ some (Refusal.Coordinate i)
+    column-found : k ≡ 1024 → pixelTest i j pixel e ≡ some (Refusal.Coordinate i)
     column-found h = by-place (placed (pixel e))
       where
         by-place : Placed (pixel e) → pixelTest i j pixel e ≡ some (Refusal.Coordinate i)
@@ -197,7 +195,7 @@ module _ {flags : List Bool} {pixel : ℕ → Pixel} {e k : ℕ} (seen : Seen fl
         by-place (above c f d) = absurd (omega arith)
         by-place (inside c r d) = absurd (omega arith)
 
-    pub row-found : k ≡ 1025 → pixelTest i j pixel e ≡ some (Refusal.Coordinate j)
+    row-found : k ≡ 1025 → pixelTest i j pixel e ≡ some (Refusal.Coordinate j)
     row-found h = by-place (placed (pixel e))
       where
         by-place : Placed (pixel e) → pixelTest i j pixel e ≡ some (Refusal.Coordinate j)
@@ -205,24 +203,47 @@ module _ {flags : List Bool} {pixel : ℕ → Pixel} {e k : ℕ} (seen : Seen fl
         by-place (above c f d) = row-refused i j pixel e c f
         by-place (inside c r d) = absurd (omega arith)
 
-    pub repeat-found : k < 1024 → getD flags k false ≡ true → pixelTest i j pixel e ≡ some (Refusal.Repeat i)
+    repeat-found : k < 1024 → getD flags k false ≡ true → pixelTest i j pixel e ≡ some (Refusal.Repeat i)
     repeat-found h t =
-        let a = seen .only k h t in
-        repeat-refused i j pixel e (in-range h .0) (in-range h .1) (a .index) (omega (arith, a .below))
-        (cell-injective (pixel (a .index)) (pixel e) (omega (arith, a .is)) (a .is ∙ is))
+        let (l, below, cell) = seen .only k h t in
+        repeat-refused i j pixel e (in-range h .0) (in-range h .1) l below
+        (cell-injective (pixel l) (pixel e) (omega arith) (cell ∙ is))
 
-    pub nothing-found : k < 1024 → getD flags k false ≡ false → pixelTest i j pixel e ≡ none
-    nothing-found h t = pixel-legal-iff i j pixel e .1 (in-range h .0, (in-range h .1, unlike))
+    nothing-found : k < 1024 → getD flags k false ≡ false → pixelTest i j pixel e ≡ none
+    nothing-found h t =
+        pixel-legal-iff i j pixel e .1 (record { column = in-range h .0; row = in-range h .1; new = unlike })
       where
         unlike : (l : ℕ) → l < e → pixel l ≡ pixel e → ⊥
         unlike l p same =
             let here : cellOf (pixel l) ≡ k = ap cellOf same ∙ sym is in
             true-not-false (sym (seen .marked l p) ∙ ap (λ m. getD flags m false) here ∙ t)
 
-  -- the column or the row, where both have the same place
-  pub coordinate-found : (i : ℕ) → 1024 ≤ k → pixelTest i i pixel e ≡ some (Refusal.Coordinate i)
-  coordinate-found i h = by-number (ℕ-discrete k 1024)
-    where
-      by-number : Dec (k ≡ 1024) → pixelTest i i pixel e ≡ some (Refusal.Coordinate i)
-      by-number (yes d) = column-found i i d
-      by-number (no d) = row-found i i (omega (arith, cell-at-most (pixel e)))
+-- A pixel v with its cell k, tested by the flags of the pixels before it, whatever these are.
+module _ {flags : List Bool} {v : Pixel} {k i j : ℕ} (is : k ≡ cellOf v) where
+  refused-pixel :
+      {r : Refusal}
+      → ((pixel : ℕ → Pixel) (e : ℕ) → Seen flags pixel e → k ≡ cellOf (pixel e) → pixelTest i j pixel e ≡ some r)
+      → Tested i j v flags flags (Outcome.Refused r)
+  refused-pixel {r} found =
+      record {
+        answer = λ pixel e seen same.
+            answered-by-refusal (pixelTest i j pixel e) r (found pixel e seen (is ∙ ap cellOf (sym same)));
+        passed = λ pixel e seen same done. absurd (done-not-refused (sym done));
+      }
+
+  pub column-tested : k ≡ 1024 → Tested i j v flags flags (Outcome.Refused (Refusal.Coordinate i))
+  column-tested h = refused-pixel (λ pixel e seen here. column-found seen here i j h)
+
+  pub row-tested : k ≡ 1025 → Tested i j v flags flags (Outcome.Refused (Refusal.Coordinate j))
+  row-tested h = refused-pixel (λ pixel e seen here. row-found seen here i j h)
+
+  pub repeat-tested : k < 1024 → getD flags k false ≡ true → Tested i j v flags flags (Outcome.Refused (Refusal.Repeat i))
+  repeat-tested h t = refused-pixel (λ pixel e seen here. repeat-found seen here i j h t)
+
+  pub new-tested : k < 1024 → getD flags k false ≡ false → Tested i j v flags (set flags k true) Outcome.Done
+  new-tested h t =
+      record {
+        answer = λ pixel e seen same.
+            answered-by-done (pixelTest i j pixel e) (nothing-found seen (is ∙ ap cellOf (sym same)) i j h t);
+        passed = λ pixel e seen same done. more-seen seen (is ∙ ap cellOf (sym same)) h;
+      }

@@ -8,12 +8,12 @@ use mathlib.Core.List.{List, [], _∷_, _++_, flatMap, List·Memᴰ, List·Mem�
 use lib.ListN.{length}
 use Rattle.scope.specs.Search.{gather}
 use Rattle.scope.specs.Plans.{Pixel, at}
-use Rattle.scope.specs.Books.{byte, signed, unsigned, start, place, pixelIn, pixelBytes, patternBytes}
+use Rattle.scope.specs.Books.{byte, signed, unsigned, start, pixelFrom, patternFrom, pixelBytes, patternBytes}
 use Rattle.scope.specs.promises.Meaning.{InRange}
 use Rattle.checks.proofs.Lists.{append-assoc, append-nil}
 use Rattle.checks.proofs.Patterns.{same-coordinates}
 use Rattle.book.proofs.Bytes.{signed-unsigned, Rest, length-of-rest, first-of-rest, others-of-rest, patternIn, patternsIn}
-use Rattle.book.proofs.Bytes.{next-place, first-place, last-place}
+use Rattle.book.proofs.Bytes.{place, pixelIn, next-place, first-place, last-place}
 
 -- Both coordinates of a pixel are from -16 to 15, those of each pixel of a pattern, and of each pattern of a list.
 abbrev PixelInRange : Pixel → Type 0
@@ -43,7 +43,7 @@ module _ (s : List ℕ) where
   pub pixel-of-bytes :
       (n e x y : ℕ) (xs : List ℕ) → Rest s (place s n e) (x ∷ y ∷ xs)
       → (pixelIn s n e ≡ at (signed x) (signed y)) × Rest s (place s n (suc e)) xs
-  unfolding pixelIn at
+  unfolding pixelFrom at
   pixel-of-bytes n e x y xs r =
       let second = others-of-rest (place s n e + 1) refl r in (
         same-coordinates (ap signed (first-of-rest r)) (ap signed (first-of-rest second)),
@@ -66,7 +66,7 @@ module _ (s : List ℕ) where
   pattern-at-rest :
       (n : ℕ) (t : List Pixel) (xs : List ℕ) → AllInRange t → Rest s (start s n) (patternBytes t ++ xs)
       → (patternIn s n ≡ t) × Rest s (start s (suc n)) xs
-  unfolding patternBytes
+  unfolding patternBytes patternFrom
   pattern-at-rest n t xs h r =
       let count = first-of-rest r in
       let more = pixels-at-rest n t xs h (others-of-rest (place s n 0) (first-place s n) r) in

@@ -1,2 +1,2 @@
 -- What the code on books goes by.
-pub mod Scan  -- a pattern by its place in the bytes, one pattern of a record, the window's cells
+pub mod Scan  -- a test's answer, a pattern's entry, the window's cells and flags

@@ -1,19 +1,17 @@
--- What the code goes by: a pattern of the bytes by the place where it stands, and not by its number, one pattern of a record
--- by itself, and the cells of the window. The laws in proofs/ lead from them to the definitions of `scope`.
+-- What the code goes by: a test's answer, the entry for a pattern's number, the cells of the window and the flags of a
+-- pattern's pixels there. The laws in proofs/ lead from them to the definitions of `scope`.
 -- Assumes nothing.
-use Prim.Native.Nat.{ℕ, _+_, _*_}
+use Prim.Native.Nat.{ℕ, _+_, _*_, _<_}
+use mathlib.Core.Path.{_≡_}
 use mathlib.Core.Option.{Option}
-use mathlib.Core.List.{List, [], _∷_}
-use mathlib.Core.Bool.{cond}
+use mathlib.Core.List.{List}
+use mathlib.Core.Bool.{Bool, true, false, cond}
 use lib.Dec.{ltb}
 use lib.IntN.{pos, natAbs, _+ℤ_}
-use lib.ListN.{length}
-use Rattle.scope.specs.Search.{first, gather, whenever, firstOf}
-use Rattle.scope.specs.Plans.{Pixel, pixelAt}
-use Rattle.scope.specs.Books.{byte, signed, patternOf}
-use Rattle.scope.specs.Numbers.{countTest, small, pixelTest, countRead}
+use lib.ListN.{length, getD}
+use Rattle.scope.specs.Plans.{Pixel}
+use Rattle.scope.specs.Numbers.{small, pixelTest}
 use Rattle.scope.specs.Calls.{answered}
-use Rattle.scope.specs.declared.Pattern.{Pattern}
 use Rattle.scope.specs.declared.Refusal.{Refusal}
 use Rattle.scope.specs.declared.Outcome.{Outcome}
 
@@ -21,38 +19,9 @@ use Rattle.scope.specs.declared.Outcome.{Outcome}
 abbrev pub outcomeOf : Option Refusal → Outcome
 outcomeOf t = answered t Outcome.Refused Outcome.Done
 
--- the pixel at position e of the pixels that begin at place i
-unfoldable pub pixelFrom : List ℕ → ℕ → ℕ → Pixel
-unfolding byte signed
-pixelFrom s i e = record { column = signed (byte s (i + 2 * e)); row = signed (byte s (i + 2 * e + 1)) }
-
--- its tests: both bytes are there, then column, row and repetition
-unfoldable pub pixelReadFrom : List ℕ → ℕ → ℕ → Option Refusal
-unfolding firstOf whenever pixelTest pixelFrom
-pixelReadFrom s i e =
-    firstOf
-    (whenever (ltb (length s) (i + 2 * e + 2)) (Refusal.Ends (length s))
-    ∷ pixelTest (i + 2 * e) (i + 2 * e + 1) (pixelFrom s i) e
-    ∷ [])
-
--- the tests of the pattern whose pixel count is at place i
-unfoldable pub patternReadFrom : List ℕ → ℕ → Option Refusal
-unfolding firstOf first countRead pixelReadFrom byte
-patternReadFrom s i = firstOf (countRead s 64 i ∷ first 0 (byte s i) (pixelReadFrom s (i + 1)) ∷ [])
-
--- the record of the pattern whose pixel count is at place i, as the loop over the patterns fills it
-unfoldable pub patternFrom : List ℕ → ℕ → Pattern
-unfolding patternOf gather pixelFrom byte
-patternFrom s i = patternOf (gather 0 (byte s i) (pixelFrom s (i + 1)))
-
 -- the number of the entry that stands for pattern n: n, or the last one where there is none
 abbrev pub entryNumber : ℕ → ℕ
 entryNumber n = cond (ltb n 16) n 15
-
--- the tests of one pattern of a record
-unfoldable pub patternTestOf : Pattern → Option Refusal
-unfolding firstOf first countTest pixelTest pixelAt
-patternTestOf t = firstOf (countTest 64 (t .used) 0 ∷ first 0 (t .used) (pixelTest 0 0 (pixelAt t)) ∷ [])
 
 -- a pixel's cell, 0 to 1023, in the window of columns and rows from -16 to 15; 1024 where the column is outside, else 1025 where
 -- the row is
@@ -62,3 +31,15 @@ cellOf v =
     cond (small (v .column))
     (cond (small (v .row)) (32 * natAbs (v .column +ℤ pos 16) + natAbs (v .row +ℤ pos 16)) 1025)
     1024
+
+-- the flags say which cells the pixels before position e have
+pub record Seen (flags : List Bool) (pixel : ℕ → Pixel) (e : ℕ) : Type 0 where
+  pub size : length flags ≡ 1024
+  pub marked : (l : ℕ) → l < e → getD flags (cellOf (pixel l)) false ≡ true
+  pub only : (k : ℕ) → k < 1024 → getD flags k false ≡ true → (l : ℕ) × (l < e) × (cellOf (pixel l) ≡ k)
+
+-- the pixel v was tested by the flags of the pixels before it, whatever these and its position are: the outcome is that of its
+-- tests, and where they find nothing the flags have it too
+pub record Tested (i j : ℕ) (v : Pixel) (flags after : List Bool) (outcome : Outcome) : Type 0 where
+  pub answer : (pixel : ℕ → Pixel) (e : ℕ) → Seen flags pixel e → pixel e ≡ v → outcome ≡ outcomeOf (pixelTest i j pixel e)
+  pub passed : (pixel : ℕ → Pixel) (e : ℕ) → Seen flags pixel e → pixel e ≡ v → outcome ≡ Outcome.Done → Seen after pixel (e + 1)

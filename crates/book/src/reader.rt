@@ -10,15 +10,14 @@ ghost use mathlib.Core.Option.{none};
 ghost use mathlib.Core.List.{[]};
 ghost use Prim.Native.Nat.{_+_, _*_, _≤_};
 ghost use lib.ListN.{length};
-ghost use Rattle.scope.specs.Books.{byte, patternOf, bookOf, bookIn};
+ghost use Rattle.scope.specs.Books.{byte, patternFrom, patternOf, bookOf, bookIn};
 ghost use Rattle.scope.specs.Numbers.{bytesTest};
 ghost use Rattle.scope.specs.Calls.{readBook};
-ghost use Rattle.book.specs.Scan.{patternFrom};
 
 // The pattern whose pixel count is at place `at`, unused entries 0.
 fn pattern_at(s: &[u8], at: usize) -> Pattern
     requires { ⌜ (byte (now s) at ≤ 64) × (at + 1 + 2 * byte (now s) at ≤ length (now s)) ⌝ }
-    ensures { λ r. ⌜ r ≡ patternFrom (now (s .entry)) at ⌝ }
+    ensures { λ r. ⌜ r ≡ patternOf (patternFrom (now (s .entry)) at) ⌝ }
 {
     let used = s[at] as usize;
     let mut columns = [0i8; 64];

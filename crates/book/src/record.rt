@@ -1,5 +1,5 @@
 // The validity of a book record: 2, 3, 4 in book order, with place 0.
-use crate::cells::cell;
+use crate::cells::pixel_outcome;
 use scope::Book;
 use scope::Outcome;
 use scope::Pattern;
@@ -7,9 +7,9 @@ use scope::Refusal;
 ghost use mathlib.Core.Path.{_≡_};
 ghost use Rattle.scope.specs.Search.{first};
 ghost use Rattle.scope.specs.Plans.{pixelAt};
-ghost use Rattle.scope.specs.Numbers.{pixelTest};
+ghost use Rattle.scope.specs.Numbers.{pixelTest, patternTest};
 ghost use Rattle.scope.specs.Calls.{recordOutcome};
-ghost use Rattle.book.specs.Scan.{outcomeOf, entryNumber, patternTestOf};
+ghost use Rattle.book.specs.Scan.{outcomeOf, entryNumber};
 ghost use Prim.Native.Nat.{_≤_};
 
 // The number of the entry that stands for pattern n: n, or the last one where there is none.
@@ -19,7 +19,7 @@ pub fn entry_number(n: usize) -> usize
     if n < 16 { n } else { 15 }
 }
 
-// The tests of a pattern's pixels. Each pixel that was tested has its flag set.
+// The tests of a pattern's pixels.
 fn pixels_outcome(t: Pattern) -> Outcome
     requires { ⌜ t .used ≤ 64 ⌝ }
     ensures { λ r. ⌜ r ≡ outcomeOf (first 0 (t .used) (pixelTest 0 0 (pixelAt t))) ⌝ }
@@ -30,14 +30,10 @@ fn pixels_outcome(t: Pattern) -> Outcome
     let mut seen = [false; 1024];
     let mut e = 0;
     while e < used {
-        let k = cell(columns[e], rows[e]);
-        if 1024 <= k {
-            return Outcome::Refused(Refusal::Coordinate(0));
+        let outcome = pixel_outcome(columns[e], rows[e], 0, 0, &mut seen);
+        if let Outcome::Refused(_) = outcome {
+            return outcome;
         }
-        if seen[k] {
-            return Outcome::Refused(Refusal::Repeat(0));
-        }
-        seen[k] = true;
         e += 1;
     }
     Outcome::Done
@@ -45,7 +41,7 @@ fn pixels_outcome(t: Pattern) -> Outcome
 
 // The tests of a pattern.
 pub fn pattern_outcome(t: Pattern) -> Outcome
-    ensures { λ r. ⌜ r ≡ outcomeOf (patternTestOf t) ⌝ }
+    ensures { λ r. ⌜ r ≡ outcomeOf (patternTest t) ⌝ }
 {
     let used = t.used;
     if used == 0 {

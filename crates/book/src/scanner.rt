@@ -1,5 +1,5 @@
 // The tests of a book's bytes, 1 to 5, left to right.
-use crate::cells::cell;
+use crate::cells::pixel_outcome;
 use scope::Outcome;
 use scope::Refusal;
 ghost use mathlib.Core.Path.{_≡_};
@@ -7,11 +7,11 @@ ghost use Prim.Native.Nat.{_≤_};
 ghost use lib.ListN.{length};
 ghost use Rattle.scope.specs.Search.{first};
 ghost use Rattle.scope.specs.Books.{signed};
-ghost use Rattle.scope.specs.Numbers.{bytesTest};
-ghost use Rattle.book.specs.Scan.{outcomeOf, pixelReadFrom, patternReadFrom};
+ghost use Rattle.scope.specs.Numbers.{pixelRead, patternRead, bytesTest};
+ghost use Rattle.book.specs.Scan.{outcomeOf};
 
 // The number that a byte is in two's complement.
-pub fn signed_byte(b: u8) -> i8
+pub(crate) fn signed_byte(b: u8) -> i8
     ensures { λ r. ⌜ r ≡ signed b ⌝ }
 {
     if b < 128 {
@@ -21,10 +21,10 @@ pub fn signed_byte(b: u8) -> i8
     }
 }
 
-// The tests of `count` pixels that begin at place `at`. Each pixel that was read has its flag set.
+// The tests of `count` pixels that begin at place `at`.
 fn pixels_outcome(s: &[u8], at: usize, count: usize) -> Outcome
     requires { ⌜ (at ≤ length (now s)) × (count ≤ 64) ⌝ }
-    ensures { λ r. ⌜ r ≡ outcomeOf (first 0 count (pixelReadFrom (now (s .entry)) at)) ⌝ }
+    ensures { λ r. ⌜ r ≡ outcomeOf (first 0 count (pixelRead (now (s .entry)) at)) ⌝ }
 {
     let mut seen = [false; 1024];
     let mut e = 0;
@@ -33,17 +33,16 @@ fn pixels_outcome(s: &[u8], at: usize, count: usize) -> Outcome
         if s.len() - i < 2 {
             return Outcome::Refused(Refusal::Ends(s.len()));
         }
-        let k = cell(signed_byte(s[i]), signed_byte(s[i + 1]));
-        if k == 1024 {
-            return Outcome::Refused(Refusal::Coordinate(i));
+        let outcome = pixel_outcome(
+            signed_byte(s[i]),
+            signed_byte(s[i + 1]),
+            i,
+            i + 1,
+            &mut seen,
+        );
+        if let Outcome::Refused(_) = outcome {
+            return outcome;
         }
-        if k == 1025 {
-            return Outcome::Refused(Refusal::Coordinate(i + 1));
-        }
-        if seen[k] {
-            return Outcome::Refused(Refusal::Repeat(i));
-        }
-        seen[k] = true;
         e += 1;
     }
     Outcome::Done
@@ -52,7 +51,7 @@ fn pixels_outcome(s: &[u8], at: usize, count: usize) -> Outcome
 // The tests of the pattern whose pixel count is at place `at`.
 fn pattern_outcome(s: &[u8], at: usize) -> Outcome
     requires { ⌜ at ≤ length (now s) ⌝ }
-    ensures { λ r. ⌜ r ≡ outcomeOf (patternReadFrom (now (s .entry)) at) ⌝ }
+    ensures { λ r. ⌜ r ≡ outcomeOf (patternRead (now (s .entry)) at) ⌝ }
 {
     if s.len() <= at {
         return Outcome::Refused(Refusal::Ends(s.len()));
@@ -68,7 +67,7 @@ fn pattern_outcome(s: &[u8], at: usize) -> Outcome
 }
 
 // The tests of a whole book.
-pub fn bytes_outcome(s: &[u8]) -> Outcome
+pub(crate) fn bytes_outcome(s: &[u8]) -> Outcome
     ensures { λ r. ⌜ r ≡ outcomeOf (bytesTest (now (s .entry))) ⌝ }
 {
     if s.len() == 0 {

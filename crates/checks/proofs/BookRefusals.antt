@@ -87,29 +87,25 @@ search-refuses t n f ts r k passed below here before =
 
 -- A pattern gives the number of its first illegal pixel,
 pixel-decides :
-    (book : Book) (n e : ℕ) (r : Refusal) → PixelsUpTo (patternAt book n) e
-    → pixelTest 0 0 (pixelAt (patternAt book n)) e ≡ some r → patternTest book n ≡ some r
+    (t : Pattern) (e : ℕ) (r : Refusal) → PixelsUpTo t e → pixelTest 0 0 (pixelAt t) e ≡ some r → patternTest t ≡ some r
 unfolding patternTest
-pixel-decides book n e r up here =
+pixel-decides t e r up here =
     search-refuses _ (t .used) (pixelTest 0 0 (pixelAt t)) [] r e
     (count-legal-iff 64 (t .used) 0 .1 (omega (arith, up .below), up .most))
     (up .below)
     here
-    (λ l earlier. pixel-legal-iff 0 0 (pixelAt t) l .1 (up .column l earlier, (up .row l earlier, λ k p. up .different k l p earlier)))
-  where
-    t : Pattern
-    t = patternAt book n
+    (λ l earlier. pixel-legal-iff 0 0 (pixelAt t) l .1 (up .each l earlier))
 
 -- and a book that of its first illegal pattern.
 pattern-decides :
-    (book : Book) (n : ℕ) (r : Refusal) → LegalUpTo book n → patternTest book n ≡ some r → recordTest book ≡ some r
+    (book : Book) (n : ℕ) (r : Refusal) → LegalUpTo book n → patternTest (patternAt book n) ≡ some r → recordTest book ≡ some r
 unfolding recordTest
 pattern-decides book n r up here =
-    search-refuses _ (book .count) (patternTest book) [] r n
+    search-refuses _ (book .count) (λ m. patternTest (patternAt book m)) [] r n
     (count-legal-iff 16 (book .count) 0 .1 (up .least, up .most))
     (up .below)
     here
-    (λ m earlier. pattern-legal-iff book m .1 (up .each m earlier))
+    (λ m earlier. pattern-legal-iff (patternAt book m) .1 (up .each m earlier))
 
 -- A record that is no book is refused by the first condition that holds, at place 0.
 pub record-refuses : RecordRefuses
@@ -117,7 +113,8 @@ unfolding recordTest patternTest
 record-refuses =
     record {
       patterns-2 =
-          λ book h. chain-refuses (countTest 16 (book .count) 0) (first 0 (book .count) (patternTest book) ∷ []) (Count 0)
+          λ book h. chain-refuses (countTest 16 (book .count) 0)
+          (first 0 (book .count) (λ n. patternTest (patternAt book n)) ∷ []) (Count 0)
           (count-refused 16 (book .count) 0 h);
       pixels-2 =
           λ book n up h. pattern-decides book n (Count 0) up
@@ -125,10 +122,10 @@ record-refuses =
           (count-refused 64 (used book n) 0 h));
       coordinate-3 =
           λ book n e up pixels-up h. pattern-decides book n (Coordinate 0) up
-          (pixel-decides book n e (Coordinate 0) pixels-up (either-refused 0 (pixel book n) e h));
+          (pixel-decides (patternAt book n) e (Coordinate 0) pixels-up (either-refused 0 (pixel book n) e h));
       repeat-4 =
           λ book n e l up pixels-up column row earlier same. pattern-decides book n (Repeat 0) up
-          (pixel-decides book n e (Repeat 0) pixels-up (repeat-refused 0 0 (pixel book n) e column row l earlier same));
+          (pixel-decides (patternAt book n) e (Repeat 0) pixels-up (repeat-refused 0 0 (pixel book n) e column row l earlier same));
     }
   where
     used : Book → ℕ → ℕ

@@ -12,7 +12,7 @@ use Rattle.integers.proofs.Divisions.{same-number-means}
 use Rattle.integers.proofs.Comparisons.{leb-iff, and-iff}
 use Rattle.scope.specs.Plans.{Pixel, samePixel, pixelAt, patternAt}
 use Rattle.scope.specs.Numbers.{countTest, small, repeats, pixelTest, patternTest, recordTest}
-use Rattle.scope.specs.promises.Meaning.{InRange, IsPattern, IsBook}
+use Rattle.scope.specs.promises.Meaning.{InRange, PixelLegal, IsPattern, IsBook}
 use Rattle.scope.specs.declared.Pattern.{Pattern}
 use Rattle.scope.specs.declared.Book.{Book}
 use Rattle.scope.specs.declared.Refusal.the-variants.{Count, Coordinate, Repeat}
@@ -57,33 +57,23 @@ no-repeat-iff pixel e = (
 
 -- 3 and 4 at a position, whatever the places
 pub pixel-legal-iff :
-    (i j : ℕ) (pixel : ℕ → Pixel) (e : ℕ) → (pixelTest i j pixel e ≡ none)
-    ↔ (InRange (pixel e .column) × (InRange (pixel e .row) × ((l : ℕ) → l < e → pixel l ≡ pixel e → ⊥)))
+    (i j : ℕ) (pixel : ℕ → Pixel) (e : ℕ) → (pixelTest i j pixel e ≡ none) ↔ PixelLegal pixel e
 unfolding pixelTest
 pixel-legal-iff i j pixel e =
-    test-before (demands-iff _ (Coordinate i) (small-iff (pixel e .column)))
+    Iff·trans
+    (test-before (demands-iff _ (Coordinate i) (small-iff (pixel e .column)))
     (test-before (demands-iff _ (Coordinate j) (small-iff (pixel e .row)))
-    (last-test (refuses-iff _ (Repeat i) (no-repeat-iff pixel e)))) .iff
+    (last-test (refuses-iff _ (Repeat i) (no-repeat-iff pixel e)))) .iff)
+    (λ h. record { column = h .0; row = h .1 .0; new = h .1 .1 }, λ h. (h .column, (h .row, h .new)))
 
 -- 2, 3, 4 of a pattern
-pub pattern-legal-iff : (book : Book) (n : ℕ) → (patternTest book n ≡ none) ↔ IsPattern (patternAt book n)
+pub pattern-legal-iff : (t : Pattern) → (patternTest t ≡ none) ↔ IsPattern t
 unfolding patternTest
-pattern-legal-iff book n =
+pattern-legal-iff t =
     Iff·trans
     (test-before (count-legal-iff 64 (t .used) 0)
-    (last-test (first-iff (t .used) (pixelTest 0 0 (pixelAt t)) _ (pixel-legal-iff 0 0 (pixelAt t)))) .iff) (
-      λ h. record {
-        least = h .0 .0;
-        most = h .0 .1;
-        column = λ e p. h .1 e p .0;
-        row = λ e p. h .1 e p .1 .0;
-        different = λ e l p q. h .1 l q .1 .1 e p;
-      },
-      λ h. ((h .least, h .most), λ e p. (h .column e p, (h .row e p, λ l q. h .different l e q p))),
-    )
-  where
-    t : Pattern
-    t = patternAt book n
+    (last-test (first-iff (t .used) (pixelTest 0 0 (pixelAt t)) _ (pixel-legal-iff 0 0 (pixelAt t)))) .iff)
+    (λ h. record { least = h .0 .0; most = h .0 .1; each = h .1 }, λ h. ((h .least, h .most), h .each))
 
 -- 2, 3, 4 of a book record
 pub book-legal-iff : (book : Book) → (recordTest book ≡ none) ↔ IsBook book
@@ -91,5 +81,5 @@ unfolding recordTest
 book-legal-iff book =
     Iff·trans
     (test-before (count-legal-iff 16 (book .count) 0)
-    (last-test (first-iff (book .count) (patternTest book) _ (pattern-legal-iff book))) .iff)
+    (last-test (first-iff (book .count) (λ n. patternTest (patternAt book n)) _ (λ n. pattern-legal-iff (patternAt book n)))) .iff)
     (λ h. record { least = h .0 .0; most = h .0 .1; each = h .1 }, λ h. ((h .least, h .most), h .each))

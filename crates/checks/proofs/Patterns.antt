@@ -1,7 +1,7 @@
 -- The lists of a record's pixels and patterns by index, and what a legal book gives of them: each pattern of the list is
 -- one of the record, and the pixels of a pattern are all different.
 -- Assumes nothing.
-use Prim.Native.Nat.{ℕ, _<_}
+use Prim.Native.Nat.{ℕ, _≤_, _<_}
 use native.Mathlib.Nat.{zero-add}
 use native.Mathlib.Omega.{arith}
 use mathlib.Core.Path.{_≡_, sym, _∙_, ap, ap₂, subst}
@@ -9,7 +9,7 @@ use mathlib.Core.List.{List, List·Memᴰ}
 use lib.IntN.{ℤ, pos}
 use lib.ListN.{length, getD}
 use Rattle.scope.specs.Plans.{Pixel, at, pixelAt, patternAt, pixels, patterns}
-use Rattle.scope.specs.promises.Meaning.{InRange, IsPattern, IsBook}
+use Rattle.scope.specs.promises.Meaning.{InRange, PixelLegal, IsPattern, IsBook}
 use Rattle.scope.specs.declared.Pattern.{Pattern}
 use Rattle.scope.specs.declared.Book.{Book}
 use Rattle.checks.proofs.Searches.{length-gather, getD-gather, At, mem-gather, gather-mem}
@@ -65,6 +65,17 @@ pub patterns-mem : (book : Book) (n : ℕ) → n < book .count → List·Memᴰ 
 unfolding patterns
 patterns-mem book n h = gather-mem 0 (book .count) (λ n. pixels (patternAt book n)) n (omega arith) (omega arith)
 
+-- a pixel is legal by itself and the pixels before it
+pub legal-same :
+    (e : ℕ) (f g : ℕ → Pixel) → ((l : ℕ) → l ≤ e → f l ≡ g l) → PixelLegal f e → PixelLegal g e
+legal-same e f g same legal =
+    let here = same e (omega arith) in
+    record {
+      column = rw here at (legal .column);
+      row = rw here at (legal .row);
+      new = λ l earlier again. legal .new l earlier (same l (omega arith) ∙ again ∙ sym here);
+    }
+
 -- a list of pixels without a repetition
 abbrev pub Different : List Pixel → Type 0
 Different t = (e l : ℕ) → e < l → l < length t → getD t e origin ≡ getD t l origin → ⊥
@@ -73,14 +84,14 @@ Different t = (e l : ℕ) → e < l → l < length t → getD t e origin ≡ get
 pub pattern-different : (t : Pattern) → IsPattern t → Different (pixels t)
 pattern-different t legal e l h k same =
     let k′ : l < t .used = omega (arith, length-pixels t) in
-    legal .different e l h k′
+    legal .each l k′ .new e h
     (sym (getD-pixels t e origin (omega arith)) ∙ same ∙ getD-pixels t l origin k′)
 
 pub pattern-in-range : {v : Pixel} (t : Pattern) → IsPattern t → List·Memᴰ v (pixels t) → InRange (v .column) × InRange (v .row)
 pattern-in-range {v} t legal m = at-position (mem-pixels t m)
   where
     at-position : (e : ℕ) × (e < t .used) × (pixelAt t e ≡ v) → InRange (v .column) × InRange (v .row)
-    at-position (e, h, is) = (rw is at (legal .column e h), rw is at (legal .row e h))
+    at-position (e, h, is) = (rw is at (legal .each e h .column), rw is at (legal .each e h .row))
 
 -- so are those of each pattern of a legal book
 pub different-in-book : (book : Book) (t : List Pixel) → List·Memᴰ t (patterns book) → IsBook book → Different t

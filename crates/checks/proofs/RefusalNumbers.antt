@@ -68,10 +68,9 @@ module _ {these : ℕ → Type 0} where
         (numbers-before (whenever-numbers (not (small (pixel e .row))) (Coordinate j) three)
         (last-numbers (whenever-numbers (repeats pixel e) (Repeat i) four))) .chain
 
-    pattern-numbers : (book : Book) (n : ℕ) → Numbers these (patternTest book n)
+    pattern-numbers : (t : Pattern) → Numbers these (patternTest t)
     unfolding patternTest
-    pattern-numbers book n =
-        let t : Pattern = patternAt book n in
+    pattern-numbers t =
         numbers-before (count-numbers 64 (t .used) 0)
         (last-numbers (first-numbers 0 (t .used) (pixelTest 0 0 (pixelAt t)) (pixel-numbers 0 0 (pixelAt t)))) .chain
 
@@ -79,7 +78,7 @@ module _ {these : ℕ → Type 0} where
     unfolding recordTest
     record-numbers book =
         numbers-before (count-numbers 16 (book .count) 0)
-        (last-numbers (first-numbers 0 (book .count) (patternTest book) (pattern-numbers book))) .chain
+        (last-numbers (first-numbers 0 (book .count) (λ n. patternTest (patternAt book n)) (λ n. pattern-numbers (patternAt book n)))) .chain
 
     -- the finder's tests give these and 6
     find-numbers : these 6 → (book : Book) (limit : ℕ) → Numbers these (findTest book limit)

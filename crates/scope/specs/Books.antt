@@ -31,19 +31,20 @@ unfolding byte
 start s zero = 1
 start s (suc n) = start s n + 1 + 2 * byte s (start s n)
 
--- the place of the pixel at position e of pattern n, "column then row"
-unfoldable pub place : List ℕ → ℕ → ℕ → ℕ
-unfolding start
-place s n e = start s n + 1 + 2 * e
+-- "two bytes each, column then row": the pixel at position e of those that begin at place i
+unfoldable pub pixelFrom : List ℕ → ℕ → ℕ → Pixel
+unfolding signed byte
+pixelFrom s i e = record { column = signed (byte s (i + 2 * e)); row = signed (byte s (i + 2 * e + 1)) }
 
-unfoldable pub pixelIn : List ℕ → ℕ → ℕ → Pixel
-unfolding signed byte place
-pixelIn s n e = record { column = signed (byte s (place s n e)); row = signed (byte s (place s n e + 1)) }
+-- "its pixel count and its pixels": the pattern whose pixel count is at place i
+unfoldable pub patternFrom : List ℕ → ℕ → List Pixel
+unfolding gather pixelFrom byte
+patternFrom s i = gather 0 (byte s i) (pixelFrom s (i + 1))
 
 -- "that pattern's pixel bytes as the part of the book where they stand": from the first pixel's place on, two to a pixel
 unfoldable pub partIn : List ℕ → ℕ → List ℕ
-unfolding byte start place
-partIn s n = take (2 * byte s (start s n)) (drop (place s n 0) s)
+unfolding byte start
+partIn s n = take (2 * byte s (start s n)) (drop (start s n + 1) s)
 
 -- "a fixed array of 16 patterns, each with its arrays of 64 columns and rows and a count": the record of a list of
 -- patterns. "The unused entries don't count; a reader sets them to 0."
@@ -66,8 +67,8 @@ bookOf ts = record { patterns = filled 16 (patternOf []) (map patternOf ts); cou
 
 -- the record of a book's bytes
 unfoldable pub bookIn : List ℕ → Book
-unfolding bookOf gather pixelIn byte start
-bookIn s = bookOf (gather 0 (byte s 0) λ n. gather 0 (byte s (start s n)) (pixelIn s n))
+unfolding bookOf gather patternFrom byte start
+bookIn s = bookOf (gather 0 (byte s 0) λ n. patternFrom s (start s n))
 
 -- and the bytes of a record
 unfoldable pub pixelBytes : Pixel → List ℕ

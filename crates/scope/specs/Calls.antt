@@ -1,7 +1,7 @@
 -- Every call of document 01: the checks that concern it, in the order "book 1-5, 6, 8, 9, 11, 12, 13, 17, then 10, 18, 14,
 -- 15, 16, with 7 last", its answer, and the final content of what it was lent. "buffers and lists stay unchanged" on a refusal.
 -- Assumes nothing.
-use Prim.Native.Nat.{ℕ, _-_}
+use Prim.Native.Nat.{ℕ, _+_, _-_}
 use mathlib.Core.Bool.{Bool, true, false}
 use mathlib.Core.Option.{Option, none, some}
 use mathlib.Core.List.{List, [], _∷_, map}
@@ -11,7 +11,7 @@ use Rattle.scope.specs.Search.{firstOf}
 use Rattle.scope.specs.Plans.{Pixel, plus, pixels, patterns, patternAt, banks, normalForm}
 use Rattle.scope.specs.Finding.{leastPlan, leastCount, clash}
 use Rattle.scope.specs.Banks.{bankOf, addressOf, depthOf, pixelOf, wordIn, afterStore, afterClear, bankSum, overStart, wrapped}
-use Rattle.scope.specs.Books.{byte, place, partIn, bookIn, bookOf, bookBytes}
+use Rattle.scope.specs.Books.{byte, start, partIn, bookIn, bookOf, bookBytes}
 use Rattle.scope.specs.Numbers.{bytesTest, recordTest, limitTest, dependentTest, largeTest, suitsTest, planTest, sidesTest, memoryTest, outsideTest, bankTest, cellTest, outputTest, numberTest, ringTest}
 use Rattle.scope.specs.declared.Plan.{Plan}
 use Rattle.scope.specs.declared.Book.{Book}
@@ -63,8 +63,8 @@ partOutcome s n = answered (partTest s n) Outcome.Refused Outcome.Done
 
 -- "the part of the book where they stand": where it begins, the first pixel's place; an empty part is at the start
 unfoldable pub partPlace : List ℕ → ℕ → ℕ
-unfolding answered partTest place
-partPlace s n = answered (partTest s n) (λ r. 0) (place s n 0)
+unfolding answered partTest start
+partPlace s n = answered (partTest s n) (λ r. 0) (start s n + 1)
 
 -- "A call given a book record tests 2, 3, 4 in book order": that test by itself
 unfoldable pub recordOutcome : Book → Outcome

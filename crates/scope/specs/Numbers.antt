@@ -12,8 +12,9 @@ use Rattle.scope.specs.Search.{first, whenever, firstOf, every, someBelo
 use Rattle.scope.specs.Plans.{Pixel, at, samePixel, pixelAt, patternAt, pixels, banks, isPlan, determinantSize}
 use Rattle.scope.specs.Finding.{clashIn}
 use Rattle.scope.specs.Banks.{inside, depthOf, pixelOf}
-use Rattle.scope.specs.Books.{byte, start, place, pixelIn}
+use Rattle.scope.specs.Books.{byte, start, pixelFrom}
 use Rattle.scope.specs.declared.Plan.{Plan}
+use Rattle.scope.specs.declared.Pattern.{Pattern}
 use Rattle.scope.specs.declared.Book.{Book}
 use Rattle.scope.specs.declared.Pattern.{Pattern}
 use Rattle.scope.specs.declared.Clash.{Clash}
@@ -119,35 +120,34 @@ pixelTest i j pixel e =
     ∷ [])
 
 -- "A call given a book record tests 2, 3, 4 in book order"; the place is 0
-unfoldable pub patternTest : Book → ℕ → Option Refusal
-unfolding firstOf first countTest pixelTest pixelAt patternAt
-patternTest book n =
-    firstOf
-    (countTest 64 (patternAt book n .used) 0
-    ∷ first 0 (patternAt book n .used) (pixelTest 0 0 (pixelAt (patternAt book n)))
-    ∷ [])
+unfoldable pub patternTest : Pattern → Option Refusal
+unfolding firstOf first countTest pixelTest pixelAt
+patternTest t = firstOf (countTest 64 (t .used) 0 ∷ first 0 (t .used) (pixelTest 0 0 (pixelAt t)) ∷ [])
 
 unfoldable pub recordTest : Book → Option Refusal
-unfolding firstOf first countTest patternTest
-recordTest book = firstOf (countTest 16 (book .count) 0 ∷ first 0 (book .count) (patternTest book) ∷ [])
+unfolding firstOf first countTest patternTest patternAt
+recordTest book =
+    firstOf (countTest 16 (book .count) 0 ∷ first 0 (book .count) (λ n. patternTest (patternAt book n)) ∷ [])
 
 -- "A book is read left to right: a count is tested when reached"; 1: "book ends early", at the book's length
 unfoldable pub countRead : List ℕ → ℕ → ℕ → Option Refusal
 unfolding firstOf whenever countTest byte
 countRead s most i = firstOf (whenever (leb (length s) i) (Ends (length s)) ∷ countTest most (byte s i) i ∷ [])
 
--- "both bytes of a pixel must be there before its column, its row, then repetition are tested"
+-- "both bytes of a pixel must be there before its column, its row, then repetition are tested": the pixel at position e of
+-- those that begin at place i
 unfoldable pub pixelRead : List ℕ → ℕ → ℕ → Option Refusal
-unfolding firstOf whenever pixelTest place pixelIn
-pixelRead s n e =
+unfolding firstOf whenever pixelTest pixelFrom
+pixelRead s i e =
     firstOf
-    (whenever (ltb (length s) (place s n e + 2)) (Ends (length s))
-    ∷ pixelTest (place s n e) (place s n e + 1) (pixelIn s n) e
+    (whenever (ltb (length s) (i + 2 * e + 2)) (Ends (length s))
+    ∷ pixelTest (i + 2 * e) (i + 2 * e + 1) (pixelFrom s i) e
     ∷ [])
 
+-- the pattern whose pixel count is at place i
 unfoldable pub patternRead : List ℕ → ℕ → Option Refusal
-unfolding firstOf first countRead pixelRead byte start
-patternRead s n = firstOf (countRead s 64 (start s n) ∷ first 0 (byte s (start s n)) (pixelRead s n) ∷ [])
+unfolding firstOf first countRead pixelRead byte
+patternRead s i = firstOf (countRead s 64 i ∷ first 0 (byte s i) (pixelRead s (i + 1)) ∷ [])
 
 -- 5: "bytes after the last pattern", at the first extra byte
 unfoldable pub extraTest : List ℕ → Option Refusal
@@ -155,8 +155,9 @@ unfolding whenever start byte
 extraTest s = whenever (ltb (start s (byte s 0)) (length s)) (Extra (start s (byte s 0)))
 
 unfoldable pub bytesTest : List ℕ → Option Refusal
-unfolding firstOf first countRead patternRead extraTest byte
-bytesTest s = firstOf (countRead s 16 0 ∷ first 0 (byte s 0) (patternRead s) ∷ extraTest s ∷ [])
+unfolding firstOf first countRead patternRead extraTest byte start
+bytesTest s =
+    firstOf (countRead s 16 0 ∷ first 0 (byte s 0) (λ n. patternRead s (start s n)) ∷ extraTest s ∷ [])
 
 -- 6: "limit not 1-1024"
 unfoldable pub limitTest : ℕ → Option Refusal

@@ -9,8 +9,8 @@ use mathlib.Core.List.{List, [], _∷_, _++_}
 use lib.ListN.{length, length-append}
 use Rattle.integers.proofs.Comparisons.{leb-false-iff}
 use Rattle.scope.specs.Search.{first, firstOf}
-use Rattle.scope.specs.Books.{byte, start, place, pixelIn}
-use Rattle.scope.specs.Numbers.{pixelTest, countRead, pixelRead, patternRead, bytesTest}
+use Rattle.scope.specs.Books.{byte, start, pixelFrom}
+use Rattle.scope.specs.Numbers.{countRead, pixelRead, patternRead, bytesTest}
 use Rattle.scope.specs.Calls.{readBook}
 use Rattle.scope.specs.Program.{refusedLine, programText}
 use Rattle.scope.specs.declared.Refusal.{Refusal}
@@ -18,28 +18,21 @@ use Rattle.scope.specs.declared.Refusal.the-variants.{Extra}
 use Rattle.scope.specs.declared.Reading.{Reading}
 use Rattle.checks.proofs.Searches.{Found, first-found, first-none, first-same}
 use Rattle.checks.proofs.Chains.{answered-some}
-use Rattle.book.specs.Scan.{pixelFrom}
 use Rattle.book.proofs.Unused.{pixelTest-same}
 use Rattle.text.proofs.ProgramText.{text-of-refused}
 use Rattle.book.proofs.Reading.{FromTo, count-read-iff, pattern-read-iff, bytes-read-iff}
-use Rattle.book.proofs.Longer.{extra-decides, same-byte, same-start, same-count, same-place, same-pixel}
-use Rattle.book.proofs.Scanning.{pattern-read-from, pixel-read-from, both-there, count-decides-from}
+use Rattle.book.proofs.Longer.{extra-decides, same-byte, same-start, same-pixel}
+use Rattle.book.proofs.Scanning.{both-there, count-decides-from}
 use Rattle.book.proofs.ReaderRefusals.{first-count-decides}
 use Rattle.book.proofs.Scanned.{pattern-decides}
 
 -- Each pattern that is read has at most 1 + 2 × 64 bytes.
-start-at-most : (s : List ℕ) (n : ℕ) → ((m : ℕ) → m < n → patternRead s m ≡ none) → start s n ≤ 1 + 129 * n
+start-at-most : (s : List ℕ) (n : ℕ) → ((m : ℕ) → m < n → patternRead s (start s m) ≡ none) → start s n ≤ 1 + 129 * n
 unfolding start
 start-at-most s zero before = omega arith
 start-at-most s (suc n) before =
-    let ((_, (_, most)), _) = pattern-read-iff s n .0 (before n (omega arith)) in
+    let ((_, (_, most)), _) = pattern-read-iff s (start s n) .0 (before n (omega arith)) in
     omega (arith, start-at-most s n (λ m h. before m (omega arith)))
-
--- A pixel whose bytes are there is tested by column, row and repetition alone.
-pixel-there : (s : List ℕ) (n e : ℕ) → place s n e + 2 ≤ length s
-    → pixelRead s n e ≡ pixelTest (place s n e) (place s n e + 1) (pixelIn s n) e
-unfolding place pixelIn pixelFrom
-pixel-there s n e h = pixel-read-from s n e ∙ both-there s (start s n + 1) e h
 
 -- Bytes s with rest after them: what looks only at places before the end of s finds the same.
 module _ (s rest : List ℕ) where
@@ -50,42 +43,34 @@ module _ (s rest : List ℕ) where
       let still = leb-false-iff (length (s ++ rest)) i .1 (omega (arith, length-append s rest)) in
       rw (there, still, same-byte s rest i h) refl
 
-  same-pixel-read : (n e : ℕ) → place s n e + 2 ≤ length s → pixelRead (s ++ rest) n e ≡ pixelRead s n e
-  unfolding place
-  same-pixel-read n e inside =
-      let same = same-place s rest n e (omega arith) in
-      pixel-there (s ++ rest) n e (omega (arith, same, length-append s rest))
-      ∙ ap (λ i. pixelTest i (i + 1) (pixelIn (s ++ rest) n) e) same
-      ∙ pixelTest-same (place s n e) (place s n e + 1) e (pixelIn (s ++ rest) n) (pixelIn s n)
-      (λ l before. same-pixel s rest n l (omega arith))
-      ∙ sym (pixel-there s n e inside)
+  same-pixel-read : (i e : ℕ) → i + 2 * e + 2 ≤ length s → pixelRead (s ++ rest) i e ≡ pixelRead s i e
+  same-pixel-read i e inside =
+      both-there (s ++ rest) i e (omega (arith, length-append s rest))
+      ∙ pixelTest-same (i + 2 * e) (i + 2 * e + 1) e (pixelFrom (s ++ rest) i) (pixelFrom s i)
+      (λ l before. same-pixel s rest i l (omega arith))
+      ∙ sym (both-there s i e inside)
 
-  -- a pattern's count is refused, or at most 64
-  module _ (n : ℕ) (inside : start s n + 129 ≤ length s) where
-    same-pattern-count : countRead (s ++ rest) 64 (start (s ++ rest) n) ≡ countRead s 64 (start s n)
-    same-pattern-count =
-        ap (countRead (s ++ rest) 64) (same-start s rest n (omega arith)) ∙ same-count-read 64 (start s n) (omega arith)
-
+  -- a pattern's count, at place i, is refused, or at most 64
+  module _ (i : ℕ) (inside : i + 129 ≤ length s) where
     same-pixels-read :
-        byte s (start s n) ≤ 64
-        → first 0 (byte (s ++ rest) (start (s ++ rest) n)) (pixelRead (s ++ rest) n) ≡ first 0 (byte s (start s n)) (pixelRead s n)
-    unfolding place
+        byte s i ≤ 64 → first 0 (byte (s ++ rest) i) (pixelRead (s ++ rest) (i + 1)) ≡ first 0 (byte s i) (pixelRead s (i + 1))
     same-pixels-read most =
-        ap (λ u. first 0 u (pixelRead (s ++ rest) n)) (same-count s rest n (omega arith))
-        ∙ first-same 0 (byte s (start s n)) (pixelRead (s ++ rest) n) (pixelRead s n) (λ e _ h. same-pixel-read n e (omega arith))
+        ap (λ u. first 0 u (pixelRead (s ++ rest) (i + 1))) (same-byte s rest i (omega arith))
+        ∙ first-same 0 (byte s i) (pixelRead (s ++ rest) (i + 1)) (pixelRead s (i + 1))
+        (λ e _ h. same-pixel-read (i + 1) e (omega arith))
 
-    same-pattern-read : patternRead (s ++ rest) n ≡ patternRead s n
+    same-pattern-read : patternRead (s ++ rest) i ≡ patternRead s i
     unfolding patternRead
-    same-pattern-read = by-count (countRead s 64 (start s n)) refl
+    same-pattern-read = by-count (countRead s 64 i) refl
       where
-        by-count : (t : Option Refusal) → countRead s 64 (start s n) ≡ t → patternRead (s ++ rest) n ≡ patternRead s n
+        same-count : countRead (s ++ rest) 64 i ≡ countRead s 64 i
+        same-count = same-count-read 64 i (omega arith)
+
+        by-count : (t : Option Refusal) → countRead s 64 i ≡ t → patternRead (s ++ rest) i ≡ patternRead s i
         by-count none e =
-            ap₂ (λ t u. firstOf (t ∷ u ∷ [])) same-pattern-count
-            (same-pixels-read (count-read-iff s 64 (start s n) .0 e .1 .1))
+            ap₂ (λ t u. firstOf (t ∷ u ∷ [])) same-count (same-pixels-read (count-read-iff s 64 i .0 e .1 .1))
         by-count (some r) e =
-            pattern-read-from (s ++ rest) n
-            ∙ count-decides-from (s ++ rest) (start (s ++ rest) n) r (same-pattern-count ∙ e)
-            ∙ sym (pattern-read-from s n ∙ count-decides-from s (start s n) r e)
+            count-decides-from (s ++ rest) i r (same-count ∙ e) ∙ sym (count-decides-from s i r e)
 
 -- For bytes that are refused the program writes the refusal's line.
 refused-text : (s : List ℕ) (r : Refusal) → bytesTest s ≡ some r → refusedLine r ≡ programText s
@@ -108,12 +93,20 @@ module _ (s rest : List ℕ) (long : 2065 < length s) where
     legal : FromTo 16 (byte s 0)
     legal = count-read-iff s 16 0 .0 counted .1
 
-    read-alike :
-        (n : ℕ) → n < byte s 0 → ((m : ℕ) → m < n → patternRead s m ≡ none) → patternRead (s ++ rest) n ≡ patternRead s n
-    read-alike n below before = same-pattern-read s rest n (omega (arith, legal, start-at-most s n before))
+    -- pattern n, as its tests find it in s and in the longer bytes
+    abbrev in-short : ℕ → Option Refusal
+    in-short n = patternRead s (start s n)
+
+    abbrev in-long : ℕ → Option Refusal
+    in-long n = patternRead (s ++ rest) (start (s ++ rest) n)
+
+    read-alike : (n : ℕ) → n < byte s 0 → ((m : ℕ) → m < n → in-short m ≡ none) → in-long n ≡ in-short n
+    read-alike n below before =
+        let inside : start s n + 129 ≤ length s = omega (arith, legal, start-at-most s n before) in
+        ap (patternRead (s ++ rest)) (same-start s rest n (omega arith)) ∙ same-pattern-read s rest (start s n) inside
 
     -- that one decides
-    pattern-refused : (r : Refusal) → Found 0 (byte s 0) (patternRead s) r → bytesTest (s ++ rest) ≡ bytesTest s
+    pattern-refused : (r : Refusal) → Found 0 (byte s 0) in-short r → bytesTest (s ++ rest) ≡ bytesTest s
     pattern-refused r found =
         pattern-decides (s ++ rest) (omega (arith, still-long)) (rw same-first-count legal) n r
         (omega (arith, same-first-count)) still-before (read-alike n below before ∙ found .here)
@@ -125,14 +118,14 @@ module _ (s rest : List ℕ) (long : 2065 < length s) where
         below : n < byte s 0
         below = omega (arith, found .below)
 
-        before : (m : ℕ) → m < n → patternRead s m ≡ none
+        before : (m : ℕ) → m < n → in-short m ≡ none
         before m h = found .before m (omega arith) h
 
-        still-before : (m : ℕ) → m < n → patternRead (s ++ rest) m ≡ none
+        still-before : (m : ℕ) → m < n → in-long m ≡ none
         still-before m h = read-alike m (omega (arith, below)) (λ l k. before l (omega arith)) ∙ before m h
 
     -- and where all are read, the byte after the last does
-    all-read : ((n : ℕ) → n < byte s 0 → patternRead s n ≡ none) → bytesTest (s ++ rest) ≡ bytesTest s
+    all-read : ((n : ℕ) → n < byte s 0 → in-short n ≡ none) → bytesTest (s ++ rest) ≡ bytesTest s
     all-read each =
         extra-decides (s ++ rest) (same-first-read ∙ counted) (λ n h. still n (omega (arith, same-first-count)))
         (omega (arith, still-long, same-end, end))
@@ -142,29 +135,29 @@ module _ (s rest : List ℕ) (long : 2065 < length s) where
         end : start s (byte s 0) ≤ 2065
         end = omega (arith, legal, start-at-most s (byte s 0) each)
 
-        still : (n : ℕ) → n < byte s 0 → patternRead (s ++ rest) n ≡ none
+        still : (n : ℕ) → n < byte s 0 → in-long n ≡ none
         still n below = read-alike n below (λ m h. each m (omega arith)) ∙ each n below
 
         same-end : start (s ++ rest) (byte (s ++ rest) 0) ≡ start s (byte s 0)
         same-end = ap (start (s ++ rest)) same-first-count ∙ same-start s rest (byte s 0) (omega (arith, end))
 
-    by-patterns : (t : Option Refusal) → first 0 (byte s 0) (patternRead s) ≡ t → bytesTest (s ++ rest) ≡ bytesTest s
-    by-patterns none e = all-read (λ n h. first-none 0 (byte s 0) (patternRead s) e n (omega arith) (omega arith))
-    by-patterns (some r) e = pattern-refused r (first-found 0 (byte s 0) (patternRead s) r e)
+    by-patterns : (t : Option Refusal) → first 0 (byte s 0) in-short ≡ t → bytesTest (s ++ rest) ≡ bytesTest s
+    by-patterns none e = all-read (λ n h. first-none 0 (byte s 0) in-short e n (omega arith) (omega arith))
+    by-patterns (some r) e = pattern-refused r (first-found 0 (byte s 0) in-short r e)
 
   -- What comes after them does not count,
   long-input-decided : bytesTest (s ++ rest) ≡ bytesTest s
   long-input-decided = by-count (countRead s 16 0) refl
     where
       by-count : (t : Option Refusal) → countRead s 16 0 ≡ t → bytesTest (s ++ rest) ≡ bytesTest s
-      by-count none e = by-patterns e (first 0 (byte s 0) (patternRead s)) refl
+      by-count none e = by-patterns e (first 0 (byte s 0) (in-short e)) refl
       by-count (some r) e = first-count-decides (s ++ rest) r (same-first-read ∙ e) ∙ sym (first-count-decides s r e)
 
   -- they are always refused,
   long-input-refused : bytesTest s ≡ none → ⊥
   long-input-refused taken =
       let ((_, (_, most)), (each, over)) = bytes-read-iff s .0 taken in
-      omega (arith, start-at-most s (byte s 0) (λ n h. pattern-read-iff s n .1 (each n h)))
+      omega (arith, start-at-most s (byte s 0) (λ n h. pattern-read-iff s (start s n) .1 (each n h)))
 
   -- and the program writes the same.
   pub long-input-text : programText (s ++ rest) ≡ programText s

@@ -56,13 +56,17 @@ pub record IsPicture (p : Plan) (W H words : ℕ) : Type 0 where
 abbrev pub InRange : ℤ → Type 0
 InRange z = (negsuc 15 ≤ℤ z) × (z ≤ℤ pos 15)
 
+-- "different pixels, each coordinate from -16 to 15": the pixel at position e is a legal one after those before it
+pub record PixelLegal (pixel : ℕ → Pixel) (e : ℕ) : Type 0 where
+  pub column : InRange (pixel e .column)
+  pub row : InRange (pixel e .row)
+  pub new : (l : ℕ) → l < e → pixel l ≡ pixel e → ⊥
+
 -- "A pattern is 1 to 64 different pixels"
 pub record IsPattern (t : Pattern) : Type 0 where
   pub least : 1 ≤ t .used
   pub most : t .used ≤ 64
-  pub column : (e : ℕ) → e < t .used → InRange (pixelAt t e .column)
-  pub row : (e : ℕ) → e < t .used → InRange (pixelAt t e .row)
-  pub different : (e l : ℕ) → e < l → l < t .used → pixelAt t e ≡ pixelAt t l → ⊥
+  pub each : (e : ℕ) → e < t .used → PixelLegal (pixelAt t) e
 
 -- "A book has 1 to 16 patterns, numbered from 0."
 pub record IsBook (book : Book) : Type 0 where

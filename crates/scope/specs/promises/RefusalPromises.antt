@@ -3,17 +3,17 @@
 -- Assumes nothing.
 use Prim.Native.Nat.{ℕ, suc, _*_, _≤_, _<_}
 use mathlib.Core.Path.{_≡_}
-use mathlib.Core.Logic.{_⊎_}
 use mathlib.Core.Bool.{true, false}
 use mathlib.Core.Option.{Option, none, some}
 use mathlib.Core.List.{List, [], _∷_, _++_, map, flatMap, List·Memᴰ}
-use lib.ListN.{length}
+use lib.IntN.{pos}
+use lib.ListN.{length, getD}
 use Rattle.scope.specs.Plans.{Pixel, at, pixelAt, patternAt, pixels, banks, suits, determinantSize}
 use Rattle.scope.specs.Banks.{depthOf}
 use Rattle.scope.specs.Books.{signed, patternOf, bookOf, pixelBytes, patternBytes, bookBytes}
 use Rattle.scope.specs.Numbers.{Answer, value, refusal, turnedDown, ofPlanned, ofCounted, ofLoaded, ofLocated, ofOutcome, ofVerdict, recordTest}
 use Rattle.scope.specs.Calls.{readBook, partOutcome, recordOutcome, writeBook, normal, find, check, bank, depth, address, locate, store, load, clear, sum, lent, moved, fetch, ringFetch, recordPixel, fillRecords}
-use Rattle.scope.specs.promises.Meaning.{IsPlan, IsSide, Inside, AllInside, IsPicture, InRange, IsPattern, IsBook, Independent, RingAllowed}
+use Rattle.scope.specs.promises.Meaning.{IsPlan, IsSide, Inside, AllInside, IsPicture, InRange, PixelLegal, IsPattern, IsBook, Independent, RingAllowed}
 use Rattle.scope.specs.promises.PicturePromises.{LegalFetch}
 use Rattle.scope.specs.declared.Plan.{Plan}
 use Rattle.scope.specs.declared.Pattern.{Pattern}
@@ -123,13 +123,11 @@ pub record LegalUpTo (book : Book) (n : ℕ) : Type 0 where
   pub below : n < book .count
   pub each : (m : ℕ) → m < n → IsPattern (patternAt book m)
 
--- and of pattern t the pixels before position e are in range and different
+-- and of pattern t the pixels before position e
 pub record PixelsUpTo (t : Pattern) (e : ℕ) : Type 0 where
   pub most : t .used ≤ 64
   pub below : e < t .used
-  pub column : (l : ℕ) → l < e → InRange (pixelAt t l .column)
-  pub row : (l : ℕ) → l < e → InRange (pixelAt t l .row)
-  pub different : (k l : ℕ) → k < l → l < e → pixelAt t k ≡ pixelAt t l → ⊥
+  pub each : (l : ℕ) → l < e → PixelLegal (pixelAt t) l
 
 -- The place "is 0 elsewhere".
 pub record RecordRefuses : Type 0 where
@@ -165,7 +163,7 @@ pub record PixelsSoFar (m : ℕ) (ts : List (List Pixel)) (c : ℕ) (t : List Pi
   pub first : PatternsSoFar m ts
   pub most : c ≤ 64
   pub due : length t < c
-  pub legal : (t ≡ []) ⊎ IsPattern (patternOf t)
+  pub each : (e : ℕ) → e < length t → PixelLegal (λ l. getD t l (at (pos 0) (pos 0))) e
 
 abbrev pub readAnswer : List ℕ → Answer Unit
 readAnswer s = ofOutcome (readBook s .outcome)

@@ -6,12 +6,11 @@ use mathlib.Core.Path.{_≡_, sym, _∙_, ap, ap₂}
 use mathlib.Core.List.{List, []}
 use lib.ListN.{length, take, drop}
 use borrow.Author.Needs.{needs}
-use Rattle.scope.specs.Books.{byte, start, place, partIn}
+use Rattle.scope.specs.Books.{byte, start, partIn}
 use Rattle.scope.specs.Calls.{partTest, partOutcome, patternPart, partPlace}
 use Rattle.scope.specs.declared.Outcome.{Outcome}
 use Rattle.scope.specs.declared.Refusal.{Refusal}
 use Rattle.checks.proofs.Chains.{answered-none, answered-some}
-use Rattle.book.proofs.Bytes.{first-place}
 use Rattle.book.proofs.PartAnswers.{refused-part, taken-part, refused-place, start-shows, taken-place, taken-bounds}
 use Rattle.book.proofs.part.pattern_part.Statement.{statement}
 use Rattle.book.proofs.part.pattern_part.Tie as tie
@@ -32,7 +31,7 @@ module _ (s : List ℕ) (n : ℕ) {outcome : Outcome} (answer : outcome ≡ part
     unfolding patternPart partIn
     part-there =
         let size : at + 1 + 2 * byte s at - (at + 1) ≡ 2 * byte s (start s n) = omega (arith, ap (byte s) is) in
-        let begin : at + 1 ≡ place s n 0 = omega (arith, is, first-place s n) in
+        let begin : at + 1 ≡ start s n + 1 = omega (arith, is) in
         ap₂ (λ k i. take k (drop i s)) size begin
         ∙ sym (answered-none (partTest s n) (λ r. []) (partIn s n) (taken-part s n answer done))
 

@@ -7,9 +7,8 @@ use mathlib.Core.Path.{_≡_, refl, _∙_, ap}
 use mathlib.Core.List.{List, []}
 use lib.ListN.{length, getD, replicate}
 use borrow.Author.Needs.{needs}
-use Rattle.scope.specs.Books.{byte, start, pixelIn, patternOf, bookIn}
+use Rattle.scope.specs.Books.{byte, start, patternFrom, patternOf, bookIn}
 use Rattle.checks.proofs.FilledArrays.{Filled, filled-none, filled-more}
-use Rattle.book.specs.Scan.{patternFrom}
 use Rattle.book.proofs.Bytes.{patternIn}
 use Rattle.book.proofs.Taken.{step-to-next, pattern-bounds, count-inside}
 use Rattle.book.proofs.Fills.{patterns-filled}
@@ -24,11 +23,6 @@ Inv-loop s patterns₀ count at₀ n₀ patterns at n =
 
 abbrev μ-loop : tie.MeasureT-loop
 μ-loop s patterns₀ count at₀ n₀ patterns at n = count - n
-
--- the pattern at the place of pattern n's pixel count is pattern n
-pattern-there : {at : ℕ} (s : List ℕ) (n : ℕ) → at ≡ start s n → patternFrom s at ≡ patternOf (patternIn s n)
-unfolding patternFrom pixelIn
-pattern-there s n is = ap (patternFrom s) is
 
 -- at the loop's head: the bytes s are a book's
 module _ (l : tie.At-loop Inv-loop μ-loop) where
@@ -68,7 +62,7 @@ loop-again c =
     let (below, here, filled) = l .loop .inv in (
       omega arith,
       step-to-next (s l) n here,
-      filled-more filled (k .pattern-at .ensures ∙ pattern-there (s l) n here),
+      filled-more filled (k .pattern-at .ensures ∙ ap (λ i. patternOf (patternFrom (s l) i)) here),
     )
 
 returns : tie.Need-returns Inv-loop μ-loop

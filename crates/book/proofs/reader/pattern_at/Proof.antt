@@ -8,9 +8,8 @@ use lib.ListN.{getD}
 use mir.Syntax.{w8}
 use borrow.Author.Needs.{needs}
 use Rattle.integers.proofs.Raised.{number-handed}
-use Rattle.scope.specs.Books.{byte}
+use Rattle.scope.specs.Books.{byte, pixelFrom, patternFrom}
 use Rattle.checks.proofs.FilledArrays.{Filled, filled-none, filled-more}
-use Rattle.book.specs.Scan.{pixelFrom, patternFrom}
 use Rattle.book.proofs.Fills.{pixels-filled}
 use Rattle.book.proofs.reader.pattern_at.Statement.{statement}
 use Rattle.book.proofs.reader.pattern_at.Tie as tie

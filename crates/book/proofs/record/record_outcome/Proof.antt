@@ -41,7 +41,7 @@ unfolding patternAt
 loop-again c =
     let t = c .before .before in (
       omega arith,
-      one-more-passed _ (t .pattern-outcome .ensures) refl (head t .loop .inv .1) (c .enum-told2 .given .1),
+      one-more-passed (head t .before .before .before .args .t1) (t .pattern-outcome .ensures) refl (head t .loop .inv .1) (c .enum-told2 .given .1),
     )
 
 returns-4 : tie.Need-returns-4 Inv-loop μ-loop

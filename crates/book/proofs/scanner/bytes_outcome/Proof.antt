@@ -14,12 +14,11 @@ use Rattle.scope.specs.Numbers.{countRead, patternRead, bytesTest}
 use Rattle.scope.specs.declared.Refusal.{Refusal}
 use Rattle.scope.specs.declared.Refusal.the-variants.{Ends, Extra}
 use Rattle.scope.specs.declared.Outcome.{Outcome}
-use Rattle.book.specs.Scan.{outcomeOf, patternReadFrom}
+use Rattle.book.specs.Scan.{outcomeOf}
 use Rattle.book.proofs.Outcomes.{answered-by-refusal, answered-by-done, done-found-nothing, refused-found}
 use Rattle.book.proofs.ReaderRefusals.{ends-before-count, count-not-taken, first-count-decides}
 use Rattle.book.proofs.Longer.{extra-decides}
 use Rattle.book.proofs.Reading.{count-read-iff}
-use Rattle.book.proofs.Scanning.{pattern-read-from}
 use Rattle.book.proofs.Scanned.{read-pattern-inside, pattern-decides, all-taken}
 use Rattle.book.proofs.Taken.{step-to-next}
 use Rattle.book.proofs.scanner.bytes_outcome.Statement.{statement}
@@ -34,18 +33,18 @@ record Scanned (s : List ℕ) (count at n : ℕ) : Type 0 where
   below : n ≤ count
   here : at ≡ start s n
   inside : at ≤ length s
-  passed : (m : ℕ) → m < n → patternRead s m ≡ none
+  passed : (m : ℕ) → m < n → patternRead s (start s m) ≡ none
 
 module _ {s : List ℕ} {count at n : ℕ} (scanned : Scanned s count at n) where
   -- the tests of the n-th pattern are those of the one at the place
-  by-place : patternRead s n ≡ patternReadFrom s at
-  by-place = pattern-read-from s n ∙ ap (patternReadFrom s) (sym (scanned .here))
+  by-place : patternRead s (start s n) ≡ patternRead s at
+  by-place = ap (patternRead s) (sym (scanned .here))
 
   -- and where they find nothing, its pixels are there, and the scan goes on
-  module _ (passes : patternReadFrom s at ≡ none) where
+  module _ (passes : patternRead s at ≡ none) where
     pixels-inside : at + 1 + 2 * getD s at 0 ≤ length s
     unfolding byte
-    pixels-inside = rw (scanned .here) (read-pattern-inside s n (by-place ∙ passes))
+    pixels-inside = read-pattern-inside s at passes
 
     goes-on : n < count → Scanned s count (at + 1 + 2 * getD s at 0) (n + 1)
     unfolding byte
@@ -113,7 +112,7 @@ module _ (c : tie.After-enum-told2 Inv-loop μ-loop) where
   abbrev at : ℕ
   at = head tested .loop .at
 
-  passes : patternReadFrom (s tested) at ≡ none
+  passes : patternRead (s tested) at ≡ none
   passes = done-found-nothing _ (tested .pattern-outcome .ensures) (c .enum-told2 .given .1)
 
   pattern-inside : at + 1 + 2 * getD (s tested) at 0 ≤ length (s tested)

@@ -7,10 +7,10 @@ use mathlib.Core.Option.{some}
 use mathlib.Core.List.{List}
 use borrow.Author.Needs.{needs}
 use Rattle.scope.specs.Books.{byte}
-use Rattle.scope.specs.Numbers.{countRead}
+use Rattle.scope.specs.Numbers.{countRead, patternRead}
 use Rattle.scope.specs.declared.Refusal.{Refusal}
 use Rattle.scope.specs.declared.Outcome.{Outcome}
-use Rattle.book.specs.Scan.{outcomeOf, patternReadFrom}
+use Rattle.book.specs.Scan.{outcomeOf}
 use Rattle.book.proofs.Outcomes.{answered-by-refusal}
 use Rattle.book.proofs.ReaderRefusals.{ends-before-count, count-not-taken}
 use Rattle.book.proofs.Scanning.{count-decides-from}
@@ -20,8 +20,8 @@ use Rattle.book.proofs.scanner.pattern_outcome.Tie as tie
 
 -- the refusal of the count is the pattern's
 refused-by-count :
-    (s : List ℕ) (at : ℕ) (r : Refusal) → countRead s 64 at ≡ some r → Outcome.Refused r ≡ outcomeOf (patternReadFrom s at)
-refused-by-count s at r e = answered-by-refusal (patternReadFrom s at) r (count-decides-from s at r e)
+    (s : List ℕ) (at : ℕ) (r : Refusal) → countRead s 64 at ≡ some r → Outcome.Refused r ≡ outcomeOf (patternRead s at)
+refused-by-count s at r e = answered-by-refusal (patternRead s at) r (count-decides-from s at r e)
 
 returns : tie.Need-returns
 returns c = refused-by-count _ _ _ (ends-before-count _ 64 _ (c .if1 .taken))

@@ -1,0 +1,66 @@
+-- `book::cells::pixel_outcome` meets its contract: the cell tells whether column and row are in range, and its flag whether an
+-- earlier pixel has it.
+-- Assumes nothing.
+use Prim.Native.Nat.{_<_}
+use native.Mathlib.Omega.{arith}
+use mathlib.Core.Path.{_≡_, _∙_, ap₂}
+use lib.IntN.{ℤ}
+use mir.Facts.{toZ-ofZ}
+use borrow.Author.Needs.{needs}
+use Rattle.scope.specs.Plans.{Pixel, at}
+use Rattle.book.specs.Scan.{cellOf}
+use Rattle.book.proofs.Window.{cell-at-most, column-tested, row-tested, repeat-tested, new-tested}
+use Rattle.book.proofs.cells.pixel_outcome.Statement.{statement}
+use Rattle.book.proofs.cells.pixel_outcome.Tie as tie
+
+-- where the pixel's cell is known
+module _ (c : tie.After-cell) where
+  abbrev start : tie.Start
+  start = c .before .before
+
+  abbrev v : Pixel
+  v = at (start .args .x) (start .args .y)
+
+  cell-is : c .cell .result ≡ cellOf v
+  cell-is =
+      c .cell .ensures
+      ∙ ap₂ (λ (i j : ℤ). cellOf (at i j)) (toZ-ofZ (start .fits .x)) (toZ-ofZ (start .fits .y))
+
+returns : tie.Need-returns
+returns c = column-tested (cell-is (c .before)) (c .if1 .taken)
+
+returns-2 : tie.Need-returns-2
+returns-2 c = row-tested (cell-is (c .before .before)) (c .if2 .taken)
+
+-- where the cell is one of the window's
+inside : (c : tie.Else2) → c .before .before .cell .result < 1024
+inside c =
+    let k = c .before .before in
+    omega (arith, cell-is k, cell-at-most (v k), c .before .if1 .left, c .if2 .left)
+
+slice-read-if3 : tie.Need-slice-read-if3
+slice-read-if3 c = omega (arith, inside (c .before))
+
+returns-3 : tie.Need-returns-3
+returns-3 c =
+    let k = c .before .before in repeat-tested (cell-is (k .before .before)) (inside k) (c .if3 .taken)
+
+slice-write-seen : tie.Need-slice-write-seen
+slice-write-seen c = omega (arith, inside (c .before .before))
+
+returns-4 : tie.Need-returns-4
+returns-4 c =
+    let k = c .before .before in new-tested (cell-is (k .before .before)) (inside k) (c .if3 .left)
+
+pub pixel-outcome-spec : {M : Type 1} → statement M
+pixel-outcome-spec =
+    tie.close
+    (tie.spec
+    (λ c κs. search needs)
+    returns
+    returns-2
+    slice-read-if3
+    returns-3
+    slice-write-seen
+    (λ c. search needs)
+    returns-4)
