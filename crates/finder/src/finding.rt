@@ -14,7 +14,7 @@ ghost use Prim.Native.Nat.{_+_, _%_, _≤_, _<_};
 ghost use lib.ListN.{length, replicate};
 ghost use Rattle.scope.specs.Search.{first};
 ghost use Rattle.scope.specs.Plans.{at, minus};
-ghost use Rattle.scope.specs.Finding.{trial, leastD, leastPlan};
+ghost use Rattle.scope.specs.Finding.{trial, firstWith, leastOf};
 ghost use Rattle.scope.specs.Numbers.{recordTest};
 ghost use Rattle.scope.specs.Calls.{find};
 ghost use Rattle.finder.specs.Table.{tableCell, markFrom, markPattern, markBook, rowMarked, rowsMarked, SearchedIn};
@@ -126,7 +126,7 @@ fn rows_marked(marks: &[u8], a: usize, b: usize, d: usize, s: usize) -> bool
 // Of the suiting plans with this a and d the one with least b; the table is that of a book.
 fn least_b(marks: &[u8], a: usize, d: usize) -> Planned
     requires { ⌜ (length (now marks) ≡ 2017) × (1 ≤ a) × (a ≤ 1024) × (1 ≤ d) × (d ≤ 1024) ⌝ }
-    ensures { λ r. ⌜ SearchedIn (now (marks .entry)) (λ ts. first 0 a (trial ts a d)) r ⌝ }
+    ensures { λ r. ⌜ SearchedIn (now (marks .entry)) (λ test. first 0 a (trial test a d)) r ⌝ }
 {
     if row_marked(marks, a, 0, 31 + a) {
         return Planned::Refused(Refusal::NoPlan);
@@ -151,9 +151,9 @@ fn least_b(marks: &[u8], a: usize, d: usize) -> Planned
 }
 
 // Of the suiting plans with n banks the one with least d, then least b.
-fn least_d(marks: &[u8], n: usize) -> Planned
+fn first_with(marks: &[u8], n: usize) -> Planned
     requires { ⌜ (length (now marks) ≡ 2017) × (n ≤ 1024) ⌝ }
-    ensures { λ r. ⌜ SearchedIn (now (marks .entry)) (λ ts. leastD ts n) r ⌝ }
+    ensures { λ r. ⌜ SearchedIn (now (marks .entry)) (λ test. firstWith test n) r ⌝ }
 {
     let mut d = 1;
     while d <= n {
@@ -171,11 +171,11 @@ fn least_d(marks: &[u8], n: usize) -> Planned
 // Of the suiting plans with at most `limit` banks the one with the fewest, or 7.
 fn least_plan(marks: &[u8], limit: usize) -> Planned
     requires { ⌜ (length (now marks) ≡ 2017) × (limit ≤ 1024) ⌝ }
-    ensures { λ r. ⌜ SearchedIn (now (marks .entry)) (λ ts. leastPlan ts limit) r ⌝ }
+    ensures { λ r. ⌜ SearchedIn (now (marks .entry)) (λ test. leastOf test limit) r ⌝ }
 {
     let mut n = 1;
     while n <= limit {
-        let p = least_d(marks, n);
+        let p = first_with(marks, n);
         if let Planned::Plan(_) = p {
             return p;
         }

@@ -9,7 +9,7 @@ use mathlib.Core.List.{List, flatMap, List·Memᴰ}
 use lib.IntN.{natAbs}
 use lib.ListN.{length}
 use Rattle.scope.specs.Plans.{Pixel, minus, differences, pixelAt, patternAt, patterns, banks, Combination, along, up, InLattice, suitsAll, determinantSize, normalForm}
-use Rattle.scope.specs.Finding.{boxWidth, boxHeight}
+use Rattle.scope.specs.Finding.{Before, boxWidth, boxHeight}
 use Rattle.scope.specs.Numbers.{value, refusal, ofPlanned, ofCounted, ofVerdict}
 use Rattle.scope.specs.Calls.{find, check, fetch, ringFetch}
 use Rattle.scope.specs.promises.Meaning.{IsPlan, IsBook, Independent}
@@ -68,12 +68,10 @@ FinderDecides =
     → ((p : Plan) × (ofPlanned (find book limit) ≡ value p)) ⊎ (ofPlanned (find book limit) ≡ refusal 7 0 none)
 
 -- "among equal N the least d, then the least b"
-pub record FirstAmongEqual (book : Book) (p : Plan) : Type 0 where
-  pub least-d : (q : Plan) → IsPlan q → suitsAll q (patterns book) ≡ true → banks q ≡ banks p → p .d ≤ q .d
-  pub least-b : (q : Plan) → IsPlan q → suitsAll q (patterns book) ≡ true → banks q ≡ banks p → q .d ≡ p .d → p .b ≤ q .b
-
 abbrev pub FinderOrder : Type 0
-FinderOrder = (book : Book) (limit : ℕ) (p : Plan) → ofPlanned (find book limit) ≡ value p → FirstAmongEqual book p
+FinderOrder =
+    (book : Book) (limit : ℕ) (p : Plan) → ofPlanned (find book limit) ≡ value p
+    → (q : Plan) → IsPlan q → suitsAll q (patterns book) ≡ true → banks q ≡ banks p → Before p q
 
 -- "w is 1 plus the greatest column difference and h is 1 plus the greatest row difference (1 where there is no difference)"
 pub record BoxMeans (ts : List (List Pixel)) : Type 0 where

@@ -5,7 +5,7 @@ use mathlib.Core.Path.{_≡_, sym, _∙_}
 use mathlib.Core.Option.{Option, some}
 use borrow.Author.Needs.{needs}
 use Rattle.scope.specs.Plans.{patterns, banks}
-use Rattle.scope.specs.Finding.{leastPlan}
+use Rattle.scope.specs.Finding.{suitable, leastPlan}
 use Rattle.scope.specs.Calls.{found}
 use Rattle.scope.specs.declared.Plan.{Plan}
 use Rattle.scope.specs.declared.Book.{Book}
@@ -45,7 +45,7 @@ module _ (c : tie.After-struct-known) where
 mul-result : tie.Need-mul-result
 unfolding banks
 mul-result c =
-    record { fits = omega (arith, least-plan-some (patterns (book (called c))) 1024 _ (found-plan c) .1) }
+    record { fits = omega (arith, least-plan-some (suitable (patterns (book (called c)))) 1024 _ (found-plan c) .1) }
 
 returns : tie.Need-returns
 unfolding banks
