@@ -11,7 +11,7 @@ use Rattle.scope.specs.Finding.{clashIn}
 use Rattle.scope.specs.Banks.{wordIn, overStart, wrapped}
 use Rattle.scope.specs.Books.{bookBytes}
 use Rattle.scope.specs.Numbers.{recordTest, planTest, sidesTest, memoryTest, numberTest, suitsTest, outsideTest, ringTest, outputTest}
-use Rattle.scope.specs.Calls.{changed, Result, writeBook, findTest, find, checkTest, check}
+use Rattle.scope.specs.Calls.{changed, Result, writeBook, findTest, find, fewest, checkTest, check}
 use Rattle.scope.specs.Calls.{moved, fetchTest, fetch, ringFetchTest, ringMoved, ringFetch}
 use Rattle.scope.specs.promises.BookPromises.{SameUsed, UnusedDontCount}
 use Rattle.scope.specs.declared.Plan.{Plan}
@@ -22,11 +22,15 @@ use Rattle.checks.proofs.Chains.{chain-is-first, changed-alike}
 use Rattle.checks.proofs.Tests.{number-in-book-iff}
 use Rattle.book.proofs.Unused.{same-record-tests, same-pixels, same-patterns, rebuilt-same}
 
--- Finding, checking and writing look at a record's tests, its count and its patterns.
+-- Finding, counting, checking and writing look at a record's tests, its count and its patterns.
 module _ (book other : Book) (same : SameUsed book other) where
   same-finds : (limit : ℕ) → find book limit ≡ find other limit
   unfolding find findTest
   same-finds limit = cc (same-record-tests book other same, same-patterns book other same)
+
+  same-counts : fewest book ≡ fewest other
+  unfolding fewest
+  same-counts = cc (same-record-tests book other same, same-patterns book other same)
 
   same-checks : (x y : Pixel) → check book x y ≡ check other x y
   unfolding check checkTest
@@ -101,6 +105,7 @@ unused-dont-count =
       same = same-patterns;
       rebuilt = rebuilt-same;
       finds = same-finds;
+      counts = same-counts;
       checks = same-checks;
       writes = same-writes;
       fetches = same-fetches;

@@ -3,6 +3,7 @@
 use book::record_outcome;
 use integers::raised8;
 use scope::Book;
+use scope::Counted;
 use scope::Outcome;
 use scope::Pattern;
 use scope::Plan;
@@ -16,7 +17,7 @@ ghost use Rattle.scope.specs.Search.{first};
 ghost use Rattle.scope.specs.Plans.{at, minus};
 ghost use Rattle.scope.specs.Finding.{trial, firstWith, leastOf};
 ghost use Rattle.scope.specs.Numbers.{recordTest};
-ghost use Rattle.scope.specs.Calls.{find};
+ghost use Rattle.scope.specs.Calls.{find, fewest};
 ghost use Rattle.finder.specs.Table.{tableCell, markFrom, markPattern, markBook, rowMarked, rowsMarked, SearchedIn};
 
 // The cell of (i, j) - (x, y): 63 to a row, column -31 first; 2016 where the difference is outside the half window.
@@ -201,4 +202,15 @@ pub fn find(book: Book, limit: u32) -> Planned
     let mut marks = [0u8; 2017];
     mark_book(book, &mut marks);
     least_plan(&marks, limit as usize)
+}
+
+// The least count of a book, the N of the finder's plan at limit 1024, or 2, 3, 4.
+pub fn least_count(book: Book) -> Counted
+    ensures { λ r. ⌜ r ≡ fewest book ⌝ }
+{
+    let least = find(book, 1024);
+    match least {
+        Planned::Plan(p) => Counted::Number((p.a * p.d) as u64),
+        Planned::Refused(r) => Counted::Refused(r),
+    }
 }

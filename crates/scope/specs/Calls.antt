@@ -96,6 +96,11 @@ unfoldable pub find : Book → ℕ → Planned
 unfolding answered findTest found leastOf suitsAll patterns
 find book limit = answered (findTest book limit) Planned.Refused (found (leastPlan (patterns book) limit))
 
+-- "the least count" of a book: 2, 3, 4.
+unfoldable pub fewest : Book → Counted
+unfolding answered recordTest leastCount patterns
+fewest book = answered (recordTest book) Counted.Refused (Counted.Number (leastCount (patterns book)))
+
 -- Check a supplier's vectors: 2, 3, 4, 8, 9, then the clash, which is 10. "the normal form together with the surplus, N
 -- minus the least count, or a clash, or a refusal"
 unfoldable pub checkTest : Book → Pixel → Pixel → Option Refusal

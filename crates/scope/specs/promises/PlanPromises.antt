@@ -11,7 +11,7 @@ use lib.ListN.{length}
 use Rattle.scope.specs.Plans.{Pixel, minus, differences, pixelAt, patternAt, patterns, banks, Combination, along, up, InLattice, suitsAll, determinantSize, normalForm}
 use Rattle.scope.specs.Finding.{Before, boxWidth, boxHeight}
 use Rattle.scope.specs.Numbers.{value, refusal, ofPlanned, ofCounted, ofVerdict}
-use Rattle.scope.specs.Calls.{find, check, fetch, ringFetch}
+use Rattle.scope.specs.Calls.{find, fewest, check, fetch, ringFetch}
 use Rattle.scope.specs.promises.Meaning.{IsPlan, IsBook, Independent}
 use Rattle.scope.specs.declared.Plan.{Plan}
 use Rattle.scope.specs.declared.Book.{Book}
@@ -94,6 +94,12 @@ FinderStaysWithin = (book : Book) (limit : ℕ) (p : Plan) → ofPlanned (find b
 -- "So limit 1024 is always enough."
 abbrev pub LimitIsEnough : Type 0
 LimitIsEnough = (book : Book) → IsBook book → (p : Plan) × (ofPlanned (find book 1024) ≡ value p)
+
+-- "the least count" of a legal book is the N of the plan that the finder gives at limit 1024
+abbrev pub CountIsLeast : Type 0
+CountIsLeast =
+    (book : Book) → IsBook book
+    → (p : Plan) × (ofPlanned (find book 1024) ≡ value p) × (ofCounted (fewest book) ≡ value (banks p))
 
 -- positions e and l of pattern n of the book have pixels whose difference is in the lattice
 pub record Meets (book : Book) (p : Plan) (n e l : ℕ) : Type 0 where
