@@ -10,7 +10,7 @@ use Rattle.scope.specs.Plans.{Pixel, patterns, banks, suitsAll}
 use Rattle.scope.specs.Finding.{suitable, leastPlan, leastCount}
 use Rattle.scope.specs.Numbers.{recordTest, value, ofPlanned, ofCounted}
 use Rattle.scope.specs.Calls.{find, fewest}
-use Rattle.scope.specs.promises.Meaning.{IsPlan, IsBook}
+use Rattle.scope.specs.promises.Meaning.{IsPlan}
 use Rattle.scope.specs.promises.PlanPromises.{CountIsLeast}
 use Rattle.scope.specs.declared.Plan.{Plan}
 use Rattle.scope.specs.declared.Book.{Book}
