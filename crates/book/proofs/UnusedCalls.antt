@@ -12,7 +12,7 @@ use Rattle.scope.specs.Finding.{clashIn}
 use Rattle.scope.specs.Banks.{wordIn, overStart}
 use Rattle.scope.specs.Books.{bookBytes}
 use Rattle.scope.specs.Numbers.{recordTest, planTest, sidesTest, memoryTest, numberTest, suitsTest, outputTest}
-use Rattle.scope.specs.Calls.{changed, Result, writeBook, findTest, find, checkTest, check}
+use Rattle.scope.specs.Calls.{changed, Result, writeBook, findTest, find, fewest, checkTest, check}
 use Rattle.scope.specs.Calls.{moved, edgeTest, pixelsRead, restTest, fetchRest, eitherFetch, fetch, ringFetch}
 use Rattle.scope.specs.promises.BookPromises.{SameUsed, UnusedDontCount}
 use Rattle.scope.specs.declared.Plan.{Plan}
@@ -24,11 +24,15 @@ use Rattle.checks.proofs.Chains.{chain-is-first, changed-alike, fetch-one-by-on
 use Rattle.checks.proofs.Tests.{number-in-book-iff}
 use Rattle.book.proofs.Unused.{same-record-tests, same-pixels, same-patterns, rebuilt-same}
 
--- Finding, checking and writing look at a record's tests, its count and its patterns.
+-- Finding, counting, checking and writing look at a record's tests, its count and its patterns.
 module _ (book other : Book) (same : SameUsed book other) where
   same-finds : (limit : ℕ) → find book limit ≡ find other limit
   unfolding find findTest
   same-finds limit = cc (same-record-tests book other same, same-patterns book other same)
+
+  same-counts : fewest book ≡ fewest other
+  unfolding fewest
+  same-counts = cc (same-record-tests book other same, same-patterns book other same)
 
   same-checks : (x y : Pixel) → check book x y ≡ check other x y
   unfolding check checkTest
@@ -110,6 +114,7 @@ unused-dont-count =
       same = same-patterns;
       rebuilt = rebuilt-same;
       finds = same-finds;
+      counts = same-counts;
       checks = same-checks;
       writes = same-writes;
       fetches = λ book other same p W H mem n o out. same-fetched book other same p W H mem n o out false;

@@ -13,7 +13,7 @@ use Rattle.scope.specs.Books.{bookBytes}
 use Rattle.scope.specs.Numbers.{Answer, refusal, turnedDown, ofPlanned, ofCounted, ofLoaded, ofLocated, ofOutcome, ofVerdict}
 use Rattle.scope.specs.Numbers.{recordTest, limitTest, dependentTest, largeTest, planTest, sidesTest, memoryTest, outsideTest}
 use Rattle.scope.specs.Numbers.{bankTest, cellTest, outputTest, suitsTest}
-use Rattle.scope.specs.Calls.{recordOutcome, writeBook, normal, find, check, bank, depth, address, locate, store, load, clear}
+use Rattle.scope.specs.Calls.{recordOutcome, writeBook, normal, find, fewest, check, bank, depth, address, locate, store, load, clear}
 use Rattle.scope.specs.Calls.{sum, pictureTest, moved, edgeTest, restTest, fetchRest, eitherFetch, fetch, ringFetch, recordPixel, fillRecords}
 use Rattle.scope.specs.promises.Meaning.{IsPlan, IsSide, Inside, AllInside, IsPicture, IsBook, Independent, RingAllowed}
 use Rattle.scope.specs.promises.PicturePromises.{LegalFetch}
@@ -208,13 +208,14 @@ ring-edge p W H vs = ring-decides p W H
 
 -- A call that is turned down gives the number of the first condition that holds.
 pub calls-refuse : CallsRefuse
-unfolding recordOutcome bank depth locate store load clear sum
+unfolding recordOutcome fewest bank depth locate store load clear sum
 calls-refuse =
     record {
       normal-8 = λ x y. refused-unless (normal-follows x y) (independent-decides x y);
       normal-9 = λ x y. large-refused x y (normal-follows x y);
       find-2-3-4 = λ book limit. refused-by-first (find-follows book limit);
       find-6 = λ book limit legal. refused-unless (after-book (find-follows book limit) legal) (limit-decides limit);
+      count-2-3-4 = λ book f e. ap ofCounted (answered-some (recordTest book) Counted.Refused _ f e);
       check-2-3-4 = λ book x y. refused-by-first (check-follows book x y);
       check-8 = λ book x y legal. refused-unless (after-book (check-follows book x y) legal) (independent-decides x y);
       check-9 = λ book x y legal. large-refused x y (after-book (check-follows book x y) legal);

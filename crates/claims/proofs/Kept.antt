@@ -27,6 +27,7 @@ use Rattle.book.proofs.ReaderRefusals.{reader-refuses}
 use Rattle.finder.proofs.Least.{finder-is-least, finder-none, finder-decides, finder-order}
 use Rattle.finder.proofs.Boxes.{box-is-greatest}
 use Rattle.finder.proofs.Bounds.{finder-stays-within, limit-is-enough}
+use Rattle.finder.proofs.LeastCounts.{count-is-least}
 use Rattle.finder.proofs.Clashes.{clash-is-first}
 use Rattle.finder.proofs.Checks.{check-decides, surplus-is-excess}
 use Rattle.pictures.proofs.Pictures.{picture-calls}
@@ -62,6 +63,7 @@ promises-kept =
       box-is-greatest = box-is-greatest;
       finder-stays-within = finder-stays-within;
       limit-is-enough = limit-is-enough;
+      count-is-least = count-is-least;
       surplus-is-excess = surplus-is-excess;
       clash-is-first = clash-is-first;
       check-decides = check-decides;

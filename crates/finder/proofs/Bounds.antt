@@ -10,7 +10,7 @@ use native.Mathlib.Omega.{arith}
 use native.Mathlib.Nat.{mul-le-mul}
 use lib.ListN.{length, getD, length-map}
 use Rattle.scope.specs.Plans.{Pixel, plus, patterns, plan, banks, suits}
-use Rattle.scope.specs.Finding.{boxWidth, boxHeight, leastPlan}
+use Rattle.scope.specs.Finding.{suitable, boxWidth, boxHeight, leastPlan}
 use Rattle.scope.specs.Banks.{bankOf}
 use Rattle.scope.specs.promises.Meaning.{IsPlan}
 use Rattle.scope.specs.promises.Demand.{AllDifferent}
@@ -21,7 +21,8 @@ use Rattle.checks.proofs.Patterns.{origin, Different, different-in-book}
 use Rattle.lattice.proofs.SameBank.{bank-below-count}
 use Rattle.lattice.proofs.Suits.{suits-all-iff}
 use Rattle.lattice.proofs.Apart.{moved-banks-differ}
-use Rattle.finder.proofs.PlanSearch.{suiting-is-plan, least-plan-some, some-least-plan}
+use Rattle.finder.proofs.SuitingPlans.{suiting-suits}
+use Rattle.finder.proofs.PlanSearch.{least-is-plan, least-plan-some, some-least-plan}
 use Rattle.finder.proofs.FindAnswers.{LegalFind, find-value-iff}
 use Rattle.finder.proofs.Pigeonhole.{pigeonhole}
 use Rattle.finder.proofs.Boxes.{box-suits, box-within}
@@ -59,12 +60,12 @@ finder-stays-within book limit p e = of-found (find-value-iff book limit p .0 e)
 
     of-found : LegalFind book limit × (leastPlan ts limit ≡ some p) → FinderBounds book p
     of-found (h, f) =
-        let (least, within) = least-plan-some ts limit p f in
-        let is-plan : IsPlan p = suiting-is-plan ts p (least .itself) (omega (arith, within, h .limit-most)) in
+        let (least, within) = least-plan-some (suitable ts) limit p f in
+        let is-plan : IsPlan p = least-is-plan (suitable ts) p least (omega (arith, within, h .limit-most)) in
         record {
           pixel-count = λ t m.
               pixels-at-most-banks p t is-plan (different-in-book book t m (h .legal-book))
-              (suits-all-iff p ts .0 (least .itself .suiting) t m);
+              (suits-all-iff p ts .0 (suiting-suits ts p (least .itself)) t m);
           box = least .least-count (plan (boxWidth ts) 0 (boxHeight ts)) (box-suits ts);
         }
 
@@ -72,7 +73,7 @@ finder-stays-within book limit p e = of-found (find-value-iff book limit p .0 e)
 pub limit-is-enough : LimitIsEnough
 unfolding plan banks
 limit-is-enough book legal =
-    let (p, e) = some-least-plan ts 1024 (plan (boxWidth ts) 0 (boxHeight ts)) (box-suits ts) within in
+    let (p, e) = some-least-plan (suitable ts) 1024 (plan (boxWidth ts) 0 (boxHeight ts)) (box-suits ts) within in
     (p, find-value-iff book 1024 p .1 (record { legal-book = legal; limit-least = omega arith; limit-most = omega arith }, e))
   where
     ts : List (List Pixel)

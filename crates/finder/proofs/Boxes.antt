@@ -16,14 +16,14 @@ use Rattle.integers.proofs.Ring.{ring, reify}
 use Rattle.integers.proofs.Polynomials.{no-difference}
 use Rattle.integers.proofs.Order.{le-by, of-le}
 use Rattle.scope.specs.Plans.{Pixel, minus, differences, plan, pixels, patternAt, patterns, InLattice}
-use Rattle.scope.specs.Finding.{greatest, boxWidth, boxHeight}
+use Rattle.scope.specs.Finding.{suitable, greatest, boxWidth, boxHeight}
 use Rattle.scope.specs.promises.Meaning.{InRange, IsPattern, IsBook}
 use Rattle.scope.specs.promises.PlanPromises.{BoxIsGreatest}
 use Rattle.scope.specs.declared.Pattern.{Pattern}
 use Rattle.scope.specs.declared.Book.{Book}
 use Rattle.scope.specs.declared.Plan.{Plan}
 use Rattle.lattice.proofs.Suits.{suits-means, suits-all-iff, DifferenceIn, mem-differences, differences-mem}
-use Rattle.finder.proofs.PlanSearch.{Suiting}
+use Rattle.finder.proofs.SuitingPlans.{Suiting, suits-suiting}
 use Rattle.checks.proofs.Patterns.{same-coordinates, mem-patterns, pattern-in-range}
 use Rattle.checks.proofs.Lists.{mem-map, map-mem, flatMap-mem, mem-flatMap}
 
@@ -92,15 +92,11 @@ small-multiple-is-zero z k n e h = size-zero z (by-size (natAbs k) (ap natAbs e 
     by-size (suc m) f = absurd (omega arith)
 
 -- The plan w, 0, h suits: a difference in its lattice would be 0.
-pub box-suits : (ts : List (List Pixel)) → Suiting ts (plan (boxWidth ts) 0 (boxHeight ts))
+pub box-suits : (ts : List (List Pixel)) → Suiting (suitable ts) (plan (boxWidth ts) 0 (boxHeight ts))
 unfolding plan boxWidth boxHeight minus
 box-suits ts =
-    record {
-      a-least = omega arith;
-      d-least = omega arith;
-      b-below = omega arith;
-      suiting = suits-all-iff p ts .1 (λ t m. suits-means p (omega arith) (omega arith) t .1 (λ v w. apart t m v w));
-    }
+    suits-suiting ts p (omega arith) (omega arith) (omega arith)
+    (suits-all-iff p ts .1 (λ t m. suits-means p (omega arith) (omega arith) t .1 (λ v w. apart t m v w)))
   where
     p : Plan
     p = plan (boxWidth ts) 0 (boxHeight ts)

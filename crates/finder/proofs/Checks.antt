@@ -9,7 +9,7 @@ use mathlib.Core.Bool.{true, false}
 use mathlib.Core.Option.{Option, none, some}
 use mathlib.Core.List.{List}
 use Rattle.scope.specs.Plans.{Pixel, patterns, banks, suitsAll, determinantSize, normalForm}
-use Rattle.scope.specs.Finding.{clash, leastPlan, leastCount}
+use Rattle.scope.specs.Finding.{suitable, clash, leastCount}
 use Rattle.scope.specs.Numbers.{value, refusal, ofVerdict, ofPlanned, numberOf}
 use Rattle.scope.specs.Calls.{find, checkTest, judged, check}
 use Rattle.scope.specs.promises.Meaning.{IsPlan, IsBook, Independent}
@@ -28,8 +28,10 @@ use Rattle.checks.proofs.BookTests.{book-legal-iff}
 use Rattle.checks.proofs.Deciding.{independent-decides, size-decides}
 use Rattle.checks.proofs.RefusalNumbers.{decided-numbers, numbers-before, last-numbers, record-numbers}
 use Rattle.lattice.proofs.NormalForm.{normal-form-is-plan}
-use Rattle.finder.proofs.PlanSearch.{Suiting, plan-is-suiting, least-plan-some, some-least-plan}
+use Rattle.finder.proofs.SuitingPlans.{plan-is-suiting}
+use Rattle.finder.proofs.PlanSearch.{some-least-plan}
 use Rattle.finder.proofs.FindAnswers.{find-value-iff}
+use Rattle.finder.proofs.LeastCounts.{least-count-is, least-count-at-most}
 use Rattle.finder.proofs.ClashSearch.{no-clash-none-meets, no-clash-iff-suits-all}
 
 -- The check's tests find nothing exactly where the book is legal and the vectors are independent and not too large.
@@ -57,32 +59,14 @@ module _ (ts : List (List Pixel)) (p : Plan) where
   unfolding judged
   judged-suits h = rw (h, judged)
 
--- The least count is that of the plan which the finder's search finds.
-pub least-count-is : (ts : List (List Pixel)) (p : Plan) → leastPlan ts 1024 ≡ some p → leastCount ts ≡ banks p
-unfolding leastCount
-least-count-is ts p h = rw (h, leastCount)
-
-pub least-count-of-none : (ts : List (List Pixel)) → leastPlan ts 1024 ≡ none → leastCount ts ≡ 1024
-unfolding leastCount
-least-count-of-none ts h = rw (h, leastCount)
-
--- A suiting plan has at least as many banks,
-pub least-count-at-most :
-    (ts : List (List Pixel)) (p : Plan) → IsPlan p → suitsAll p ts ≡ true → leastCount ts ≤ banks p
-unfolding banks
-least-count-at-most ts p is-plan suiting =
-    let s : Suiting ts p = plan-is-suiting ts p is-plan suiting in
-    let (q, e) = some-least-plan ts 1024 p s (is-plan .most) in
-    omega (arith, least-plan-some ts 1024 q e .0 .least-count p s, least-count-is ts q e)
-
--- so the finder's count and its surplus.
+-- A suiting plan's count is the finder's and its surplus.
 surplus-of-suiting :
     (book : Book) → IsBook book → (p : Plan) → IsPlan p → suitsAll p (patterns book) ≡ true
     → (q : Plan) × (ofPlanned (find book 1024) ≡ value q) × (banks p ≡ banks q + (banks p - leastCount (patterns book)))
 unfolding banks
 surplus-of-suiting book legal p is-plan suiting =
     let ts : List (List Pixel) = patterns book in
-    let (q, e) = some-least-plan ts 1024 p (plan-is-suiting ts p is-plan suiting) (is-plan .most) in (
+    let (q, e) = some-least-plan (suitable ts) 1024 p (plan-is-suiting ts p is-plan suiting) (is-plan .most) in (
       q,
       find-value-iff book 1024 q .1 (record { legal-book = legal; limit-least = omega arith; limit-most = omega arith }, e),
       omega (arith, least-count-at-most ts p is-plan suiting, least-count-is ts q e),

@@ -5,9 +5,10 @@ use native.Mathlib.Omega.{arith}
 use mathlib.Core.Path.{_≡_, refl, sym, _∙_, ap}
 use mathlib.Core.Logic.{_↔_, _⊎_, inl, inr, Iff·trans}
 use mathlib.Core.Option.{Option, none, some}
+use mathlib.Core.List.{[], _∷_}
 use Rattle.scope.specs.Plans.{patterns}
 use Rattle.scope.specs.Finding.{leastPlan}
-use Rattle.scope.specs.Numbers.{value, refusal, ofPlanned}
+use Rattle.scope.specs.Numbers.{recordTest, limitTest, value, refusal, ofPlanned}
 use Rattle.scope.specs.Calls.{findTest, found, find}
 use Rattle.scope.specs.promises.Meaning.{IsBook}
 use Rattle.scope.specs.declared.Plan.{Plan}
@@ -15,7 +16,7 @@ use Rattle.scope.specs.declared.Book.{Book}
 use Rattle.scope.specs.declared.Planned.{Planned}
 use Rattle.scope.specs.declared.Clash.{Clash}
 use Rattle.scope.specs.declared.Refusal.{Refusal}
-use Rattle.checks.proofs.Chains.{value-not-refusal, value-injective, answered-none, RefusedBy, answered-value, answered-refusal}
+use Rattle.checks.proofs.Chains.{chain-refuses, value-not-refusal, value-injective, answered-none, answered-some, RefusedBy, answered-value, answered-refusal}
 use Rattle.checks.proofs.Booleans.{last-test, test-before}
 use Rattle.checks.proofs.Tests.{limit-legal-iff}
 use Rattle.checks.proofs.BookTests.{book-legal-iff}
@@ -51,6 +52,16 @@ legal-find-iff book limit =
       λ h. record { legal-book = h .0; limit-least = h .1 .0; limit-most = h .1 .1 },
       λ h. (h .legal-book, (h .limit-least, h .limit-most)),
     )
+
+-- A call that is turned down answers what its tests found, those of the record first.
+module _ (book : Book) (limit : ℕ) where
+  pub find-refused : (r : Refusal) → findTest book limit ≡ some r → Planned.Refused r ≡ find book limit
+  unfolding find
+  find-refused r e = sym (answered-some (findTest book limit) Planned.Refused (found (leastPlan (patterns book) limit)) r e)
+
+  pub book-refused : (r : Refusal) → recordTest book ≡ some r → Planned.Refused r ≡ find book limit
+  unfolding findTest
+  book-refused r e = find-refused r (chain-refuses (recordTest book) (limitTest limit ∷ []) r e)
 
 -- A legal call answers what its search found.
 pub legal-find : (book : Book) (limit : ℕ) → LegalFind book limit → find book limit ≡ found (leastPlan (patterns book) limit)

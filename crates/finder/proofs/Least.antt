@@ -12,7 +12,7 @@ use lib.IntN.{pos, natAbs}
 use Rattle.integers.proofs.Integers.{pos-injective}
 use Rattle.integers.proofs.Ring.{ring, reify}
 use Rattle.scope.specs.Plans.{Pixel, minus, patterns, banks, along, up, suitsAll, determinant, determinantSize, normalForm}
-use Rattle.scope.specs.Finding.{leastPlan}
+use Rattle.scope.specs.Finding.{suitable, leastPlan}
 use Rattle.scope.specs.Numbers.{value, refusal, ofPlanned}
 use Rattle.scope.specs.Calls.{find}
 use Rattle.scope.specs.promises.Meaning.{Independent}
@@ -21,8 +21,8 @@ use Rattle.scope.specs.promises.PlanPromises.{FinderIsLeast, FinderNone, Finder
 use Rattle.scope.specs.declared.Plan.{Plan}
 use Rattle.lattice.proofs.Suits.{suits-means, suits-all-iff}
 use Rattle.lattice.proofs.NormalForm.{normal-form-is-only}
-use Rattle.finder.proofs.PlanSearch.{Suiting, Least, suiting-is-plan, plan-is-suiting, suiting-banks}
-use Rattle.finder.proofs.PlanSearch.{least-plan-some, least-plan-none, none-least-plan}
+use Rattle.finder.proofs.SuitingPlans.{Suiting, suiting-banks, suiting-suits, suits-suiting, plan-is-suiting}
+use Rattle.finder.proofs.PlanSearch.{least-is-plan, least-plan-some, least-plan-none, none-least-plan}
 use Rattle.finder.proofs.FindAnswers.{LegalFind, find-value-iff, find-none-iff}
 
 -- the determinant of a plan's own two vectors is its count
@@ -35,19 +35,17 @@ unfolding determinantSize
 determinant-size-of-plan p = ap natAbs (determinant-of-plan p)
 
 -- so these are independent
-independent-of-plan : (ts : List (List Pixel)) (p : Plan) → Suiting ts p → Independent (along p) (up p)
+independent-of-plan : (ts : List (List Pixel)) (p : Plan) → Suiting (suitable ts) p → Independent (along p) (up p)
 independent-of-plan ts p s e =
     let k : banks p ≡ 0 = pos-injective (sym (determinant-of-plan p) ∙ e) in
-    absurd (omega (arith, suiting-banks ts p s))
+    absurd (omega (arith, suiting-banks (suitable ts) p s))
 
--- Among equal counts the finder's plan has the least d, then the least b.
+-- Among equal counts the finder's plan comes first.
 pub finder-order : FinderOrder
-finder-order book limit p e =
-    let l : Least (patterns book) p = least-plan-some (patterns book) limit p (find-value-iff book limit p .0 e .1) .0 in
-    record {
-      least-d = λ q plan suits same. l .least-d q (plan-is-suiting (patterns book) q plan suits) same;
-      least-b = λ q plan suits same. l .least-b q (plan-is-suiting (patterns book) q plan suits) same;
-    }
+finder-order book limit p e q is-plan suits same =
+    let ts : List (List Pixel) = patterns book in
+    let (least, within) = least-plan-some (suitable ts) limit p (find-value-iff book limit p .0 e .1) in
+    least .before q (plan-is-suiting ts q is-plan suits) same
 
 -- A legal book and limit get a plan or 7.
 pub finder-decides : FinderDecides
@@ -70,18 +68,15 @@ suits-iff-parted p a-least d-least ts = (
 )
 
 -- so the vectors of a suiting plan part them
-suiting-parted : (ts : List (List Pixel)) (p : Plan) → Suiting ts p → Parted (along p) (up p) ts
-suiting-parted ts p s = suits-iff-parted p (s .a-least) (s .d-least) ts .0 (s .suiting)
+suiting-parted : (ts : List (List Pixel)) (p : Plan) → Suiting (suitable ts) p → Parted (along p) (up p) ts
+suiting-parted ts p s = suits-iff-parted p (s .a-least) (s .d-least) ts .0 (suiting-suits ts p s)
 
 -- The normal form of vectors that part the pixels suits.
-normal-form-suits : (ts : List (List Pixel)) (x y : Pixel) → Independent x y → Parted x y ts → Suiting ts (normalForm x y)
+normal-form-suits :
+    (ts : List (List Pixel)) (x y : Pixel) → Independent x y → Parted x y ts → Suiting (suitable ts) (normalForm x y)
 normal-form-suits ts x y independent parted =
-    record {
-      a-least = g .a-least;
-      d-least = g .d-least;
-      b-below = g .b-below;
-      suiting = suits-iff-parted (normalForm x y) (g .a-least) (g .d-least) ts .1 form-parted;
-    }
+    suits-suiting ts (normalForm x y) (g .a-least) (g .d-least) (g .b-below)
+    (suits-iff-parted (normalForm x y) (g .a-least) (g .d-least) ts .1 form-parted)
   where
     g : Generates (normalForm x y) x y
     g = normal-form-is-only .generates x y independent
@@ -91,7 +86,7 @@ normal-form-suits ts x y independent parted =
 
 -- What no suiting plan's count is below, no determinant of vectors that part the pixels is below.
 bound-for-vectors :
-    (ts : List (List Pixel)) (n : ℕ) → ((q : Plan) → Suiting ts q → n ≤ banks q)
+    (ts : List (List Pixel)) (n : ℕ) → ((q : Plan) → Suiting (suitable ts) q → n ≤ banks q)
     → (x y : Pixel) → Independent x y → Parted x y ts → n ≤ determinantSize x y
 bound-for-vectors ts n bound x y independent parted =
     rw (normal-form-is-only .banks-are x y independent) at (bound (normalForm x y) (normal-form-suits ts x y independent parted))
@@ -105,10 +100,10 @@ finder-is-least book limit p e = of-found (find-value-iff book limit p .0 e)
 
     of-found : LegalFind book limit × (leastPlan ts limit ≡ some p) → LeastFor book p × (banks p ≤ limit)
     of-found (h, f) =
-        let (least, within) = least-plan-some ts limit p f in (
+        let (least, within) = least-plan-some (suitable ts) limit p f in (
           record {
-            plan = suiting-is-plan ts p (least .itself) (omega (arith, within, h .limit-most));
-            suiting = least .itself .suiting;
+            plan = least-is-plan (suitable ts) p least (omega (arith, within, h .limit-most));
+            suiting = suiting-suits ts p (least .itself);
             parted = suiting-parted ts p (least .itself);
             least = bound-for-vectors ts (banks p) (least .least-count);
           },
@@ -128,14 +123,14 @@ finder-none book limit = (λ e. there (find-none-iff book limit .0 e), back)
           legal-book = h .legal-book;
           limit-least = h .limit-least;
           limit-most = h .limit-most;
-          above = bound-for-vectors ts (suc limit) (least-plan-none ts limit f);
+          above = bound-for-vectors ts (suc limit) (least-plan-none (suitable ts) limit f);
         }
 
     back : NoneWithin book limit → ofPlanned (find book limit) ≡ refusal 7 0 none
-    back w = find-none-iff book limit .1 (legal, none-least-plan ts limit above)
+    back w = find-none-iff book limit .1 (legal, none-least-plan (suitable ts) limit above)
       where
         legal : LegalFind book limit
         legal = record { legal-book = w .legal-book; limit-least = w .limit-least; limit-most = w .limit-most }
 
-        above : (q : Plan) → Suiting ts q → limit < banks q
+        above : (q : Plan) → Suiting (suitable ts) q → limit < banks q
         above q s = rw (determinant-size-of-plan q) at (w .above (along q) (up q) (independent-of-plan ts q s) (suiting-parted ts q s))

@@ -1,10 +1,13 @@
 -- The least plan, the clash and the check.
-pub mod PlanSearch  -- what the search of plans gives
+pub mod SuitingPlans  -- plans of which a test holds
+pub mod CountSearch  -- what the search among equal counts gives: the order
+pub mod PlanSearch  -- what the search of plans gives, for any test
 pub mod FindAnswers  -- what the call `find` answers by its search
 pub mod Least  -- the count is least among all pairs of vectors; 7 exactly above the limit
 pub mod Pigeonhole  -- m different numbers below n: m is at most n
 pub mod Boxes  -- the box of the differences, whose plan suits
 pub mod Bounds  -- the count lies between pixel count and box
+pub mod LeastCounts  -- the least count is that of the finder's plan
 pub mod ClashSearch  -- what the searches for a clash find
 pub mod Clashes  -- the clash of a refusal by 10 is the first one
 pub mod Checks  -- the verdict and the surplus

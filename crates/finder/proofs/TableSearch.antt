@@ -10,8 +10,8 @@ use mathlib.Core.Option.{Option, none, some}
 use mathlib.Core.List.{List}
 use Rattle.integers.proofs.Comparisons.{eqb-iff, eqb-false-iff}
 use Rattle.scope.specs.Search.{first, whenever}
-use Rattle.scope.specs.Plans.{Pixel, plan, patterns}
-use Rattle.scope.specs.Finding.{trial, leastB}
+use Rattle.scope.specs.Plans.{plan, patterns}
+use Rattle.scope.specs.Finding.{trial, leastB, suitable}
 use Rattle.scope.specs.Calls.{found}
 use Rattle.scope.specs.declared.Plan.{Plan}
 use Rattle.scope.specs.declared.Planned.{Planned}
@@ -36,56 +36,56 @@ unfolding found
 found-none e = sym (ap found e)
 
 -- A search by number in the books whose table this is: the numbers from k on and below e give nothing.
-pub record NoneFrom (marks : List ℕ) (f : List (List Pixel) → ℕ → Option Plan) (k e : ℕ) : Type 0 where
-  pub each : (c : ℕ) → k ≤ c → c < e → SearchedIn marks (λ ts. f ts c) noPlan
+pub record NoneFrom (marks : List ℕ) (f : (Plan → Bool) → ℕ → Option Plan) (k e : ℕ) : Type 0 where
+  pub each : (c : ℕ) → k ≤ c → c < e → SearchedIn marks (λ test. f test c) noPlan
 
-module _ {marks : List ℕ} (f : List (List Pixel) → ℕ → Option Plan) where
+module _ {marks : List ℕ} (f : (Plan → Bool) → ℕ → Option Plan) where
   pub none-yet : (k : ℕ) → NoneFrom marks f k k
   none-yet k = record { each = λ c p q. absurd (omega arith) }
 
   -- nor does e, which was turned down
   pub one-more-none :
-      (k e : ℕ) {r : Planned} {x : Refusal} → NoneFrom marks f k e → SearchedIn marks (λ ts. f ts e) r → r ≡ Planned.Refused x
+      (k e : ℕ) {r : Planned} {x : Refusal} → NoneFrom marks f k e → SearchedIn marks (λ test. f test e) r → r ≡ Planned.Refused x
       → NoneFrom marks f k (e + 1)
   one-more-none k e before here refused = record { each = λ c p q. by-place c p q (ℕ-discrete c e) }
     where
-      by-place : (c : ℕ) → k ≤ c → c < e + 1 → Dec (c ≡ e) → SearchedIn marks (λ ts. f ts c) noPlan
+      by-place : (c : ℕ) → k ≤ c → c < e + 1 → Dec (c ≡ e) → SearchedIn marks (λ test. f test c) noPlan
       by-place c p q (yes d) =
           record {
             is = λ book legal same.
-                found-none (ap (f (patterns book)) d ∙ none-found (f (patterns book) e) (here .is book legal same) refused);
+                found-none (ap (f (suitable (patterns book))) d ∙ none-found (f (suitable (patterns book)) e) (here .is book legal same) refused);
           }
       by-place c p q (no d) = before .each c p (omega arith)
 
   -- the first number that gives a plan
   pub found-at :
-      (k n e : ℕ) {r : Planned} {p : Plan} → NoneFrom marks f k e → k ≤ e → e < k + n → SearchedIn marks (λ ts. f ts e) r
-      → r ≡ Planned.Plan p → SearchedIn marks (λ ts. first k n (f ts)) r
+      (k n e : ℕ) {r : Planned} {p : Plan} → NoneFrom marks f k e → k ≤ e → e < k + n → SearchedIn marks (λ test. f test e) r
+      → r ≡ Planned.Plan p → SearchedIn marks (λ test. first k n (f test)) r
   found-at k n e {p} before from below here is-plan =
       record {
         is = λ book legal same.
-            is-plan ∙ found-some (found-first k n (f (patterns book)) p (record {
+            is-plan ∙ found-some (found-first k n (f (suitable (patterns book))) p (record {
               where-is = e;
               from = from;
               below = below;
-              here = plan-found (f (patterns book) e) (here .is book legal same) is-plan;
-              before = λ c u v. none-found (f (patterns book) c) (before .each c u v .is book legal same) refl;
+              here = plan-found (f (suitable (patterns book)) e) (here .is book legal same) is-plan;
+              before = λ c u v. none-found (f (suitable (patterns book)) c) (before .each c u v .is book legal same) refl;
             }));
       }
 
-  pub found-nowhere : (k n e : ℕ) → NoneFrom marks f k e → k + n ≤ e → SearchedIn marks (λ ts. first k n (f ts)) noPlan
+  pub found-nowhere : (k n e : ℕ) → NoneFrom marks f k e → k + n ≤ e → SearchedIn marks (λ test. first k n (f test)) noPlan
   found-nowhere k n e before all =
       record {
         is = λ book legal same.
-            found-none (none-first k n (f (patterns book))
-            (λ c u v. none-found (f (patterns book) c) (before .each c u (omega arith) .is book legal same) refl));
+            found-none (none-first k n (f (suitable (patterns book)))
+            (λ c u v. none-found (f (suitable (patterns book)) c) (before .each c u (omega arith) .is book legal same) refl));
       }
 
 -- A plan on trial: it suits where neither its row 0 nor a row above is marked.
 module _ {marks : List ℕ} {a b d : ℕ} (d-least : 1 ≤ d) (b-below : b < a) where
   trial-by-table :
       {t : Bool} → not (rowMarked marks a 0 (31 + a)) && not (rowsMarked marks a b d) ≡ t
-      → SearchedIn marks (λ ts. trial ts a d b) (found (whenever t (plan a b d)))
+      → SearchedIn marks (λ test. trial test a d b) (found (whenever t (plan a b d)))
   unfolding trial
   trial-by-table test =
       record {
@@ -97,11 +97,11 @@ module _ {marks : List ℕ} {a b d : ℕ} (d-least : 1 ≤ d) (b-below : b < a) 
       }
 
   -- what the code's tests of the rows tell
-  pub row-marked-none : {r : Bool} → r ≡ rowMarked marks a 0 (31 + a) → r ≡ true → SearchedIn marks (λ ts. trial ts a d b) noPlan
+  pub row-marked-none : {r : Bool} → r ≡ rowMarked marks a 0 (31 + a) → r ≡ true → SearchedIn marks (λ test. trial test a d b) noPlan
   unfolding found whenever
   row-marked-none is e = trial-by-table (ap (λ (x : Bool). not x && not (rowsMarked marks a b d)) (sym is ∙ e))
 
-  pub rows-marked-none : {r : Bool} → r ≡ rowsMarked marks a b d → not r ≡ false → SearchedIn marks (λ ts. trial ts a d b) noPlan
+  pub rows-marked-none : {r : Bool} → r ≡ rowsMarked marks a b d → not r ≡ false → SearchedIn marks (λ test. trial test a d b) noPlan
   unfolding found whenever
   rows-marked-none is e = trial-by-table (both (rowMarked marks a 0 (31 + a)) (rowsMarked marks a b d) (holds is e))
     where
@@ -111,24 +111,24 @@ module _ {marks : List ℕ} {a b d : ℕ} (d-least : 1 ≤ d) (b-below : b < a) 
 
   pub unmarked-found :
       {r q : Bool} → r ≡ rowMarked marks a 0 (31 + a) → r ≡ false → q ≡ rowsMarked marks a b d → not q ≡ true
-      → SearchedIn marks (λ ts. trial ts a d b) (Planned.Plan (plan a b d))
+      → SearchedIn marks (λ test. trial test a d b) (Planned.Plan (plan a b d))
   unfolding found whenever
   unmarked-found row e rows h = trial-by-table (ap₂ (λ (x y : Bool). not x && not y) (sym row ∙ e) (fails rows h))
 
 -- For a d that divides n the search over b is made; for any other it finds nothing.
 module _ {marks : List ℕ} (n d : ℕ) where
   pub divisor-searched :
-      {r : Planned} → n % d ≡ 0 → SearchedIn marks (λ ts. first 0 (n / d) (trial ts (n / d) d)) r
-      → SearchedIn marks (λ ts. leastB ts n d) r
+      {r : Planned} → n % d ≡ 0 → SearchedIn marks (λ test. first 0 (n / d) (trial test (n / d) d)) r
+      → SearchedIn marks (λ test. leastB test n d) r
   unfolding leastB first
-  divisor-searched divides s = record { is = λ book legal same. s .is book legal same ∙ ap found (sym (made (patterns book))) }
+  divisor-searched divides s = record { is = λ book legal same. s .is book legal same ∙ ap found (sym (made (suitable (patterns book)))) }
     where
-      made : (ts : List (List Pixel)) → leastB ts n d ≡ first 0 (n / d) (trial ts (n / d) d)
-      made ts = rw (leastB, eqb-iff (n % d) 0 .1 divides) refl
+      made : (test : Plan → Bool) → leastB test n d ≡ first 0 (n / d) (trial test (n / d) d)
+      made test = rw (leastB, eqb-iff (n % d) 0 .1 divides) refl
 
-  pub no-divisor-none : (n % d ≡ 0 → ⊥) → SearchedIn marks (λ ts. leastB ts n d) noPlan
+  pub no-divisor-none : (n % d ≡ 0 → ⊥) → SearchedIn marks (λ test. leastB test n d) noPlan
   unfolding leastB
-  no-divisor-none h = record { is = λ book legal same. found-none (made (patterns book)) }
+  no-divisor-none h = record { is = λ book legal same. found-none (made (suitable (patterns book))) }
     where
-      made : (ts : List (List Pixel)) → leastB ts n d ≡ none
-      made ts = rw (leastB, eqb-false-iff (n % d) 0 .1 h) refl
+      made : (test : Plan → Bool) → leastB test n d ≡ none
+      made test = rw (leastB, eqb-false-iff (n % d) 0 .1 h) refl

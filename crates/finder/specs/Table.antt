@@ -11,6 +11,7 @@ use lib.IntN.{ℤ, pos, negsuc, natAbs, _+ℤ_}
 use lib.ListN.{getD, set, replicate}
 use Rattle.scope.specs.Search.{someBelow}
 use Rattle.scope.specs.Plans.{Pixel, minus, pixelAt, patternAt, patterns}
+use Rattle.scope.specs.Finding.{suitable}
 use Rattle.scope.specs.Numbers.{recordTest}
 use Rattle.scope.specs.Calls.{found}
 use Rattle.scope.specs.declared.Pattern.{Pattern}
@@ -62,7 +63,8 @@ unfolding someBelow rowMarked
 rowsMarked marks a b d =
     someBelow 32 λ j. leb 1 j && eqb (j % d) 0 && rowMarked marks a j ((31 + b * (j / d)) % a)
 
--- r is what a search gives, for each book whose table this is
-pub record SearchedIn (marks : List ℕ) (searched : List (List Pixel) → Option Plan) (r : Planned) : Type 0 where
+-- r is what a search by a test gives, for the test of each book whose table this is
+pub record SearchedIn (marks : List ℕ) (searched : (Plan → Bool) → Option Plan) (r : Planned) : Type 0 where
   pub is :
-      (book : Book) → recordTest book ≡ none → marks ≡ markBook book (book .count) → r ≡ found (searched (patterns book))
+      (book : Book) → recordTest book ≡ none → marks ≡ markBook book (book .count)
+      → r ≡ found (searched (suitable (patterns book)))

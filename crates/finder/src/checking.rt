@@ -1,11 +1,12 @@
 // The check: the normal form of the vectors, then its clash with a pattern of the book, or its surplus over the least count.
 use crate::clash::Met;
 use crate::clash::clash_in;
-use crate::finding::find;
+use crate::finding::least_count;
 use book::record_outcome;
 use lattice::normal_form;
 use scope::Book;
 use scope::Checked;
+use scope::Counted;
 use scope::Outcome;
 use scope::Plan;
 use scope::Planned;
@@ -14,7 +15,7 @@ ghost use mathlib.Core.Path.{_≡_};
 ghost use mathlib.Core.Bool.{true};
 ghost use mathlib.Core.Option.{none};
 ghost use Rattle.scope.specs.Plans.{at, isPlan, patterns};
-ghost use Rattle.scope.specs.Finding.{clash, leastCount};
+ghost use Rattle.scope.specs.Finding.{clash};
 ghost use Rattle.scope.specs.Numbers.{recordTest};
 ghost use Rattle.scope.specs.Calls.{judged, check};
 ghost use Rattle.finder.specs.Clashing.{metAt};
@@ -37,18 +38,6 @@ fn first_clash(p: Plan, book: Book) -> Met
     Met::Nowhere
 }
 
-// The least count of a book, which the finder tells.
-fn least_count(book: Book) -> u32
-    requires { ⌜ recordTest book ≡ none ⌝ }
-    ensures { λ r. ⌜ r ≡ leastCount (patterns book) ⌝ }
-{
-    let least = find(book, 1024);
-    match least {
-        Planned::Plan(p) => p.a * p.d,
-        Planned::Refused(_) => 1024,
-    }
-}
-
 // What is said of a plan for a book: the clash, or the surplus.
 fn judge(p: Plan, book: Book) -> Verdict
     requires { ⌜ (isPlan p ≡ true) × (recordTest book ≡ none) ⌝ }
@@ -58,8 +47,14 @@ fn judge(p: Plan, book: Book) -> Verdict
     if let Met::At(c) = met {
         return Verdict::Clashes(c);
     }
-    let surplus = p.a * p.d - least_count(book);
-    Verdict::Suits(Checked { plan: p, surplus })
+    let least = least_count(book);
+    match least {
+        Counted::Number(n) => {
+            let surplus = p.a * p.d - n as u32;
+            Verdict::Suits(Checked { plan: p, surplus })
+        }
+        Counted::Refused(r) => Verdict::Refused(r),
+    }
 }
 
 // The verdict on the vectors (x1, x2) and (y1, y2) for a book, or 2, 3, 4, 8, 9.

@@ -3,6 +3,7 @@
 use book::record_outcome;
 use integers::raised8;
 use scope::Book;
+use scope::Counted;
 use scope::Outcome;
 use scope::Pattern;
 use scope::Plan;
@@ -14,9 +15,9 @@ ghost use Prim.Native.Nat.{_+_, _%_, _≤_, _<_};
 ghost use lib.ListN.{length, replicate};
 ghost use Rattle.scope.specs.Search.{first};
 ghost use Rattle.scope.specs.Plans.{at, minus};
-ghost use Rattle.scope.specs.Finding.{trial, leastD, leastPlan};
+ghost use Rattle.scope.specs.Finding.{trial, firstWith, leastOf};
 ghost use Rattle.scope.specs.Numbers.{recordTest};
-ghost use Rattle.scope.specs.Calls.{find};
+ghost use Rattle.scope.specs.Calls.{find, fewest};
 ghost use Rattle.finder.specs.Table.{tableCell, markFrom, markPattern, markBook, rowMarked, rowsMarked, SearchedIn};
 
 // The cell of (i, j) - (x, y): 63 to a row, column -31 first; 2016 where the difference is outside the half window.
@@ -126,7 +127,7 @@ fn rows_marked(marks: &[u8], a: usize, b: usize, d: usize, s: usize) -> bool
 // Of the suiting plans with this a and d the one with least b; the table is that of a book.
 fn least_b(marks: &[u8], a: usize, d: usize) -> Planned
     requires { ⌜ (length (now marks) ≡ 2017) × (1 ≤ a) × (a ≤ 1024) × (1 ≤ d) × (d ≤ 1024) ⌝ }
-    ensures { λ r. ⌜ SearchedIn (now (marks .entry)) (λ ts. first 0 a (trial ts a d)) r ⌝ }
+    ensures { λ r. ⌜ SearchedIn (now (marks .entry)) (λ test. first 0 a (trial test a d)) r ⌝ }
 {
     if row_marked(marks, a, 0, 31 + a) {
         return Planned::Refused(Refusal::NoPlan);
@@ -151,9 +152,9 @@ fn least_b(marks: &[u8], a: usize, d: usize) -> Planned
 }
 
 // Of the suiting plans with n banks the one with least d, then least b.
-fn least_d(marks: &[u8], n: usize) -> Planned
+fn first_with(marks: &[u8], n: usize) -> Planned
     requires { ⌜ (length (now marks) ≡ 2017) × (n ≤ 1024) ⌝ }
-    ensures { λ r. ⌜ SearchedIn (now (marks .entry)) (λ ts. leastD ts n) r ⌝ }
+    ensures { λ r. ⌜ SearchedIn (now (marks .entry)) (λ test. firstWith test n) r ⌝ }
 {
     let mut d = 1;
     while d <= n {
@@ -171,11 +172,11 @@ fn least_d(marks: &[u8], n: usize) -> Planned
 // Of the suiting plans with at most `limit` banks the one with the fewest, or 7.
 fn least_plan(marks: &[u8], limit: usize) -> Planned
     requires { ⌜ (length (now marks) ≡ 2017) × (limit ≤ 1024) ⌝ }
-    ensures { λ r. ⌜ SearchedIn (now (marks .entry)) (λ ts. leastPlan ts limit) r ⌝ }
+    ensures { λ r. ⌜ SearchedIn (now (marks .entry)) (λ test. leastOf test limit) r ⌝ }
 {
     let mut n = 1;
     while n <= limit {
-        let p = least_d(marks, n);
+        let p = first_with(marks, n);
         if let Planned::Plan(_) = p {
             return p;
         }
@@ -201,4 +202,15 @@ pub fn find(book: Book, limit: u32) -> Planned
     let mut marks = [0u8; 2017];
     mark_book(book, &mut marks);
     least_plan(&marks, limit as usize)
+}
+
+// The least count of a book, the N of the finder's plan at limit 1024, or 2, 3, 4.
+pub fn least_count(book: Book) -> Counted
+    ensures { λ r. ⌜ r ≡ fewest book ⌝ }
+{
+    let least = find(book, 1024);
+    match least {
+        Planned::Plan(p) => Counted::Number((p.a * p.d) as u64),
+        Planned::Refused(r) => Counted::Refused(r),
+    }
 }

@@ -8,8 +8,8 @@ use mathlib.Core.List.{List, [], _∷_, map}
 use lib.IntN.{ℤ}
 use lib.ListN.{length}
 use Rattle.scope.specs.Search.{firstOf}
-use Rattle.scope.specs.Plans.{Pixel, plus, pixels, patterns, patternAt, banks, normalForm}
-use Rattle.scope.specs.Finding.{leastPlan, leastCount, clash}
+use Rattle.scope.specs.Plans.{Pixel, plus, pixels, patterns, patternAt, banks, suitsAll, normalForm}
+use Rattle.scope.specs.Finding.{leastOf, leastPlan, leastCount, clash}
 use Rattle.scope.specs.Banks.{bankOf, addressOf, depthOf, pixelOf, wordIn, afterStore, afterClear, bankSum, overStart, wrapped}
 use Rattle.scope.specs.Books.{byte, start, partIn, bookIn, bookOf, bookBytes}
 use Rattle.scope.specs.Numbers.{bytesTest, recordTest, limitTest, dependentTest, largeTest, suitsTest, planTest, sidesTest, memoryTest, outsideTest, bankTest, cellTest, outputTest, numberTest, ringTest}
@@ -95,8 +95,13 @@ found none = Planned.Refused Refusal.NoPlan
 found (some p) = Planned.Plan p
 
 unfoldable pub find : Book → ℕ → Planned
-unfolding answered findTest found leastPlan patterns
+unfolding answered findTest found leastOf suitsAll patterns
 find book limit = answered (findTest book limit) Planned.Refused (found (leastPlan (patterns book) limit))
+
+-- "the least count" of a book: 2, 3, 4.
+unfoldable pub fewest : Book → Counted
+unfolding answered recordTest leastCount patterns
+fewest book = answered (recordTest book) Counted.Refused (Counted.Number (leastCount (patterns book)))
 
 -- Check a supplier's vectors: 2, 3, 4, 8, 9, then the clash, which is 10. "the normal form together with the surplus, N
 -- minus the least count, or a clash, or a refusal"

@@ -1,6 +1,7 @@
 -- Document 01, "Finding and checking": what the finder looks for, what a clash is, and how large a plan can be.
 -- Assumes nothing.
-use Prim.Native.Nat.{ℕ, suc, _+_, _*_, _-_, _/_, _%_, max}
+use Prim.Native.Nat.{ℕ, suc, _+_, _*_, _-_, _/_, _%_, max, _≤_}
+use mathlib.Core.Path.{_≡_}
 use mathlib.Core.Bool.{Bool, true, false}
 use mathlib.Core.Option.{Option, none, some}
 use mathlib.Core.List.{List, [], _∷_, map, flatMap, foldr}
@@ -12,29 +13,43 @@ use Rattle.scope.specs.Plans.{Pixel, at, minus, differences, plan, banks
 use Rattle.scope.specs.declared.Plan.{Plan}
 use Rattle.scope.specs.declared.Clash.{Clash}
 
--- the plan a, b, d, if it suits
-unfoldable pub trial : List (List Pixel) → ℕ → ℕ → ℕ → Option Plan
-unfolding whenever suitsAll plan
-trial ts a d b = whenever (suitsAll (plan a b d) ts) (plan a b d)
+-- "among equal N the least d, then the least b": of two plans with equal N p comes before q, or has q's b and d
+pub record Before (p q : Plan) : Type 0 where
+  pub least-d : p .d ≤ q .d
+  pub then-b : p .d ≡ q .d → p .b ≤ q .b
 
--- of the suiting plans with n banks and this d, the one with least b
-unfoldable pub leastB : List (List Pixel) → ℕ → ℕ → Option Plan
+-- The search takes any test of plans.
+-- The plan a, b, d, if the test holds of it:
+unfoldable pub trial : (Plan → Bool) → ℕ → ℕ → ℕ → Option Plan
+unfolding whenever plan
+trial test a d b = whenever (test (plan a b d)) (plan a b d)
+
+-- of those with n banks and this d, the one with least b
+unfoldable pub leastB : (Plan → Bool) → ℕ → ℕ → Option Plan
 unfolding first trial
-leastB ts n d = elim (eqb (n % d) 0) [ true ↦ first 0 (n / d) (trial ts (n / d) d) | false ↦ none ]
+leastB test n d = elim (eqb (n % d) 0) [ true ↦ first 0 (n / d) (trial test (n / d) d) | false ↦ none ]
 
--- of the suiting plans with n banks, the one with least d, "then the least b"
-unfoldable pub leastD : List (List Pixel) → ℕ → Option Plan
+-- of those with n banks, the one with least d, "then the least b"
+unfoldable pub firstWith : (Plan → Bool) → ℕ → Option Plan
 unfolding first leastB
-leastD ts n = first 1 n (leastB ts n)
+firstWith test n = first 1 n (leastB test n)
+
+-- of all, the one with least N, from 1 to the limit
+unfoldable pub leastOf : (Plan → Bool) → ℕ → Option Plan
+unfolding first firstWith
+leastOf test limit = first 1 limit (firstWith test)
+
+-- the finder's test: the plan suits each pattern
+abbrev pub suitable : List (List Pixel) → Plan → Bool
+suitable ts = λ p. suitsAll p ts
 
 -- "It gives the suiting plan with least N; among equal N the least d, then the least b", N from 1 to the limit
-unfoldable pub leastPlan : List (List Pixel) → ℕ → Option Plan
-unfolding first leastD
-leastPlan ts limit = first 1 limit (leastD ts)
+abbrev pub leastPlan : List (List Pixel) → ℕ → Option Plan
+leastPlan ts limit = leastOf (suitable ts) limit
 
 -- "the least count": the N of that plan. "So limit 1024 is always enough", and `none` does not occur for a legal book
 unfoldable pub leastCount : List (List Pixel) → ℕ
-unfolding leastPlan banks
+unfolding leastOf suitsAll banks
 leastCount ts = elim (leastPlan ts 1024) [ none ↦ 1024 | some p ↦ banks p ]
 
 -- "w is 1 plus the greatest column difference and h is 1 plus the greatest row difference (1 where there is no difference)"

@@ -6,6 +6,7 @@ use mathlib.Core.Path.{_≡_, refl, sym, _∙_, ap}
 use mathlib.Core.List.{List}
 use lib.ListN.{length, replicate, length-replicate}
 use Rattle.scope.specs.Plans.{patterns}
+use Rattle.scope.specs.Finding.{suitable}
 use Rattle.scope.specs.Numbers.{ofPlanned}
 use Rattle.scope.specs.Calls.{readBook, find}
 use Rattle.scope.specs.Program.{planText, programText}
@@ -18,7 +19,7 @@ use Rattle.scope.proofs.PlanFacts.{a-at-most, d-at-most}
 use Rattle.checks.proofs.Outputs.{over-start-length}
 use Rattle.text.proofs.ProgramText.{text-of-read, text-of-refused}
 use Rattle.text.proofs.LongInput.{long-input-text}
-use Rattle.finder.proofs.PlanSearch.{least-plan-some, suiting-is-plan}
+use Rattle.finder.proofs.PlanSearch.{least-is-plan, least-plan-some}
 use Rattle.finder.proofs.FindAnswers.{find-value-iff}
 use Rattle.text.specs.Texts.{textOf, AlsoOfLonger}
 use Rattle.text.specs.declared.Text.{Text}
@@ -41,8 +42,8 @@ unfolding planText
 answer-text-at-most book (Planned.Refused r) e = omega (arith, refused-line-at-most r)
 answer-text-at-most book (Planned.Plan p) e =
     let (legal, searched) = find-value-iff book 1024 p .0 (ap ofPlanned e) in
-    let (least, within) = least-plan-some (patterns book) 1024 p searched in
-    plan-text-at-most p (suiting-is-plan (patterns book) p (least .itself) within)
+    let (least, within) = least-plan-some (suitable (patterns book)) 1024 p searched in
+    plan-text-at-most p (least-is-plan (suitable (patterns book)) p least within)
 
 outcome-text-at-most : (s : List ℕ) (o : Outcome) → readBook s .outcome ≡ o → length (programText s) ≤ 80
 outcome-text-at-most s (Outcome.Refused r) e = rw (← text-of-refused s e) (omega (arith, refused-line-at-most r))

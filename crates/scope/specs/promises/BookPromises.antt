@@ -11,7 +11,7 @@ use Rattle.scope.specs.Plans.{Pixel, pixelAt, patternAt, pixels, pattern
 use Rattle.scope.specs.Banks.{overStart}
 use Rattle.scope.specs.Books.{byte, signed, unsigned, bookOf, pixelBytes, patternBytes, bookBytes}
 use Rattle.scope.specs.Numbers.{value, refusal, ofPlanned, ofCounted, ofOutcome, recordTest}
-use Rattle.scope.specs.Calls.{readBook, patternPart, partOutcome, partPlace, writeBook, find, check, fetch, ringFetch}
+use Rattle.scope.specs.Calls.{readBook, patternPart, partOutcome, partPlace, writeBook, find, fewest, check, fetch, ringFetch}
 use Rattle.scope.specs.Program.{ascii, decimal, programText}
 use Rattle.scope.specs.promises.Meaning.{IsBook}
 use Rattle.scope.specs.declared.Plan.{Plan}
@@ -82,6 +82,7 @@ pub record UnusedDontCount : Type 0 where
   pub same : (book other : Book) → SameUsed book other → patterns book ≡ patterns other
   pub rebuilt : (book : Book) → IsBook book → SameUsed book (bookOf (patterns book))
   pub finds : (book other : Book) → SameUsed book other → (limit : ℕ) → find book limit ≡ find other limit
+  pub counts : (book other : Book) → SameUsed book other → fewest book ≡ fewest other
   pub checks : (book other : Book) → SameUsed book other → (x y : Pixel) → check book x y ≡ check other x y
   pub writes : (book other : Book) → SameUsed book other → (out : List ℕ) → writeBook book out ≡ writeBook other out
   pub fetches :

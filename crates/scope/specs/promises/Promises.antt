@@ -4,7 +4,7 @@ use Rattle.integers.specs.Division.{FloorDivision, Divisibility, CeilingDivisio
 use Rattle.integers.specs.Gcd.{EuclidsRule, GcdIsGreatest}
 use Rattle.scope.specs.promises.Meaning.{PatternsAre, LatticeMeans, SuitsMeans, InsideMeans, ChainIsFirst, TestsMean, LegalCallsAnswer}
 use Rattle.scope.specs.promises.Demand.{LastStoredMeans, Demand3}
-use Rattle.scope.specs.promises.PlanPromises.{NormalFormIsOnly, FinderIsLeast, FinderNone, FinderDecides, FinderOrder, BoxIsGreatest, FinderStaysWithin, LimitIsEnough, SurplusIsExcess, ClashIsFirst, CheckDecides}
+use Rattle.scope.specs.promises.PlanPromises.{NormalFormIsOnly, FinderIsLeast, FinderNone, FinderDecides, FinderOrder, BoxIsGreatest, FinderStaysWithin, LimitIsEnough, CountIsLeast, SurplusIsExcess, ClashIsFirst, CheckDecides}
 use Rattle.scope.specs.promises.PicturePromises.{FormulasAre, BanksAreClasses, PixelsHaveWords, ReverseMap, PictureCalls, RefusalsChangeNothing, RingKeepsBanks}
 use Rattle.scope.specs.promises.RefusalPromises.{CallsRefuse, RecordRefuses, ReaderRefuses}
 use Rattle.scope.specs.promises.BookPromises.{TwosComplement, BytesMean, ReadAfterWrite, WriteAfterRead, PartsAre, UnusedDontCount, ReaderSetsZero, DecimalMeans, ProgramWrites}
@@ -38,6 +38,7 @@ pub record Promises : Type 0 where
   pub box-is-greatest : BoxIsGreatest
   pub finder-stays-within : FinderStaysWithin
   pub limit-is-enough : LimitIsEnough
+  pub count-is-least : CountIsLeast
   pub surplus-is-excess : SurplusIsExcess
   pub clash-is-first : ClashIsFirst
   pub check-decides : CheckDecides

@@ -12,7 +12,7 @@ use Rattle.scope.specs.Plans.{Pixel, at, pixelAt, patternAt, pixels, ban
 use Rattle.scope.specs.Banks.{depthOf}
 use Rattle.scope.specs.Books.{signed, patternOf, bookOf, pixelBytes, patternBytes, bookBytes}
 use Rattle.scope.specs.Numbers.{Answer, value, refusal, turnedDown, ofPlanned, ofCounted, ofLoaded, ofLocated, ofOutcome, ofVerdict, recordTest}
-use Rattle.scope.specs.Calls.{readBook, partOutcome, recordOutcome, writeBook, normal, find, check, bank, depth, address, locate, store, load, clear, sum, lent, moved, fetch, ringFetch, recordPixel, fillRecords}
+use Rattle.scope.specs.Calls.{readBook, partOutcome, recordOutcome, writeBook, normal, find, fewest, check, bank, depth, address, locate, store, load, clear, sum, lent, moved, fetch, ringFetch, recordPixel, fillRecords}
 use Rattle.scope.specs.promises.Meaning.{IsPlan, IsSide, Inside, AllInside, IsPicture, InRange, PixelLegal, IsPattern, IsBook, Independent, RingAllowed}
 use Rattle.scope.specs.promises.PicturePromises.{LegalFetch}
 use Rattle.scope.specs.declared.Plan.{Plan}
@@ -60,6 +60,7 @@ pub record CallsRefuse : Type 0 where
   pub find-6 :
       (book : Book) (limit : ℕ) → IsBook book → ((1 ≤ limit) × (limit ≤ 1024) → ⊥)
       → ofPlanned (find book limit) ≡ refusal 6 0 none
+  pub count-2-3-4 : (book : Book) (f : Refusal) → recordTest book ≡ some f → ofCounted (fewest book) ≡ turnedDown f
   pub check-2-3-4 : (book : Book) (x y : Pixel) (f : Refusal) → recordTest book ≡ some f → ofVerdict (check book x y) ≡ turnedDown f
   pub check-8 : (book : Book) (x y : Pixel) → IsBook book → (Independent x y → ⊥) → ofVerdict (check book x y) ≡ refusal 8 0 none
   pub check-9 :

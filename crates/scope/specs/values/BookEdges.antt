@@ -11,7 +11,7 @@ use Rattle.scope.specs.Plans.{Pixel, at, plan, patternAt}
 use Rattle.scope.specs.Finding.{boxWidth, boxHeight}
 use Rattle.scope.specs.Books.{bookOf}
 use Rattle.scope.specs.Numbers.{Answer, value}
-use Rattle.scope.specs.Calls.{readBook, patternPart, partPlace, recordOutcome, partOutcome, writeBook, normal, find, check, bank, depth, address, locate}
+use Rattle.scope.specs.Calls.{readBook, patternPart, partPlace, recordOutcome, partOutcome, writeBook, normal, find, fewest, check, bank, depth, address, locate}
 use Rattle.scope.specs.Program.{ascii, decimal, programText}
 use Rattle.scope.specs.values.Rows.{Row, Hold, row, is, refused, clashes, planned, counted, located, done, neg, px, one, two, gap, threeAndThree, cross, finds, reads, checks, caseOf}
 use Rattle.scope.specs.declared.Plan.{Plan}
@@ -46,6 +46,21 @@ counts =
 counts-hold : Hold counts
 unfolding counts
 counts-hold = refl
+
+-- The least count: that of figures, and of records that are no book.
+leastCounts : List Row
+unfolding row is refused counted fewest bookOf gap cross px
+leastCounts =
+    row (counted (fewest (bookOf gap))) (is (4 ∷ []))
+    ∷ row (counted (fewest (bookOf cross))) (is (5 ∷ []))
+    ∷ row (counted (fewest (bookOf []))) (refused 2 0)
+    ∷ row (counted (fewest (bookOf ((px 16 0 ∷ []) ∷ [])))) (refused 3 0)
+    ∷ row (counted (fewest (bookOf ((px 0 0 ∷ px 0 0 ∷ []) ∷ [])))) (refused 4 0)
+    ∷ []
+
+leastCounts-hold : Hold leastCounts
+unfolding leastCounts
+leastCounts-hold = refl
 
 -- Coordinates -17, -16, 15, 16, and a repeat, in a record.
 coordinates : List Row

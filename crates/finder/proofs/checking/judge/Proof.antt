@@ -1,20 +1,23 @@
 -- `finder::checking::judge` meets its contract: a plan without a clash suits and has at least as many banks as the finder's,
 -- so the surplus does not wrap.
 -- Assumes nothing.
-use Prim.Native.Nat.{ℕ, _*_, _-_}
+use Prim.Native.Nat.{ℕ, _*_, _-_, _≤_}
 use native.Mathlib.Omega.{arith}
 use mathlib.Core.Path.{_≡_, sym, _∙_, ap}
 use mathlib.Core.Bool.{true}
 use mathlib.Core.Option.{none}
 use borrow.Author.Needs.{needs}
 use Rattle.scope.specs.Plans.{patterns, banks, suitsAll}
-use Rattle.scope.specs.Finding.{clash}
+use Rattle.scope.specs.Finding.{clash, leastCount}
 use Rattle.scope.specs.promises.Meaning.{IsPlan}
+use Rattle.scope.specs.declared.Plan.{Plan}
+use Rattle.scope.specs.declared.Book.{Book}
 use Rattle.scope.specs.declared.Verdict.{Verdict}
 use Rattle.scope.proofs.PlanFacts.{plan-means}
 use Rattle.checks.proofs.BookTests.{book-legal-iff}
 use Rattle.finder.proofs.ClashSearch.{no-clash-iff-suits-all}
-use Rattle.finder.proofs.Checks.{judged-clash, judged-suits, least-count-at-most}
+use Rattle.finder.proofs.Checks.{judged-clash, judged-suits}
+use Rattle.finder.proofs.LeastCounts.{least-count-at-most, number-is-least, book-is-counted}
 use Rattle.finder.proofs.MetAnswers.{at-found, nowhere-found}
 use Rattle.finder.proofs.checking.judge.Statement.{statement}
 use Rattle.finder.proofs.checking.judge.Tie as tie
@@ -40,32 +43,56 @@ module _ (c : tie.After-enum-told) where
       no-clash-iff-suits-all (start .args .book) (start .args .p) (is-plan .a-least) (is-plan .d-least)
       (book-legal-iff (start .args .book) .0 (start .pre .1)) .0 no-clash
 
-mul-surplus : tie.Need-mul-surplus
-mul-surplus c = record { fits = omega (arith, is-plan (c .before) .most) }
+-- the arm of a count
+module _ (c : tie.After-struct-known) where
+  abbrev counted : tie.After-least-count
+  counted = c .before .before .before .before
 
-sub-surplus : tie.Need-sub-surplus
-unfolding banks
-sub-surplus c =
-    let b = c .before .before in
-    let u = start b .args in
-    omega (arith, c .least-count .ensures, least-count-at-most (patterns (u .book)) (u .p) (is-plan b) (suiting b))
+  abbrev p : Plan
+  p = start (counted .before) .args .p
+
+  abbrev book : Book
+  book = start (counted .before) .args .book
+
+  abbrev n : ℕ
+  n = c .before .before .least .given .0 .0
+
+  least-is : n ≡ leastCount (patterns book)
+  least-is =
+      number-is-least book (start (counted .before) .pre .1) (counted .least-count .ensures) (c .before .before .least .given .1)
+
+  most : banks p ≤ 1024
+  unfolding banks
+  most = is-plan (counted .before) .most
+
+  least-most : n ≤ banks p
+  least-most =
+      omega (arith, least-is, least-count-at-most (patterns book) p (is-plan (counted .before)) (suiting (counted .before)))
 
 returns-2 : tie.Need-returns-2
 unfolding banks
 returns-2 c =
-    let b = c .before .before in
-    let p = start b .args .p in
-    ap (λ (least : ℕ). Verdict.Suits (record { plan = p; surplus = p .a * p .d - least })) (c .least-count .ensures)
-    ∙ sym (judged-suits (patterns (start b .args .book)) p (no-clash b))
+    ap (λ (least : ℕ). Verdict.Suits (record { plan = p c; surplus = p c .a * p c .d - least })) (least-is c)
+    ∙ sym (judged-suits (patterns (book c)) (p c) (no-clash (counted c .before)))
+
+-- a book is counted
+returns-3 : tie.Need-returns-3
+returns-3 c =
+    let l = c .before in
+    let k = l .before .before in
+    absurd (book-is-counted _ (start (k .before) .pre .1) (k .least-count .ensures) (l .least2 .given .1))
 
 pub judge-spec : {M : Type 1} → statement M
+unfolding banks
 judge-spec =
     tie.close
     (tie.spec
     (λ c κs. search needs) (λ c. search needs)
     returns
+    (λ c. search needs) (λ c κs. search needs) (λ c. search needs)
+    (λ c. record { fits = omega (arith, most c) })
+    (λ c. record { fits = omega (arith, most c, least-most c) })
+    (λ c. omega (arith, least-most c))
     (λ c. search needs)
-    mul-surplus
-    (λ c κs. search needs)
-    sub-surplus
-    returns-2)
+    returns-2
+    returns-3)

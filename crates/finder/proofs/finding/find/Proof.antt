@@ -4,7 +4,7 @@
 use Prim.Native.Nat.{ℕ, _≤_}
 use native.Mathlib.Omega.{arith}
 use mathlib.Core.Path.{_≡_, refl, sym, _∙_}
-use mathlib.Core.Option.{none, some}
+use mathlib.Core.Option.{none}
 use mathlib.Core.List.{[], _∷_}
 use borrow.Author.Needs.{needs}
 use Rattle.scope.specs.Plans.{patterns}
@@ -14,29 +14,21 @@ use Rattle.scope.specs.Calls.{findTest, found, find}
 use Rattle.scope.specs.declared.Book.{Book}
 use Rattle.scope.specs.declared.Planned.{Planned}
 use Rattle.scope.specs.declared.Refusal.{Refusal}
-use Rattle.checks.proofs.Chains.{chain-refuses, chain-goes-on, answered-some}
+use Rattle.checks.proofs.Chains.{chain-refuses, chain-goes-on}
 use Rattle.checks.proofs.Deciding.{limit-decides}
 use Rattle.checks.proofs.BookTests.{book-legal-iff}
 use Rattle.book.proofs.Outcomes.{record-taken, record-turned-down}
-use Rattle.finder.proofs.FindAnswers.{legal-find}
+use Rattle.finder.proofs.FindAnswers.{find-refused, book-refused, legal-find}
 use Rattle.finder.proofs.finding.find.Statement.{statement}
 use Rattle.finder.proofs.finding.find.Tie as tie
 
--- What the call answers, by its tests.
+-- What the call answers for a book, by its limit.
 module _ (book : Book) (limit : ℕ) where
-  refused : (r : Refusal) → findTest book limit ≡ some r → Planned.Refused r ≡ find book limit
-  unfolding find
-  refused r e = sym (answered-some (findTest book limit) Planned.Refused (found (leastPlan (patterns book) limit)) r e)
-
-  book-refused : (r : Refusal) → recordTest book ≡ some r → Planned.Refused r ≡ find book limit
-  unfolding findTest
-  book-refused r e = refused r (chain-refuses (recordTest book) (limitTest limit ∷ []) r e)
-
   module _ (legal : recordTest book ≡ none) where
     limit-refused : ((1 ≤ limit) × (limit ≤ 1024) → ⊥) → Planned.Refused Refusal.Limit ≡ find book limit
     unfolding findTest
     limit-refused h =
-        refused Refusal.Limit
+        find-refused book limit Refusal.Limit
         (chain-goes-on (recordTest book) (limitTest limit ∷ []) legal
         ∙ chain-refuses (limitTest limit) [] Refusal.Limit (limit-decides limit .refuses h))
 

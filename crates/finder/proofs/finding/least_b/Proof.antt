@@ -13,7 +13,7 @@ use Rattle.finder.proofs.finding.least_b.Statement.{statement}
 use Rattle.finder.proofs.finding.least_b.Tie as tie
 
 abbrev Inv-loop : tie.InvT-loop
-Inv-loop marks a d s₀ b₀ s b = (b ≤ a) × (s ≡ (31 + b) % a) × NoneFrom marks (λ ts. trial ts a d) 0 b
+Inv-loop marks a d s₀ b₀ s b = (b ≤ a) × (s ≡ (31 + b) % a) × NoneFrom marks (λ test. trial test a d) 0 b
 
 abbrev μ-loop : tie.MeasureT-loop
 μ-loop marks a d s₀ b₀ s b = a - b
@@ -32,7 +32,7 @@ start c = c .before .before
 returns : tie.Need-returns Inv-loop μ-loop
 returns c =
     let u = start (c .before) in
-    found-nowhere (λ ts. trial ts (u .args .a) (u .args .d)) 0 (u .args .a) (u .args .a)
+    found-nowhere (λ test. trial test (u .args .a) (u .args .d)) 0 (u .args .a) (u .args .a)
     (record { each = λ b p q. row-marked-none (u .pre .3) q (c .before .row-marked .ensures) (c .if1 .taken) })
     (omega arith)
 
@@ -98,7 +98,7 @@ add-s c = let l = head (c .before) in omega (arith, cell-below l, given l .pre)
 turned-down :
     (c : tie.Else2 Inv-loop μ-loop) →
     let l = head (c .before) in
-    NoneFrom (given l .args .marks .now) (λ ts. trial ts (a l) (given l .args .d)) 0 (b l + 1)
+    NoneFrom (given l .args .marks .now) (λ test. trial test (a l) (given l .args .d)) 0 (b l + 1)
 turned-down c =
     let l = head (c .before) in
     let none = rows-marked-none (given l .pre .3) (omega arith) (c .before .rows-marked .ensures) (c .if2 .left) in

@@ -1,4 +1,4 @@
--- `finder::finding::least_d` meets its contract. The loop's invariant: no plan with a smaller d suits. The measure is the number
+-- `finder::finding::first_with` meets its contract. The loop's invariant: no plan with a smaller d suits. The measure is the number
 -- of d's that are left.
 -- Assumes nothing.
 use Prim.Native.Nat.{_+_, _-_, _≤_}
@@ -7,13 +7,13 @@ use native.Mathlib.Omega.{arith}
 use mathlib.Core.Path.{refl}
 use mathlib.Core.Logic.{⊎-elim}
 use borrow.Author.Needs.{needs}
-use Rattle.scope.specs.Finding.{leastB, leastD}
+use Rattle.scope.specs.Finding.{leastB, firstWith}
 use Rattle.finder.proofs.TableSearch.{NoneFrom, none-yet, one-more-none, found-at, found-nowhere, divisor-searched, no-divisor-none}
-use Rattle.finder.proofs.finding.least_d.Statement.{statement}
-use Rattle.finder.proofs.finding.least_d.Tie as tie
+use Rattle.finder.proofs.finding.first_with.Statement.{statement}
+use Rattle.finder.proofs.finding.first_with.Tie as tie
 
 abbrev Inv-loop : tie.InvT-loop
-Inv-loop marks n d₀ d = (1 ≤ d) × (d ≤ n + 1) × NoneFrom marks (λ ts. leastB ts n) 1 d
+Inv-loop marks n d₀ d = (1 ≤ d) × (d ≤ n + 1) × NoneFrom marks (λ test. leastB test n) 1 d
 
 abbrev μ-loop : tie.MeasureT-loop
 μ-loop marks n d₀ d = n + 1 - d
@@ -37,7 +37,7 @@ least-b-requires c κs =
     )
 
 returns : tie.Need-returns Inv-loop μ-loop
-unfolding leastD
+unfolding firstWith
 returns c =
     let k = c .before .before in
     let l = k .before .before .before in
@@ -63,13 +63,13 @@ loop-again c =
     )
 
 returns-2 : tie.Need-returns-2 Inv-loop μ-loop
-unfolding leastD
+unfolding firstWith
 returns-2 c =
     let l = c .before in
     found-nowhere _ 1 (start l .args .n) _ (l .loop .inv .2) (omega arith)
 
-pub least-d-spec : {M : Type 1} → statement M
-least-d-spec =
+pub first-with-spec : {M : Type 1} → statement M
+first-with-spec =
     tie.close
     (tie.spec
     Inv-loop
