@@ -52,16 +52,12 @@ are-sides-iff W H = and-iff _ _ (is-side-iff W) (is-side-iff H)
 pub sides-mean : (W H : ℕ) → isSide W && isSide H ≡ true → IsSide W × IsSide H
 sides-mean W H = are-sides-iff W H .0
 
--- each side, with the number that it is divided by
-pub width-rounds : (p : Plan) (W H : ℕ) → isPlan p ≡ true → isSide W && isSide H ≡ true → Rounds W (p .a)
-width-rounds p W H plan sides =
+-- either side can be divided by a and by d
+pub sides-round : (p : Plan) (W H : ℕ) → isPlan p ≡ true → isSide W && isSide H ≡ true → Rounds W (p .a) × Rounds H (p .d)
+sides-round p W H plan sides =
     let m = plan-means p plan in
-    (sides-mean W H sides .0 .1, m .a-least, a-at-most p m)
-
-pub height-rounds : (p : Plan) (W H : ℕ) → isPlan p ≡ true → isSide W && isSide H ≡ true → Rounds H (p .d)
-height-rounds p W H plan sides =
-    let m = plan-means p plan in
-    (sides-mean W H sides .1 .1, m .d-least, d-at-most p m)
+    let (width, height) = sides-mean W H sides in
+    ((width .1, m .a-least, a-at-most p m), (height .1, m .d-least, d-at-most p m))
 
 -- 14: both coordinates of a pixel inside are naturals below the sides
 within-iff : (z : ℤ) (n : ℕ) → (within z n ≡ true) ↔ ((i : ℕ) × (z ≡ pos i) × (i < n))

@@ -18,7 +18,7 @@ use Rattle.scope.specs.Banks.{addressOf}
 use Rattle.scope.specs.promises.Meaning.{Inside}
 use Rattle.scope.specs.declared.Plan.{Plan}
 use Rattle.scope.proofs.Ceilings.{Rounds, rounded-at-most, product-at-most}
-use Rattle.scope.proofs.PlanFacts.{width-rounds, height-rounds, inside-means}
+use Rattle.scope.proofs.PlanFacts.{sides-round, inside-means}
 use Rattle.scope.proofs.formulas.address_number.Statement.{statement}
 use Rattle.scope.proofs.formulas.address_number.Tie as tie
 
@@ -60,17 +60,15 @@ module _ (s : tie.Start) where
   unfolding at
   row-is = pixel .row
 
-  by-a : Rounds (s .args .w) (p .a)
-  by-a = width-rounds _ _ _ (s .pre .0) (s .pre .1)
-
-  by-d : Rounds (s .args .h) (p .d)
-  by-d = height-rounds _ _ _ (s .pre .0) (s .pre .1)
+  -- which answers for either side and either divisor, so that an exchange is refused where the address is returned
+  rounds : Rounds (s .args .w) (p .a) × Rounds (s .args .h) (p .d)
+  rounds = sides-round _ _ _ (s .pre .0) (s .pre .1)
 
   column-below : pixel .i < 4096
-  column-below = omega (arith, pixel .i-below, by-a .0)
+  column-below = omega (arith, pixel .i-below, rounds)
 
   row-below : pixel .j < 4096
-  row-below = omega (arith, pixel .j-below, by-d .0)
+  row-below = omega (arith, pixel .j-below, rounds)
 
   column-read : natAbs (toZ w16 (ofZ w16 (s .args .i))) < 4096
   column-read = rw (natural-is (s .fits .i) column-is) column-below
@@ -82,10 +80,10 @@ cast-divided : tie.Need-cast-divided
 cast-divided c = natural-fits (c .fits .j) (row-is c) (row-below c)
 
 divided-requires : tie.Need-divided-requires
-divided-requires c κs = (omega (arith, row-read c), omega (arith, by-a c, by-d c), omega (arith, by-a c, by-d c))
+divided-requires c κs = let r = rounds c in (omega (arith, row-read c), omega (arith, r), omega (arith, r))
 
 rounded-up-requires : tie.Need-rounded-up-requires
-rounded-up-requires c κs = by-a (c .before)
+rounded-up-requires c κs = let r = rounds (c .before) in (omega (arith, r), omega (arith, r), omega (arith, r))
 
 -- the strips before the row's, times the words across
 module _ (c : tie.After-rounded-up) where
@@ -96,13 +94,15 @@ module _ (c : tie.After-rounded-up) where
   strips-most =
       product-at-most _ _
       (quotient-most _ _ (c .before .divided .ensures) (row-read start))
-      (rounded-at-most _ _ (by-a start) (c .rounded-up .ensures))
+      (rounded-at-most _ _ (rounded-up-requires (c .before) tt) (c .rounded-up .ensures))
 
 cast-divided-2 : tie.Need-cast-divided-2
 cast-divided-2 c = let s = start c in natural-fits (s .fits .i) (column-is s) (column-below s)
 
 divided-requires-2 : tie.Need-divided-requires-2
-divided-requires-2 c κs = let s = start c in (omega (arith, column-read s), omega (arith, by-a s, by-d s), omega (arith, by-a s, by-d s))
+divided-requires-2 c κs =
+    let r = rounds (start c) in
+    (omega (arith, column-read (start c)), omega (arith, r), omega (arith, r))
 
 -- and the words before the column's
 most : (c : tie.After-divided2) → let k = c .before in

@@ -2,24 +2,23 @@
 -- Assumes nothing.
 use Prim.Native.Nat.{ℕ, _+_, _*_, _-_, _^_, _≤_, _<_}
 use native.Mathlib.Omega.{arith}
-use native.Mathlib.Nat.{sub-add-cancel, mul-comm}
+use native.Mathlib.Nat.{sub-add-cancel, mul-le-mul}
 use mathlib.Core.Path.{_≡_, sym, _∙_, ap, ap₂, subst}
 use lib.Dec.{T, leb, leb→le}
 use lib.IntN.{ℤ, pos, natAbs, _-ℤ_, _*ℤ_}
 use mir.Syntax.{Width, w16, w32, w64}
-use mir.Val.{SFits, toZ, ofZ, hbits}
+use mir.Val.{Fits, SFits, toZ, ofZ, hbits}
 use mir.Facts.{toZ-ofZ}
 use borrow.Author.Needs.{needs}
 use Rattle.integers.specs.Division.{floorDiv, floorMod}
-use Rattle.integers.proofs.Digits.{digits-below}
 use Rattle.integers.proofs.Divisions.{remainder-below}
 use Rattle.integers.proofs.Raised.{widened-fits, widened-is}
 use Rattle.integers.proofs.Sizes.{small-fits, size-of-product-at-most, size-of-quotient, fitting-size, difference-fits}
-use Rattle.scope.specs.Plans.{at, banks}
+use Rattle.scope.specs.Plans.{at}
 use Rattle.scope.specs.Banks.{bankOf}
 use Rattle.scope.specs.promises.Meaning.{IsPlan}
 use Rattle.scope.specs.declared.Plan.{Plan}
-use Rattle.scope.proofs.PlanFacts.{plan-means, a-at-most}
+use Rattle.scope.proofs.PlanFacts.{plan-means, a-at-most, d-at-most}
 use Rattle.scope.proofs.formulas.bank_number.Statement.{statement}
 use Rattle.scope.proofs.formulas.bank_number.Tie as tie
 
@@ -96,12 +95,6 @@ module _ {p : Plan} {q i j : ℤ} (handed : Handed p q i j) where
     unfolding bankOf at
     bank-is = rw (r-is, c-is, row-is, narrowed-is, a-is, d-is)
 
-    bank-below : r * p .a + c < 1024
-    bank-below =
-        let r-below : r < p .d = rw (r-is, d-is) (remainder-below _ (p .d) (handed .plan .d-least)) in
-        let c-below : c < p .a = rw (c-is, a-is) (remainder-below _ (p .a) (handed .plan .a-least)) in
-        omega (arith, digits-below (p .d) (p .a) r-below c-below, mul-comm (p .a) (p .d), handed .plan .most)
-
 plan : (c : tie.Start) → IsPlan (c .args .p)
 plan c = plan-means _ (c .pre)
 
@@ -139,8 +132,23 @@ cast-remainder-4 c = narrowed-fits (handed (c .before))
 sub-remainder-3 : tie.Need-sub-remainder-3
 sub-remainder-3 c = let s = c .before .before in omega (arith, plan s .a-least, plan s .d-least)
 
-below : (c : tie.After-remainder2) → c .before .remainder .result * c .before .before .before .args .p .a + c .remainder2 .result < 1024
-below c = bank-below (handed (c .before .before)) (c .before .remainder .ensures) (c .remainder2 .ensures)
+-- both remainders are below 1024, by whichever of a and d they are, and so the bank fits
+remainder-small : (z : ℤ) (k : ℕ) {r : ℕ} → k ≤ 1023 → r ≡ floorMod z (k + 1) → r ≤ 1023
+remainder-small z k h e = rw e (omega (arith, remainder-below z (k + 1) (omega arith)))
+
+sum-fits : (r n c : ℕ) → r ≤ 1023 → n ≤ 1024 → c ≤ 1023 → Fits w64 (r * n + c)
+sum-fits r n c h k l = record { fits = omega (arith, mul-le-mul {n₁ = r} {m₁ = n} {n₂ = 1023} {m₂ = 1024} h k) }
+
+most : (c : tie.After-remainder2) → let p = c .before .before .before .args .p in (p .a ≤ 1024) × (p .d ≤ 1024)
+most c = let h = plan (c .before .before .before) in (a-at-most _ h, d-at-most _ h)
+
+add-result : tie.Need-add-result
+add-result c =
+    sum-fits _ _ _ (remainder-small _ _ (omega (arith, most c)) (c .before .remainder .ensures)) (omega (arith, most c))
+    (remainder-small _ _ (omega (arith, most c)) (c .remainder2 .ensures))
+
+mul-result : tie.Need-mul-result
+mul-result c = record { fits = omega (arith, add-result c .fits) }
 
 returns : tie.Need-returns
 returns c = bank-is (handed (c .before .before)) (c .before .remainder .ensures) (c .remainder2 .ensures)
@@ -160,5 +168,5 @@ bank-number-spec =
     cast-remainder-4
     sub-remainder-3
     (λ c κs. search needs) (λ c. search needs)
-    (λ c. record { fits = omega (arith, below c) }) (λ c. record { fits = omega (arith, below c) })
+    mul-result add-result
     returns)

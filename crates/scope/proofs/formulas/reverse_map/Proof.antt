@@ -29,7 +29,7 @@ use Rattle.scope.specs.declared.Located.the-variants.{Pixel as PixelAt, 
 use Rattle.scope.specs.declared.Refusal.the-variants.{Cell}
 use Rattle.scope.proofs.Ceilings.{Rounds, ceiling-at-most, blocks-at-most, product-at-most}
 use Rattle.scope.proofs.Chains.{none-whenever, some-whenever, chain-of-one, answered-none, answered-some}
-use Rattle.scope.proofs.PlanFacts.{plan-means, width-rounds, height-rounds}
+use Rattle.scope.proofs.PlanFacts.{plan-means, sides-round}
 use Rattle.scope.proofs.MethodAnswers.{fails, holds, both-pass, past-first}
 use Rattle.scope.proofs.formulas.reverse_map.Statement.{statement}
 use Rattle.scope.proofs.formulas.reverse_map.Tie as tie
@@ -98,10 +98,10 @@ module _ (p : Plan) (W H k i : ℕ) (plan : isPlan p ≡ true) (sides : isSide W
   -- past the tests of bank and address: C is the width divided by a and rounded up
   module _ (h : k < banks p) (l : i < depthOf p W H) {C : ℕ} (e : C ≡ ceilDiv W (p .a)) where
     abbrev by-a : Rounds W (p .a)
-    by-a = width-rounds p W H plan sides
+    by-a = sides-round p W H plan sides .0
 
     abbrev by-d : Rounds H (p .d)
-    by-d = height-rounds p W H plan sides
+    by-d = sides-round p W H plan sides .1
 
     bank-small : k < 1024
     unfolding banks
@@ -203,7 +203,7 @@ returns-2 c =
     no-address _ _ _ _ _ plan sides (bank-there (k .before)) (rw (← (k .depth-number .ensures)) (c .if2 .taken))
 
 rounded-up-requires : tie.Need-rounded-up-requires
-rounded-up-requires c κs = let (plan, sides) = c .before .before .before .before .pre in width-rounds _ _ _ plan sides
+rounded-up-requires c κs = let (plan, sides) = c .before .before .before .before .pre in sides-round _ _ _ plan sides .0
 
 -- the address is there too, and the width was divided
 there :
