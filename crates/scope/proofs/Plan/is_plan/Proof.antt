@@ -15,7 +15,7 @@ returns-2 : tie.Need-returns-2
 unfolding isPlan
 returns-2 c =
     let p = c .before .before .before .before .args .self in
-    simp (le-leb 1 (p .a) (omega arith), lt-leb 1 (p .d) (omega arith))
+    simp (lt-leb 1 (p .d) (omega arith), and-false)
 
 returns-3 : tie.Need-returns-3
 unfolding isPlan

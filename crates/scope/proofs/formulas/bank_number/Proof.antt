@@ -109,7 +109,7 @@ cast-remainder : tie.Need-cast-remainder
 cast-remainder c = cast-quotient (c .before)
 
 sub-remainder : tie.Need-sub-remainder
-sub-remainder c = sub-quotient (c .before)
+sub-remainder c = let s = c .before in omega (arith, plan s .a-least, plan s .d-least)
 
 cast-remainder-2 : tie.Need-cast-remainder-2
 cast-remainder-2 c = widened-fits w16 w64 tt (c .before .before .args .i) (c .before .before .fits .i)
