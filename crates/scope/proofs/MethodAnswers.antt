@@ -1,7 +1,6 @@
 -- What a plan's methods answer: by 11 and 12, the first tests of a call on a picture, and by 14 of one pixel.
 -- Assumes nothing.
 use Prim.Native.Nat.{ℕ}
-use native.Mathlib.Omega.{arith}
 use mathlib.Core.Path.{_≡_, refl, sym, _∙_, ap}
 use mathlib.Core.Bool.{Bool, true, false, not, _&&_}
 use mathlib.Core.Option.{Option, none, some}
@@ -17,7 +16,7 @@ use Rattle.scope.specs.declared.Outcome.{Outcome}
 use Rattle.scope.specs.declared.Refusal.{Refusal}
 use Rattle.scope.specs.declared.Refusal.the-variants.{NotPlan, Sides, Outside}
 use Rattle.scope.proofs.Chains.{whenever-none, none-whenever, some-whenever, chain-none-iff, chain-refuses, chain-goes-on, chain-of-one}
-use Rattle.scope.proofs.Chains.{tests-as-one, value-not-refusal, answered-none, answered-some, answered-refused, answered-value}
+use Rattle.scope.proofs.Chains.{tests-as-one, value-not-refusal, answered-some, answered-refused, answered-value}
 
 -- the code asks `!r` for a test t whose value r a callee gave
 pub fails : {r t : Bool} → r ≡ t → not r ≡ true → t ≡ false

@@ -82,7 +82,7 @@ over-start-again xs ys before =
 
 -- The first part fits, and a call put it.
 module _ {whole xs before : List ℕ} {parts : List (List ℕ)} (p : RoomFor whole (xs ∷ parts) before) where
-  pub first-part-fits : length xs ≤ length before
+  first-part-fits : length xs ≤ length before
   first-part-fits = omega (arith, rw (p .is) at (p .room), length-append xs (joined parts))
 
   pub first-part-put :

@@ -1,12 +1,8 @@
 -- `scope::Plan::bank` meets its contract: 11, then the bank.
 -- Assumes nothing.
-use Prim.Native.Nat.{ℕ}
 use mathlib.Core.Path.{_≡_, sym, _∙_, ap}
 use mathlib.Core.Bool.{true, false}
-use lib.IntN.{ℤ}
-use mir.Syntax.{w16}
-use mir.Val.{SFits, toZ, ofZ}
-use Rattle.scope.specs.Plans.{Pixel, at, isPlan}
+use Rattle.scope.specs.Plans.{Pixel, isPlan}
 use Rattle.scope.specs.Banks.{bankOf}
 use Rattle.scope.specs.Numbers.{planTest}
 use Rattle.scope.specs.Calls.{bank}

@@ -11,7 +11,6 @@ use lib.Signed.{nonNeg}
 use mir.Syntax.{w16, w32}
 use mir.Val.{Fits, SFits, toZ, ofZ}
 use mir.Facts.{toZ-ofZ}
-use borrow.Author.Needs.{needs}
 use Rattle.integers.specs.Division.{ceilDiv}
 use Rattle.scope.specs.Plans.{at}
 use Rattle.scope.specs.Banks.{addressOf}

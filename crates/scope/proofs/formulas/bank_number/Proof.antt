@@ -1,6 +1,6 @@
 -- `scope::formulas::bank_number` meets its contract: i - b × q fits 32 bits.
 -- Assumes nothing.
-use Prim.Native.Nat.{ℕ, _+_, _*_, _-_, _^_, _≤_, _<_}
+use Prim.Native.Nat.{ℕ, _+_, _*_, _-_, _^_, _≤_}
 use native.Mathlib.Omega.{arith}
 use native.Mathlib.Nat.{sub-add-cancel, mul-le-mul}
 use mathlib.Core.Path.{_≡_, sym, _∙_, ap, ap₂, subst}

@@ -2,7 +2,6 @@
 -- Assumes nothing.
 use Prim.Native.Nat.{_*_, _≤_}
 use native.Mathlib.Omega.{arith}
-use borrow.Author.Needs.{needs}
 use Rattle.scope.specs.Banks.{depthOf}
 use Rattle.scope.proofs.Ceilings.{Rounds, rounded-at-most, product-at-most}
 use Rattle.scope.proofs.PlanFacts.{sides-round}
