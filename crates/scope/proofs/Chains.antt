@@ -8,10 +8,11 @@ use mathlib.Core.Logic.{_↔_}
 use mathlib.Core.Option.{Option, none, some, Option·none-ne-some}
 use mathlib.Core.List.{List, [], _∷_, _++_}
 use Rattle.scope.specs.Search.{whenever, firstOf}
-use Rattle.scope.specs.Numbers.{Answer, value, refusal, turnedDown}
+use Rattle.scope.specs.Numbers.{Answer, value, refusal, turnedDown, ofOutcome}
 use Rattle.scope.specs.Calls.{answered}
 use Rattle.scope.specs.declared.Clash.{Clash}
 use Rattle.scope.specs.declared.Refusal.{Refusal}
+use Rattle.scope.specs.declared.Outcome.{Outcome}
 
 -- A test finds its refusal exactly where its condition holds.
 module _ {A : Type 0} where
@@ -99,3 +100,12 @@ module _ {X A : Type 0} (of : X → Answer A) (t : Option Refusal) (refused : Re
       by-tests : (s : Option Refusal) → t ≡ s → (t ≡ none) × (of x ≡ value v)
       by-tests none h = (h, ap of (sym (answered-none t refused x h)) ∙ e)
       by-tests (some r) h = absurd (value-not-refusal (sym e ∙ ap of (answered-some t refused x r h) ∙ reads r))
+
+-- What an outcome tells of the tests behind it.
+module _ {outcome : Outcome} (t : Option Refusal) (is : outcome ≡ answered t Outcome.Refused Outcome.Done) where
+  pub done-found-nothing : outcome ≡ Outcome.Done → t ≡ none
+  done-found-nothing e = answered-value ofOutcome t Outcome.Refused Outcome.Done tt (λ r. refl) (ap ofOutcome (sym is ∙ e)) .0
+
+  pub refused-found : {r : Refusal} → outcome ≡ Outcome.Refused r → t ≡ some r
+  refused-found {r} e =
+      answered-refused t Outcome.Refused Outcome.Done r (λ s h. cc) (λ h. value-not-refusal (ap ofOutcome h)) (sym is ∙ e)

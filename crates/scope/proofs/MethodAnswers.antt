@@ -9,14 +9,13 @@ use borrow.Author.Tests.{not-true, not-false}
 use Rattle.scope.specs.Search.{whenever, firstOf, every}
 use Rattle.scope.specs.Plans.{Pixel, isPlan}
 use Rattle.scope.specs.Banks.{inside}
-use Rattle.scope.specs.Numbers.{ofOutcome, isSide, planTest, sidesTest, outsideTest}
+use Rattle.scope.specs.Numbers.{isSide, planTest, sidesTest, outsideTest}
 use Rattle.scope.specs.Calls.{answered}
 use Rattle.scope.specs.declared.Plan.{Plan}
-use Rattle.scope.specs.declared.Outcome.{Outcome}
 use Rattle.scope.specs.declared.Refusal.{Refusal}
 use Rattle.scope.specs.declared.Refusal.the-variants.{NotPlan, Sides, Outside}
 use Rattle.scope.proofs.Chains.{whenever-none, none-whenever, some-whenever, chain-none-iff, chain-refuses, chain-goes-on, chain-of-one}
-use Rattle.scope.proofs.Chains.{tests-as-one, value-not-refusal, answered-some, answered-refused, answered-value}
+use Rattle.scope.proofs.Chains.{tests-as-one, answered-some}
 
 -- the code asks `!r` for a test t whose value r a callee gave
 pub fails : {r t : Bool} → r ≡ t → not r ≡ true → t ≡ false
@@ -66,16 +65,7 @@ module _ (p : Plan) (W H : ℕ) where
       let (plan, sides) = chain-none-iff (planTest p) (sidesTest W H ∷ []) .0 e in
       (demanded (isPlan p) NotPlan plan, demanded (isSide W && isSide H) Sides (sym (chain-of-one (sidesTest W H)) ∙ sides))
 
-  -- what `picture_outcome` answered tells which
-  module _ {o : Outcome} (is : o ≡ answered pictureTests Outcome.Refused Outcome.Done) where
-    pub done-passed : o ≡ Outcome.Done → pictureTests ≡ none
-    done-passed e = answered-value ofOutcome pictureTests Outcome.Refused Outcome.Done tt (λ r. refl) (ap ofOutcome (sym is ∙ e)) .0
-
-    pub refused-found : {r : Refusal} → o ≡ Outcome.Refused r → pictureTests ≡ some r
-    refused-found {r} e =
-        answered-refused pictureTests Outcome.Refused Outcome.Done r (λ s h. cc) (λ h. value-not-refusal (ap ofOutcome h)) (sym is ∙ e)
-
-  -- and what a call that begins with them answers
+  -- what a call that begins with them answers
   module _ {A : Type 0} (refused : Refusal → A) (x : A) (rest : List (Option Refusal)) where
     abbrev answer : A
     answer = answered (firstOf (planTest p ∷ sidesTest W H ∷ rest)) refused x

@@ -15,10 +15,10 @@ use Rattle.scope.specs.declared.Counted.{Counted}
 use Rattle.scope.specs.declared.Counted.the-variants.{Number, Refused}
 use Rattle.scope.specs.declared.Refusal.{Refusal}
 use Rattle.scope.specs.declared.Refusal.the-variants.{Outside}
-use Rattle.scope.proofs.Chains.{chain-of-one, answered-none, answered-some}
+use Rattle.scope.proofs.Chains.{done-found-nothing, refused-found, chain-of-one, answered-none, answered-some}
 use Rattle.scope.proofs.PlanFacts.{pixel-handed}
 use Rattle.scope.proofs.MethodAnswers.{fails, holds, demand-met, demand-fails, pictureTests, both-passed}
-use Rattle.scope.proofs.MethodAnswers.{done-passed, refused-found, refused-first, past-first, outside-one}
+use Rattle.scope.proofs.MethodAnswers.{refused-first, past-first, outside-one}
 use Rattle.scope.proofs.Plan.address.Statement.{statement}
 use Rattle.scope.proofs.Plan.address.Tie as tie
 
@@ -50,7 +50,7 @@ module _ (p : Plan) (W H : ℕ) (v : Pixel) where
 returns : tie.Need-returns
 returns c =
     let r = c .before in
-    address-refused _ _ _ _ (refused-found _ _ _ (r .before .before .picture-outcome .ensures) (r .r .given .1))
+    address-refused _ _ _ _ (refused-found _ (r .before .before .picture-outcome .ensures) (r .r .given .1))
 
 -- 11 and 12 are passed
 module _ (c : tie.After-is-inside) where
@@ -58,7 +58,7 @@ module _ (c : tie.After-is-inside) where
   start = c .before .before .before .before
 
   passed : pictureTests (start .args .self) (start .args .w) (start .args .h) ≡ none
-  passed = done-passed _ _ _ (c .before .before .before .picture-outcome .ensures) (c .before .enum-told .given .1)
+  passed = done-found-nothing _ (c .before .before .before .picture-outcome .ensures) (c .before .enum-told .given .1)
 
   inside-is : c .is-inside .result ≡ inside (start .args .w) (start .args .h) (at (start .args .i) (start .args .j))
   inside-is = rw (pixel-handed (start .fits .i) (start .fits .j)) at (c .is-inside .ensures)

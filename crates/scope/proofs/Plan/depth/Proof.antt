@@ -11,7 +11,8 @@ use Rattle.scope.specs.Calls.{answered, depth}
 use Rattle.scope.specs.declared.Plan.{Plan}
 use Rattle.scope.specs.declared.Counted.the-variants.{Number, Refused}
 use Rattle.scope.specs.declared.Refusal.{Refusal}
-use Rattle.scope.proofs.MethodAnswers.{pictureTests, both-passed, done-passed, refused-found, refused-first, past-first}
+use Rattle.scope.proofs.Chains.{done-found-nothing, refused-found}
+use Rattle.scope.proofs.MethodAnswers.{pictureTests, both-passed, refused-first, past-first}
 use Rattle.scope.proofs.Plan.depth.Statement.{statement}
 use Rattle.scope.proofs.Plan.depth.Tie as tie
 
@@ -25,11 +26,11 @@ module _ (p : Plan) (W H : ℕ) where
   depth-given e = sym (past-first p W H Refused (Number (depthOf p W H)) [] e)
 
 returns : tie.Need-returns
-returns c = let r = c .before in depth-refused _ _ _ (refused-found _ _ _ (r .before .before .picture-outcome .ensures) (r .r .given .1))
+returns c = let r = c .before in depth-refused _ _ _ (refused-found _ (r .before .before .picture-outcome .ensures) (r .r .given .1))
 
 -- 11 and 12 are passed
 passed : (c : tie.After-enum-told) → let v = c .before .before .before .args in pictureTests (v .self) (v .w) (v .h) ≡ none
-passed c = done-passed _ _ _ (c .before .before .picture-outcome .ensures) (c .enum-told .given .1)
+passed c = done-found-nothing _ (c .before .before .picture-outcome .ensures) (c .enum-told .given .1)
 
 depth-number-requires : tie.Need-depth-number-requires
 depth-number-requires c κs = both-passed _ _ _ (passed c)

@@ -10,7 +10,8 @@ use Rattle.scope.specs.Calls.{locate}
 use Rattle.scope.specs.declared.Plan.{Plan}
 use Rattle.scope.specs.declared.Located.the-variants.{Refused}
 use Rattle.scope.specs.declared.Refusal.{Refusal}
-use Rattle.scope.proofs.MethodAnswers.{pictureTests, both-passed, done-passed, refused-found, refused-first}
+use Rattle.scope.proofs.Chains.{done-found-nothing, refused-found}
+use Rattle.scope.proofs.MethodAnswers.{pictureTests, both-passed, refused-first}
 use Rattle.scope.proofs.Plan.locate.Statement.{statement}
 use Rattle.scope.proofs.Plan.locate.Tie as tie
 
@@ -21,11 +22,11 @@ locate-refused p W H k i = refused-first p W H Refused _ (cellTest p W H k i ∷
 returns : tie.Need-returns
 returns c =
     let r = c .before in
-    locate-refused _ _ _ _ _ (refused-found _ _ _ (r .before .before .picture-outcome .ensures) (r .r .given .1))
+    locate-refused _ _ _ _ _ (refused-found _ (r .before .before .picture-outcome .ensures) (r .r .given .1))
 
 reverse-map-requires : tie.Need-reverse-map-requires
 reverse-map-requires c κs =
-    both-passed _ _ _ (done-passed _ _ _ (c .before .before .picture-outcome .ensures) (c .enum-told .given .1))
+    both-passed _ _ _ (done-found-nothing _ (c .before .before .picture-outcome .ensures) (c .enum-told .given .1))
 
 pub locate-spec : {M : Type 1} → statement M
 locate-spec =
