@@ -80,21 +80,6 @@ over-start-again xs ys before =
     (rw (length-append, ← (drop-drop (length ys) (length xs) before), ← (drop-drop (length ys) (length xs) (overStart xs before)))
     (ap (drop (length ys)) (over-start-rest xs before)))
 
--- The first part fits, and a call put it.
-module _ {whole xs before : List ℕ} {parts : List (List ℕ)} (p : RoomFor whole (xs ∷ parts) before) where
-  first-part-fits : length xs ≤ length before
-  first-part-fits = omega (arith, rw (p .is) at (p .room), length-append xs (joined parts))
-
-  pub first-part-put :
-      {out : List ℕ} {at : ℕ} → (at ≡ length xs) × (out ≡ overStart xs before) → PutBut whole parts at before out
-  first-part-put (e, come) =
-      record {
-        front = xs;
-        is = p .is;
-        put-to = record { place = e; put = record { same-length = rw come (over-start-length xs before first-part-fits); is = come } };
-        room = rw (p .is) at (p .room);
-      }
-
 -- What was put ends in the output.
 pub ends-inside :
     {whole before out : List ℕ} {parts : List (List ℕ)} {at : ℕ} → PutBut whole parts at before out → at ≤ length before
@@ -198,15 +183,9 @@ module _ (n : ℕ) (before : List ℕ) (room : length (decimal n) ≤ length bef
   ButLast at out = PutBut (decimal n) ((lastDigit n ∷ []) ∷ []) at before out
 
   pub none-put : n ≤ 9 → ButLast 0 before
-  none-put h =
-      record {
-        front = [];
-        is = decimal-of-digit n h;
-        put-to = nothing-put before;
-        room = rw (decimal-of-digit n h) at room;
-      }
+  none-put h = none-stands record { is = decimal-of-digit n h; room = room }
 
   pub front-put :
       {at : ℕ} {out : List ℕ} → 9 < n → (at ≡ length (decimal (n / 10))) × (out ≡ overStart (decimal (n / 10)) before)
       → ButLast at out
-  front-put h come = first-part-put {xs = decimal (n / 10)} record { is = decimal-of-more n h; room = room } come
+  front-put h (e, come) = put-after {ys = decimal (n / 10)} (none-stands record { is = decimal-of-more n h; room = room }) (omega (arith, e), come)
