@@ -1,9 +1,8 @@
 -- Chains of tests, and how a call is taken apart: its tests found nothing and it gives its value, or it gives the first refusal.
 -- Assumes nothing.
 use Prim.Native.Nat.{ℕ}
-use native.Mathlib.Omega.{arith}
 use mathlib.Core.Path.{_≡_, refl, sym, _∙_, ap}
-use mathlib.Core.Logic.{_↔_, _⊎_, inl, inr}
+use mathlib.Core.Logic.{_⊎_, inl, inr}
 use mathlib.Core.Option.{Option, none, some}
 use mathlib.Core.List.{List, [], _∷_, _++_, List·Memᴰ, List·Memᴰ·head, List·Memᴰ·tail, List·Memᴰ·not-nil, List·Memᴰ·cases-cons}
 use Rattle.scope.specs.Search.{firstOf}
@@ -17,12 +16,9 @@ use Rattle.scope.specs.declared.Clash.{Clash}
 use Rattle.scope.specs.declared.Plan.{Plan}
 use Rattle.scope.specs.declared.Refusal.{Refusal}
 use Rattle.checks.proofs.Searches.{none-not-some}
-
--- A chain finds nothing exactly where its first test finds nothing and the rest finds nothing.
-pub chain-none-iff : (t : Option Refusal) (ts : List (Option Refusal)) → (firstOf (t ∷ ts) ≡ none) ↔ ((t ≡ none) × (firstOf ts ≡ none))
-unfolding firstOf
-chain-none-iff none ts = (λ e. (refl, e), λ h. h .1)
-chain-none-iff (some r) ts = (λ e. absurd (none-not-some (sym e)), λ h. absurd (none-not-some (sym (h .0))))
+-- what `scope` has of them
+pub use Rattle.scope.proofs.Chains.{chain-none-iff, chain-refuses, chain-goes-on, chain-of-one, tests-as-one}
+pub use Rattle.scope.proofs.Chains.{value-not-refusal, value-injective, answered-none, answered-some, answered-refused, answered-value}
 
 -- What a chain finds, its first test finds, or that finds nothing and the rest does.
 pub chain-some : (t : Option Refusal) (ts : List (Option Refusal)) (r : Refusal) → firstOf (t ∷ ts) ≡ some r
@@ -30,31 +26,6 @@ pub chain-some : (t : Option Refusal) (ts : List (Option Refusal)) (r : Refusal)
 unfolding firstOf
 chain-some none ts r e = inr (refl, e)
 chain-some (some s) ts r e = inl e
-
--- A first test that refuses is what it finds, and one that finds nothing leaves it to the rest.
-pub chain-refuses : (t : Option Refusal) (ts : List (Option Refusal)) (r : Refusal) → t ≡ some r → firstOf (t ∷ ts) ≡ some r
-unfolding firstOf
-chain-refuses t ts r e = rw (e, firstOf)
-
-pub chain-goes-on : (t : Option Refusal) (ts : List (Option Refusal)) → t ≡ none → firstOf (t ∷ ts) ≡ firstOf ts
-unfolding firstOf
-chain-goes-on t ts e = rw (e, firstOf)
-
--- A chain of one test is that test.
-pub chain-of-one : (t : Option Refusal) → firstOf (t ∷ []) ≡ t
-unfolding firstOf
-chain-of-one none = refl
-chain-of-one (some r) = refl
-
--- Tests of a chain that follow each other can stand in it as one test.
-pub tests-as-one :
-    (before these after : List (Option Refusal)) → firstOf (before ++ (these ++ after)) ≡ firstOf (before ++ (firstOf these ∷ after))
-unfolding firstOf
-tests-as-one [] [] after = refl
-tests-as-one [] (none ∷ these) after = tests-as-one [] these after
-tests-as-one [] (some r ∷ these) after = refl
-tests-as-one (none ∷ before) these after = tests-as-one before these after
-tests-as-one (some r ∷ before) these after = refl
 
 -- It finds nothing exactly where none of its tests does.
 all-none : (tests : List (Option Refusal)) → firstOf tests ≡ none → (t : Option Refusal) → List·Memᴰ t tests → t ≡ none
@@ -83,14 +54,8 @@ first-after-none (some s ∷ before) after r e = absurd (none-not-some (sym e))
 pub chain-is-first : ChainIsFirst
 chain-is-first = record { none-holds = λ tests. (all-none tests, none-all tests); first-holds = first-after-none }
 
--- A value is no refusal, and each says what it holds.
+-- A refusal says what it holds.
 module _ {A : Type 0} where
-  pub value-not-refusal : {x : A} {n i : ℕ} {c : Option Clash} → value x ≡ refusal n i c → ⊥
-  value-not-refusal e = let z : _≡_ {A = ℕ} 0 1 = cc in omega arith
-
-  pub value-injective : {x y : A} → value x ≡ value y → x ≡ y
-  value-injective e = cc
-
   pub refusal-number : {n m i j : ℕ} {c d : Option Clash} → _≡_ {A = Answer A} (refusal n i c) (refusal m j d) → n ≡ m
   refusal-number e = cc
 
@@ -99,25 +64,6 @@ module _ {A : Type 0} where
 
   pub refusal-clash : {n m i j : ℕ} {c d : Option Clash} → _≡_ {A = Answer A} (refusal n i c) (refusal m j d) → c ≡ d
   refusal-clash e = cc
-
--- A call whose tests find nothing gives its value, and one whose tests find a refusal gives that.
-module _ {X : Type 0} where
-  pub answered-none : (t : Option Refusal) (refused : Refusal → X) (x : X) → t ≡ none → answered t refused x ≡ x
-  unfolding answered
-  answered-none t refused x e = rw (e, answered)
-
-  pub answered-some :
-      (t : Option Refusal) (refused : Refusal → X) (x : X) (r : Refusal) → t ≡ some r → answered t refused x ≡ refused r
-  unfolding answered
-  answered-some t refused x r e = rw (e, answered)
-
-  -- a refusal that is not the value is what the tests found
-  pub answered-refused :
-      (t : Option Refusal) (refused : Refusal → X) (x : X) (r : Refusal) → ((s : Refusal) → refused s ≡ refused r → s ≡ r)
-      → (x ≡ refused r → ⊥) → answered t refused x ≡ refused r → t ≡ some r
-  unfolding answered
-  answered-refused none refused x r says no-refusal e = absurd (no-refusal e)
-  answered-refused (some s) refused x r says no-refusal e = ap some (says s e)
 
 -- A call gives this answer and leaves this content.
 abbrev pub Gives : {X Y : Type 0} → Result X Y → X → Y → Type 0
@@ -170,16 +116,6 @@ RefusedBy t n i c = (r : Refusal) × (t ≡ some r) × (numberOf r ≡ n) × (pl
 
 -- `of` reads an answer in numbers and values, and a refused call's as turned down.
 module _ {X A : Type 0} (of : X → Answer A) (t : Option Refusal) (refused : Refusal → X) where
-  -- a call that gives a value: its tests found nothing
-  pub answered-value :
-      (x : X) (v : A) → ((r : Refusal) → of (refused r) ≡ turnedDown r) → of (answered t refused x) ≡ value v
-      → (t ≡ none) × (of x ≡ value v)
-  answered-value x v reads e = by-tests t refl
-    where
-      by-tests : (s : Option Refusal) → t ≡ s → (t ≡ none) × (of x ≡ value v)
-      by-tests none h = (h, ap of (sym (answered-none t refused x h)) ∙ e)
-      by-tests (some r) h = absurd (value-not-refusal (sym e ∙ ap of (answered-some t refused x r h) ∙ reads r))
-
   -- a call that gives a refusal: its tests found it, or they found nothing and what it goes on to give is that refusal
   pub answered-refusal :
       (x : X) (n i : ℕ) (c : Option Clash) → ((r : Refusal) → of (refused r) ≡ turnedDown r)
@@ -199,7 +135,7 @@ module _ {X A : Type 0} (of : X → Answer A) (t : Option Refusal) (refused : Re
       {Y : Type 0} (old : Y) (x : X) (new : Y) (v : A) → ((r : Refusal) → of (refused r) ≡ turnedDown r)
       → of (changed t refused old x new .answer) ≡ value v
       → (t ≡ none) × (of x ≡ value v)
-  changed-value old x new v reads e = answered-value x v reads (ap of (sym (changed-answer t refused old x new)) ∙ e)
+  changed-value old x new v reads e = answered-value of t refused x v reads (ap of (sym (changed-answer t refused old x new)) ∙ e)
 
   pub changed-refusal :
       {Y : Type 0} (old : Y) (x : X) (new : Y) (n i : ℕ) (c : Option Clash) → ((r : Refusal) → of (refused r) ≡ turnedDown r)

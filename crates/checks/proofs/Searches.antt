@@ -12,6 +12,7 @@ use mathlib.Core.Option.{Option, none, some}
 use mathlib.Core.List.{List, [], _∷_, _++_, List·Memᴰ, List·Memᴰ·head, List·Memᴰ·tail, List·Memᴰ·not-nil, List·Memᴰ·cases-cons}
 use lib.ListN.{length, getD}
 use Rattle.scope.specs.Search.{first, gather, whenever, every, someBelow}
+pub use Rattle.scope.proofs.Chains.{whenever-none, none-whenever, some-whenever}
 
 -- two constructors are never equal, and `some` is injective
 pub none-not-some : {A : Type 0} {x : A} → _≡_ {A = Option A} none (some x) → ⊥
@@ -189,26 +190,11 @@ module _ {A : Type 0} where
       by-place (yes d) r = List·Memᴰ·head (ap f d)
       by-place (no d) r = List·Memᴰ·tail (r (omega arith) (omega arith))
 
-  -- `whenever` gives its entry exactly where the test holds
-  pub whenever-none : (b : Bool) (x : A) → whenever b x ≡ none → b ≡ false
-  unfolding whenever
-  whenever-none true x e = absurd (none-not-some (sym e))
-  whenever-none false x e = refl
-
-  pub none-whenever : (b : Bool) (x : A) → b ≡ false → whenever b x ≡ none
-  unfolding whenever
-  none-whenever true x e = absurd (true-not-false e)
-  none-whenever false x e = refl
-
+  -- `whenever` gives its entry only where the test holds
   pub whenever-some : (b : Bool) (x y : A) → whenever b x ≡ some y → (b ≡ true) × (x ≡ y)
   unfolding whenever
   whenever-some true x y e = (refl, some-injective e)
   whenever-some false x y e = absurd (none-not-some e)
-
-  pub some-whenever : (b : Bool) (x : A) → b ≡ true → whenever b x ≡ some x
-  unfolding whenever
-  some-whenever true x e = refl
-  some-whenever false x e = absurd (true-not-false (sym e))
 
   -- where it does not give nothing, it gives its entry
   pub whenever-not-none : (b : Bool) (x : A) → (whenever b x ≡ none → ⊥) → whenever b x ≡ some x

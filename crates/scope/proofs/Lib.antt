@@ -1,6 +1,5 @@
 -- What a plan's methods rest on.
+pub mod Chains  -- chains of tests, and what a call answers by them
 pub mod Ceilings  -- quotients rounded up
-pub mod CellBounds  -- columns and rows of the reverse map fit 16 bits
 pub mod PlanFacts  -- plan, sides and pixels in plain numbers; numbers handed to a callee
-pub mod MethodAnswers  -- what a plan's method answers, test by test
-pub mod LocateAnswers  -- what the reverse map answers, test by test
+pub mod MethodAnswers  -- the first tests of a call on a picture, 11 and 12; 14 of one pixel

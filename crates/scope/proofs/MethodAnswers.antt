@@ -1,9 +1,9 @@
--- What a call answers, test by test: a test whose condition holds gives its refusal, any other leaves the answer to the rest.
+-- What a plan's methods answer: by 11 and 12, the first tests of a call on a picture, and by 14 of one pixel.
 -- Assumes nothing.
 use Prim.Native.Nat.{ℕ}
 use mathlib.Core.Path.{_≡_, refl, sym, _∙_, ap}
-use mathlib.Core.Bool.{Bool, true, false, not, _&&_, false≢true}
-use mathlib.Core.Option.{Option}
+use mathlib.Core.Bool.{Bool, true, false, not, _&&_}
+use mathlib.Core.Option.{Option, none, some}
 use mathlib.Core.List.{List, [], _∷_}
 use borrow.Author.Tests.{not-true, not-false}
 use Rattle.scope.specs.Search.{whenever, firstOf, every}
@@ -14,6 +14,8 @@ use Rattle.scope.specs.Calls.{answered}
 use Rattle.scope.specs.declared.Plan.{Plan}
 use Rattle.scope.specs.declared.Refusal.{Refusal}
 use Rattle.scope.specs.declared.Refusal.the-variants.{NotPlan, Sides, Outside}
+use Rattle.scope.proofs.Chains.{whenever-none, none-whenever, some-whenever, chain-none-iff, chain-refuses, chain-goes-on, chain-of-one}
+use Rattle.scope.proofs.Chains.{tests-as-one, answered-some}
 
 -- the code asks `!r` for a test t whose value r a callee gave
 pub fails : {r t : Bool} → r ≡ t → not r ≡ true → t ≡ false
@@ -22,47 +24,62 @@ fails {r} e h = sym e ∙ not-true r h
 pub holds : {r t : Bool} → r ≡ t → not r ≡ false → t ≡ true
 holds {r} e h = sym e ∙ not-false r h
 
-module _ {A : Type 0} (refused : Refusal → A) (x : A) (rest : List (Option Refusal)) where
-  pub refused-here : (b : Bool) (r : Refusal) → b ≡ true → answered (firstOf (whenever b r ∷ rest)) refused x ≡ refused r
-  unfolding answered firstOf whenever
-  refused-here true r e = refl
-  refused-here false r e = absurd (false≢true e)
+-- a test that demands b
+module _ (b : Bool) (r : Refusal) where
+  pub demand-met : b ≡ true → whenever (not b) r ≡ none
+  demand-met e = none-whenever (not b) r (ap not e)
 
-  pub left-to-rest :
-      (b : Bool) (r : Refusal) → b ≡ false
-      → answered (firstOf (whenever b r ∷ rest)) refused x ≡ answered (firstOf rest) refused x
-  unfolding answered firstOf whenever
-  left-to-rest true r e = absurd (false≢true (sym e))
-  left-to-rest false r e = refl
+  pub demand-fails : b ≡ false → whenever (not b) r ≡ some r
+  demand-fails e = some-whenever (not b) r (ap not e)
 
--- 11 and 12, the first tests of the calls on a picture
-module _ {A : Type 0} (refused : Refusal → A) (x : A) (rest : List (Option Refusal)) (p : Plan) where
-  pub no-plan : isPlan p ≡ false → answered (firstOf (planTest p ∷ rest)) refused x ≡ refused NotPlan
+  demanded : whenever (not b) r ≡ none → b ≡ true
+  demanded e = not-false b (whenever-none (not b) r e)
+
+-- 11 and 12
+module _ (p : Plan) (W H : ℕ) where
+  abbrev pub pictureTests : Option Refusal
+  pictureTests = firstOf (planTest p ∷ sidesTest W H ∷ [])
+
+  -- by the plan and the sides
+  pub no-plan : isPlan p ≡ false → pictureTests ≡ some NotPlan
   unfolding planTest
-  no-plan e = refused-here refused x rest (not (isPlan p)) NotPlan (ap not e)
+  no-plan e = chain-refuses _ (sidesTest W H ∷ []) NotPlan (demand-fails (isPlan p) NotPlan e)
 
-  past-plan : isPlan p ≡ true → answered (firstOf (planTest p ∷ rest)) refused x ≡ answered (firstOf rest) refused x
-  unfolding planTest
-  past-plan e = left-to-rest refused x rest (not (isPlan p)) NotPlan (ap not e)
+  module _ (plan : isPlan p ≡ true) where
+    past-plan : pictureTests ≡ sidesTest W H
+    unfolding planTest
+    past-plan =
+        chain-goes-on _ (sidesTest W H ∷ []) (demand-met (isPlan p) NotPlan plan) ∙ chain-of-one (sidesTest W H)
 
-module _ {A : Type 0} (refused : Refusal → A) (x : A) (rest : List (Option Refusal)) (p : Plan) (W H : ℕ) where
-  pub no-sides :
-      isPlan p ≡ true → isSide W && isSide H ≡ false
-      → answered (firstOf (planTest p ∷ sidesTest W H ∷ rest)) refused x ≡ refused Sides
-  unfolding sidesTest
-  no-sides e h =
-      past-plan refused x (sidesTest W H ∷ rest) p e
-      ∙ refused-here refused x rest (not (isSide W && isSide H)) Sides (ap not h)
+    pub no-sides : isSide W && isSide H ≡ false → pictureTests ≡ some Sides
+    unfolding sidesTest
+    no-sides e = past-plan ∙ demand-fails (isSide W && isSide H) Sides e
 
-  pub past-sides :
-      isPlan p ≡ true → isSide W && isSide H ≡ true
-      → answered (firstOf (planTest p ∷ sidesTest W H ∷ rest)) refused x ≡ answered (firstOf rest) refused x
-  unfolding sidesTest
-  past-sides e h =
-      past-plan refused x (sidesTest W H ∷ rest) p e
-      ∙ left-to-rest refused x rest (not (isSide W && isSide H)) Sides (ap not h)
+    pub both-pass : isSide W && isSide H ≡ true → pictureTests ≡ none
+    unfolding sidesTest
+    both-pass e = past-plan ∙ demand-met (isSide W && isSide H) Sides e
 
--- 14, the last test of a call on one pixel
+  pub both-passed : pictureTests ≡ none → (isPlan p ≡ true) × (isSide W && isSide H ≡ true)
+  unfolding planTest sidesTest
+  both-passed e =
+      let (plan, sides) = chain-none-iff (planTest p) (sidesTest W H ∷ []) .0 e in
+      (demanded (isPlan p) NotPlan plan, demanded (isSide W && isSide H) Sides (sym (chain-of-one (sidesTest W H)) ∙ sides))
+
+  -- what a call that begins with them answers
+  module _ {A : Type 0} (refused : Refusal → A) (x : A) (rest : List (Option Refusal)) where
+    abbrev answer : A
+    answer = answered (firstOf (planTest p ∷ sidesTest W H ∷ rest)) refused x
+
+    as-one : firstOf (planTest p ∷ sidesTest W H ∷ rest) ≡ firstOf (pictureTests ∷ rest)
+    as-one = tests-as-one [] (planTest p ∷ sidesTest W H ∷ []) rest
+
+    pub refused-first : {r : Refusal} → pictureTests ≡ some r → refused r ≡ answer
+    refused-first {r} e = sym (answered-some _ refused x r (as-one ∙ chain-refuses pictureTests rest r e))
+
+    pub past-first : pictureTests ≡ none → answer ≡ answered (firstOf rest) refused x
+    past-first e = ap (λ (t : Option Refusal). answered t refused x) (as-one ∙ chain-goes-on pictureTests rest e)
+
+-- 14
 every-one : {A : Type 0} (f : A → Bool) (x : A) → every f (x ∷ []) ≡ f x
 unfolding every
 every-one f x = by-value (f x)
@@ -71,13 +88,6 @@ every-one f x = by-value (f x)
     by-value true = refl
     by-value false = refl
 
-module _ {A : Type 0} (refused : Refusal → A) (x : A) (W H : ℕ) (v : Pixel) where
-  pub outside-one : inside W H v ≡ false → answered (firstOf (outsideTest W H (v ∷ []) ∷ [])) refused x ≡ refused Outside
-  unfolding outsideTest
-  outside-one e =
-      refused-here refused x [] (not (every (inside W H) (v ∷ []))) Outside (ap not (every-one (inside W H) v ∙ e))
-
-  pub inside-one : inside W H v ≡ true → answered (firstOf (outsideTest W H (v ∷ []) ∷ [])) refused x ≡ x
-  unfolding outsideTest answered firstOf
-  inside-one e =
-      left-to-rest refused x [] (not (every (inside W H) (v ∷ []))) Outside (ap not (every-one (inside W H) v ∙ e))
+pub outside-one : (W H : ℕ) (v : Pixel) → outsideTest W H (v ∷ []) ≡ whenever (not (inside W H v)) Outside
+unfolding outsideTest
+outside-one W H v = ap (λ (b : Bool). whenever (not b) Outside) (every-one (inside W H) v)

@@ -18,6 +18,7 @@ use Rattle.scope.specs.Banks.{within, inside}
 use Rattle.scope.specs.Numbers.{isSide}
 use Rattle.scope.specs.promises.Meaning.{IsPlan, IsSide, Inside, InsideMeans}
 use Rattle.scope.specs.declared.Plan.{Plan}
+use Rattle.scope.proofs.Ceilings.{Rounds}
 
 -- 11
 pub is-plan-iff : (p : Plan) → (isPlan p ≡ true) ↔ IsPlan p
@@ -50,6 +51,13 @@ are-sides-iff W H = and-iff _ _ (is-side-iff W) (is-side-iff H)
 
 pub sides-mean : (W H : ℕ) → isSide W && isSide H ≡ true → IsSide W × IsSide H
 sides-mean W H = are-sides-iff W H .0
+
+-- either side can be divided by a and by d
+pub sides-round : (p : Plan) (W H : ℕ) → isPlan p ≡ true → isSide W && isSide H ≡ true → Rounds W (p .a) × Rounds H (p .d)
+sides-round p W H plan sides =
+    let m = plan-means p plan in
+    let (width, height) = sides-mean W H sides in
+    ((width .1, m .a-least, a-at-most p m), (height .1, m .d-least, d-at-most p m))
 
 -- 14: both coordinates of a pixel inside are naturals below the sides
 within-iff : (z : ℤ) (n : ℕ) → (within z n ≡ true) ↔ ((i : ℕ) × (z ≡ pos i) × (i < n))

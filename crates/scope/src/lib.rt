@@ -1,10 +1,10 @@
-// Document 01's types. What each call does with them is defined in specs/; the calls on a plan are in plans.rt, its formulas
-// on plain numbers in formulas.rt, and the number, place and clash of a refusal in refusals.rt.
+// Document 01's types. What each call does with them is defined in specs/; a plan's methods are in plans.rt, its formulas
+// in formulas.rt, and the number, place and clash of a refusal in refusals.rt.
 mod formulas;
 mod plans;
 mod refusals;
 
-pub use formulas::is_plan;
+pub use plans::is_plan;
 pub use refusals::Row;
 pub use refusals::number_of;
 pub use refusals::row_of;

@@ -1,6 +1,8 @@
-// The calls on a plan: bank, depth, address and reverse map. Each tests the plan and the sides itself.
+// A plan's methods: whether it is one, its bank count, and the calls bank, depth, address and reverse map, each of which
+// tests the plan and the sides itself.
 use crate::Counted;
 use crate::Located;
+use crate::Outcome;
 use crate::Plan;
 use crate::Refusal;
 use crate::formulas::address_number;
@@ -8,77 +10,98 @@ use crate::formulas::are_sides;
 use crate::formulas::bank_number;
 use crate::formulas::depth_number;
 use crate::formulas::is_inside;
-use crate::formulas::is_plan;
 use crate::formulas::reverse_map;
 ghost use mathlib.Core.Path.{_≡_};
-ghost use Rattle.scope.specs.Plans.{at};
-ghost use Rattle.scope.specs.Calls.{bank, depth, address, locate};
+ghost use mathlib.Core.Bool.{_&&_};
+ghost use mathlib.Core.List.{[], _∷_};
+ghost use Prim.Native.Nat.{_*_};
+ghost use lib.Dec.{leb, ltb};
+ghost use Rattle.scope.specs.Search.{firstOf};
+ghost use Rattle.scope.specs.Plans.{at, isPlan, banks};
+ghost use Rattle.scope.specs.Numbers.{planTest, sidesTest};
+ghost use Rattle.scope.specs.Calls.{answered, bank, depth, address, locate};
 
 impl Plan {
+    // Whether it is a plan as defined.
+    pub fn is_plan(self) -> bool
+        ensures { λ r. ⌜ r ≡ isPlan self ⌝ }
+    {
+        if self.a <= self.b {
+            return false;
+        }
+        if self.d == 0 {
+            return false;
+        }
+        self.banks() <= 1024
+    }
+
+    // Its bank count a × d, of any three numbers.
+    pub fn banks(self) -> u64
+        ensures { λ r. ⌜ r ≡ banks self ⌝ }
+    {
+        self.a as u64 * self.d as u64
+    }
+
+    // The first tests of a call on a picture of width w and height h: 11, 12.
+    fn picture_outcome(self, w: u32, h: u32) -> Outcome
+        ensures { λ r. ⌜ r ≡ answered (firstOf (planTest self ∷ sidesTest w h ∷ [])) Outcome.Refused Outcome.Done ⌝ }
+    {
+        if !self.is_plan() {
+            return Outcome::Refused(Refusal::NotPlan);
+        }
+        if !are_sides(w, h) {
+            return Outcome::Refused(Refusal::Sides);
+        }
+        Outcome::Done
+    }
+
     // The bank of a pixel, or 11.
     pub fn bank(self, i: i16, j: i16) -> Counted
         ensures { λ r. ⌜ r ≡ bank self (at i j) ⌝ }
     {
-        let a = self.a;
-        let b = self.b;
-        let d = self.d;
-        if is_plan(a, b, d) {
-            Counted::Number(bank_number(a - 1, b as u16, d - 1, i, j))
-        } else {
-            Counted::Refused(Refusal::NotPlan)
+        if !self.is_plan() {
+            return Counted::Refused(Refusal::NotPlan);
         }
+        Counted::Number(bank_number(self, i, j))
     }
 
     // The depth for a picture of width w and height h, or 11, 12.
     pub fn depth(self, w: u32, h: u32) -> Counted
         ensures { λ r. ⌜ r ≡ depth self w h ⌝ }
     {
-        let a = self.a;
-        let d = self.d;
-        if !is_plan(a, self.b, d) {
-            return Counted::Refused(Refusal::NotPlan);
+        if let Outcome::Refused(r) = self.picture_outcome(w, h) {
+            return Counted::Refused(r);
         }
-        if !are_sides(w, h) {
-            return Counted::Refused(Refusal::Sides);
-        }
-        Counted::Number(depth_number(a - 1, d - 1, w, h))
+        Counted::Number(depth_number(self, w, h))
     }
 
     // The address of a pixel in a picture of width w and height h, or 11, 12, 14.
     pub fn address(self, w: u32, h: u32, i: i16, j: i16) -> Counted
         ensures { λ r. ⌜ r ≡ address self w h (at i j) ⌝ }
     {
-        let a = self.a;
-        let d = self.d;
-        if !is_plan(a, self.b, d) {
-            return Counted::Refused(Refusal::NotPlan);
-        }
-        if !are_sides(w, h) {
-            return Counted::Refused(Refusal::Sides);
+        if let Outcome::Refused(r) = self.picture_outcome(w, h) {
+            return Counted::Refused(r);
         }
         if !is_inside(w, h, i, j) {
             return Counted::Refused(Refusal::Outside);
         }
-        Counted::Number(address_number(a - 1, d - 1, w, i, j))
+        Counted::Number(address_number(self, w, h, i, j))
     }
 
     // The pixel of bank k and address i, or 11, 12, 15.
     pub fn locate(self, w: u32, h: u32, k: u64, i: u64) -> Located
         ensures { λ r. ⌜ r ≡ locate self w h k i ⌝ }
     {
-        let a = self.a;
-        let b = self.b;
-        let d = self.d;
-        if !is_plan(a, b, d) {
-            return Located::Refused(Refusal::NotPlan);
+        if let Outcome::Refused(r) = self.picture_outcome(w, h) {
+            return Located::Refused(r);
         }
-        if !are_sides(w, h) {
-            return Located::Refused(Refusal::Sides);
-        }
-        let cell = reverse_map(a - 1, b as u16, d - 1, w, h, k, i);
-        if cell.lacking {
-            return Located::Refused(Refusal::Cell);
-        }
-        Located::Pixel(cell.column, cell.row)
+        reverse_map(self, w, h, k, i)
     }
+}
+
+// Whether a, b and d are a plan.
+pub fn is_plan(a: u32, b: u32, d: u32) -> bool
+    ensures { λ r. ⌜ r ≡ (leb 1 a && leb 1 d && ltb b a && leb (a * d) 1024) ⌝ }
+{
+    Plan { a, b, d }.is_plan()
 }

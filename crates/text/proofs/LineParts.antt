@@ -29,7 +29,7 @@ refused-line-is r = sym (append-assoc (ascii "refused ") (decimal (numberOf r)) 
 -- A plan's numbers with the words before them, and the parts of its lines after each of them.
 module _ (p : Plan) where
   abbrev pub banksPart : List ℕ
-  banksPart = ascii "banks " ++ decimal (p .a * p .d)
+  banksPart = ascii "banks " ++ decimal (banks p)
 
   abbrev pub aPart : List ℕ
   aPart = ascii "\nplan " ++ decimal (p .a)
@@ -52,13 +52,16 @@ module _ (p : Plan) where
   abbrev pub afterBanks : List (List ℕ)
   afterBanks = aPart ∷ afterA
 
-  pub plan-lines-are : planLines p ≡ joined (banksPart ∷ afterBanks)
+  abbrev pub planParts : List (List ℕ)
+  planParts = banksPart ∷ afterBanks
+
+  pub plan-lines-are : planLines p ≡ joined planParts
   unfolding planLines
   plan-lines-are = simp append-assoc
 
 -- A plan's lines have at most 65 bytes.
 pub plan-lines-at-most : (p : Plan) → p .a < 2 ^ 32 → p .b < 2 ^ 32 → p .d < 2 ^ 32 → length (planLines p) ≤ 65
-unfolding ascii
+unfolding ascii banks
 plan-lines-at-most p ha hb hd =
     rw (plan-lines-are p)
     (simp length-append

@@ -3,13 +3,13 @@
 use Prim.Native.Nat.{ℕ, _+_, _-_, _/_, _≤_, _<_}
 use native.Mathlib.Omega.{arith}
 use native.Mathlib.Numerals.{add-one}
-use mathlib.Core.Path.{_≡_, refl, sym, _∙_}
+use mathlib.Core.Path.{_≡_, refl, sym, _∙_, ap}
 use mathlib.Core.List.{List, [], _∷_, _++_, foldr, append-assoc, append-nil}
-use lib.ListN.{length, getD, take, drop, set, length-append, length-take, length-drop}
-use lib.Seq.{take-suc}
+use lib.ListN.{length, getD, take, drop, set, length-append, length-take, length-drop, take-append-drop}
+use lib.Seq.{take-suc, drop-drop}
 use Rattle.scope.specs.Banks.{overStart}
 use Rattle.scope.specs.Program.{decimal}
-use Rattle.checks.proofs.Outputs.{Put, one-more-put, part-put, over-start-length}
+use Rattle.checks.proofs.Outputs.{Put, one-more-put, part-put, over-start-first, over-start-rest, over-start-length}
 use Rattle.text.proofs.DecimalDigits.{lastDigit, decimal-of-digit, decimal-of-more}
 
 -- The bytes xs were put at the start of `before`, which is `out` now, and end at `at`.
@@ -72,20 +72,13 @@ pub record PutBut (whole : List ℕ) (parts : List (List ℕ)) (at : ℕ) (befor
   pub put-to : PutTo front at before out
   pub room : length (front ++ joined parts) ≤ length before
 
--- The first part fits, and a call put it.
-module _ {whole xs before : List ℕ} {parts : List (List ℕ)} (p : RoomFor whole (xs ∷ parts) before) where
-  pub first-part-fits : length xs ≤ length before
-  first-part-fits = omega (arith, rw (p .is) at (p .room), length-append xs (joined parts))
-
-  pub first-part-put :
-      {out : List ℕ} {at : ℕ} → (at ≡ length xs) × (out ≡ overStart xs before) → PutBut whole parts at before out
-  first-part-put (e, come) =
-      record {
-        front = xs;
-        is = p .is;
-        put-to = record { place = e; put = record { same-length = rw come (over-start-length xs before first-part-fits); is = come } };
-        room = rw (p .is) at (p .room);
-      }
+-- What is put again tells once.
+over-start-again : (xs ys before : List ℕ) → overStart (xs ++ ys) (overStart xs before) ≡ overStart (xs ++ ys) before
+unfolding overStart
+over-start-again xs ys before =
+    ap ((xs ++ ys) ++_)
+    (rw (length-append, ← (drop-drop (length ys) (length xs) before), ← (drop-drop (length ys) (length xs) (overStart xs before)))
+    (ap (drop (length ys)) (over-start-rest xs before)))
 
 -- What was put ends in the output.
 pub ends-inside :
@@ -123,6 +116,55 @@ module _ {whole ys before out : List ℕ} {parts : List (List ℕ)} {at : ℕ} (
         room = rw same at (p .room);
       }
 
+pub first-bytes-end : (out : List ℕ) (at : ℕ) → at ≤ length out → at ≡ length (take at out)
+first-bytes-end out at h = sym (length-take at out ∙ omega arith)
+
+-- Of an output whose first `at` bytes stand the parts are left,
+pub first-bytes-stand :
+    (out : List ℕ) (at : ℕ) (parts : List (List ℕ)) → at + length (joined parts) ≤ length out
+    → PutBut (take at out ++ joined parts) parts at out out
+unfolding overStart
+first-bytes-stand out at parts room =
+    let place : at ≡ length (take at out) = first-bytes-end out at (omega arith) in
+    record {
+      front = take at out;
+      is = refl;
+      put-to = record { place = place; put = record { same-length = refl; is = rw (← place) (sym (take-append-drop at out)) } };
+      room = rw (length-append (take at out) (joined parts), ← place) room;
+    }
+
+-- and of one in which nothing stands all of them.
+pub none-stands : {whole before : List ℕ} {parts : List (List ℕ)} → RoomFor whole parts before → PutBut whole parts 0 before before
+none-stands {before} p = record { front = []; is = p .is; put-to = nothing-put before; room = rw (p .is) at (p .room) }
+
+-- There is room for the next part after those that stand, and a call puts it there.
+module _ {whole ys before out : List ℕ} {parts : List (List ℕ)} {at : ℕ} (p : PutBut whole (ys ∷ parts) at before out) where
+  pub room-after : at + length ys ≤ length out
+  room-after = omega (arith, length-more p, p .put-to .put .same-length)
+
+  pub put-after :
+      {k : ℕ} {come : List ℕ} → (k ≡ at + length ys) × (come ≡ overStart (take at out ++ ys) out) → PutBut whole parts k before come
+  put-after {k} {come} (e, is) =
+      let same : p .front ++ (ys ++ joined parts) ≡ (p .front ++ ys) ++ joined parts = rw append-assoc in
+      let stands : take at out ≡ p .front = rw (p .put-to .put .is, p .put-to .place) (over-start-first (p .front) before) in
+      let all : come ≡ overStart (p .front ++ ys) before =
+      is ∙ rw (stands, p .put-to .put .is) (over-start-again (p .front) ys before) in
+      let long : k ≡ length (p .front ++ ys) = rw (e, p .put-to .place) (sym (length-append (p .front) ys)) in
+      record {
+        front = p .front ++ ys;
+        is = p .is ∙ same;
+        put-to =
+            record {
+              place = long;
+              put =
+                  record {
+                    same-length = rw all (over-start-length (p .front ++ ys) before (omega (arith, long, e, length-more p)));
+                    is = all;
+                  };
+            };
+        room = rw same at (p .room);
+      }
+
 -- Where no part is left, all was put.
 pub whole-put : {whole before out : List ℕ} {at : ℕ} → PutBut whole [] at before out → PutTo whole at before out
 whole-put p = rw (p .is ∙ append-nil (p .front)) (p .put-to)
@@ -141,15 +183,9 @@ module _ (n : ℕ) (before : List ℕ) (room : length (decimal n) ≤ length bef
   ButLast at out = PutBut (decimal n) ((lastDigit n ∷ []) ∷ []) at before out
 
   pub none-put : n ≤ 9 → ButLast 0 before
-  none-put h =
-      record {
-        front = [];
-        is = decimal-of-digit n h;
-        put-to = nothing-put before;
-        room = rw (decimal-of-digit n h) at room;
-      }
+  none-put h = none-stands record { is = decimal-of-digit n h; room = room }
 
   pub front-put :
       {at : ℕ} {out : List ℕ} → 9 < n → (at ≡ length (decimal (n / 10))) × (out ≡ overStart (decimal (n / 10)) before)
       → ButLast at out
-  front-put h come = first-part-put {xs = decimal (n / 10)} record { is = decimal-of-more n h; room = room } come
+  front-put h (e, come) = put-after {ys = decimal (n / 10)} (none-stands record { is = decimal-of-more n h; room = room }) (omega (arith, e), come)

@@ -6,8 +6,8 @@ use scope::Refusal;
 use scope::number_of;
 ghost use mathlib.Core.Path.{_≡_};
 ghost use mathlib.Core.List.{_++_};
-ghost use Prim.Native.Nat.{_≤_};
-ghost use lib.ListN.{length};
+ghost use Prim.Native.Nat.{_+_, _≤_};
+ghost use lib.ListN.{length, take};
 ghost use Rattle.scope.specs.Banks.{overStart};
 ghost use Rattle.scope.specs.Numbers.{numberOf};
 ghost use Rattle.scope.specs.Program.{decimal, planLines, refusedLine, planText};
@@ -39,13 +39,13 @@ fn put_decimal(n: u64, out: &mut [u8]) -> usize
     at + 1
 }
 
-// Puts the bytes s, and after them the decimal digits of n.
-fn put_number(s: &[u8], n: u64, out: &mut [u8]) -> usize
-    requires { ⌜ length (now s ++ decimal n) ≤ length (now out) ⌝ }
-    ensures { λ r. ⌜ (r ≡ length (now (s .entry) ++ decimal n)) × (now (out .exit) ≡ overStart (now (s .entry) ++ decimal n) (now (out .entry))) ⌝ }
+// Puts the bytes s and the decimal digits of n after the first `at` bytes, and tells where they end.
+fn put_number(at: usize, s: &[u8], n: u64, out: &mut [u8]) -> usize
+    requires { ⌜ at + length (now s ++ decimal n) ≤ length (now out) ⌝ }
+    ensures { λ r. ⌜ (r ≡ at + length (now (s .entry) ++ decimal n)) × (now (out .exit) ≡ overStart (take at (now (out .entry)) ++ (now (s .entry) ++ decimal n)) (now (out .entry))) ⌝ }
 {
-    let at = put_bytes(s, out);
-    at + put_decimal(n, &mut out[at..])
+    let end = at + put_bytes(s, &mut out[at..]);
+    end + put_decimal(n, &mut out[end..])
 }
 
 // Puts the two lines of a plan.
@@ -53,13 +53,10 @@ fn put_plan(p: Plan, out: &mut [u8]) -> usize
     requires { ⌜ length (planLines p) ≤ length (now out) ⌝ }
     ensures { λ r. ⌜ (r ≡ length (planLines p)) × (now (out .exit) ≡ overStart (planLines p) (now (out .entry))) ⌝ }
 {
-    let a = p.a as u64;
-    let b = p.b as u64;
-    let d = p.d as u64;
-    let mut at = put_number(b"banks ", a * d, out);
-    at += put_number(b"\nplan ", a, &mut out[at..]);
-    at += put_number(b" ", b, &mut out[at..]);
-    at += put_number(b" ", d, &mut out[at..]);
+    let mut at = put_number(0, b"banks ", p.banks(), out);
+    at = put_number(at, b"\nplan ", p.a as u64, out);
+    at = put_number(at, b" ", p.b as u64, out);
+    at = put_number(at, b" ", p.d as u64, out);
     out[at] = 10;
     at + 1
 }
@@ -69,7 +66,7 @@ fn put_refused(r: Refusal, out: &mut [u8]) -> usize
     requires { ⌜ length (refusedLine r) ≤ length (now out) ⌝ }
     ensures { λ n. ⌜ (n ≡ length (refusedLine r)) × (now (out .exit) ≡ overStart (refusedLine r) (now (out .entry))) ⌝ }
 {
-    let at = put_number(b"refused ", number_of(r), out);
+    let at = put_number(0, b"refused ", number_of(r), out);
     out[at] = 10;
     at + 1
 }

@@ -14,7 +14,7 @@ use Rattle.integers.specs.Gcd.{gcd}
 use Rattle.integers.proofs.Divisions.{remainder-below}
 use Rattle.integers.proofs.Integers.{size-zero}
 use Rattle.integers.proofs.Sizes.{fitting-size}
-use Rattle.scope.specs.Plans.{Pixel, at, determinant, determinantSize, upright, normalForm}
+use Rattle.scope.specs.Plans.{Pixel, at, plan, determinant, determinantSize, upright, normalForm}
 use Rattle.scope.specs.Numbers.{dependentTest, largeTest}
 use Rattle.scope.specs.Calls.{normal}
 use Rattle.scope.specs.promises.Meaning.{IsPlan, Independent}
@@ -57,9 +57,10 @@ module _ (x y : Pixel) where
       answered-none _ Planned.Refused _
       (test-before (independent-iff x y) (last-test (size-within-iff x y)) .iff .1 (independent, most))
 
--- a plan is its three numbers
-same-plan : {a b d : ℕ} (p : Plan) → a ≡ p .a → b ≡ p .b → d ≡ p .d → record { a = a; b = b; d = d } ≡ p
-same-plan p e f g = λ i. record { a = e i; b = f i; d = g i }
+-- the normal form is the plan of its a, b and d
+form-is : (x y : Pixel) {a b d : ℕ} → let p = normalForm x y in a ≡ p .a → b ≡ p .b → d ≡ p .d → plan a b d ≡ p
+unfolding normalForm
+form-is x y e f g = rw (e, f, g)
 
 -- the two vectors, and the determinant's size as the code has it
 module _ (c : tie.After-determinant-size) where
@@ -183,9 +184,10 @@ cast-t18 c =
     let m = g (c .before) in omega (arith, d-is m, is-plan m .most, mul-le-mul-right (form m .d) (is-plan m .a-least))
 
 returns-3 : tie.Need-returns-3
+unfolding plan
 returns-3 c =
     let m = g (c .before) in
-    ap Planned.Plan (same-plan (form m) (a-is m) (b-is c) (d-is m))
+    ap Planned.Plan (form-is (x (sized m)) (y (sized m)) (a-is m) (b-is c) (d-is m))
     ∙ sym (form-answer (x (sized m)) (y (sized m)) (independent (passed m)) (most m))
 
 pub normal-form-spec : {M : Type 1} → statement M

@@ -6,16 +6,13 @@ use mathlib.Core.Path.{_≡_, refl, _∙_, ap}
 use mathlib.Core.Bool.{Bool, true, false, _&&_}
 use lib.Dec.{ltb}
 use lib.IntN.{ℤ, pos, negsuc, natAbs, _+ℤ_}
-use lib.Signed.{nonNeg}
 use borrow.Author.Needs.{needs}
 use borrow.Author.Tests.{le-ltb, lt-ltb}
 use Rattle.integers.proofs.Raised.{raised-read, lowered}
+use Rattle.scope.specs.Plans.{at}
+use Rattle.scope.specs.Banks.{within, inside}
 use Rattle.scope.proofs.formulas.is_inside.Statement.{statement}
 use Rattle.scope.proofs.formulas.is_inside.Tie as tie
-
--- what the contract says of one coordinate
-within : ℤ → ℕ → Bool
-within z n = nonNeg z && ltb (natAbs z) n
 
 -- x is the coordinate z raised by 2^15, and n a side
 below-outside : {x : ℕ} (z : ℤ) (n : ℕ) → pos x ≡ z +ℤ pos 32768 → x < 32768 → within z n ≡ false
@@ -34,6 +31,11 @@ module _ {x : ℕ} (z : ℤ) (n : ℕ) (raised : pos x ≡ z +ℤ pos 32768) whe
   above-inside : 32768 ≤ x → x - 32768 < n → within z n ≡ true
   above-inside h k = above-is h ∙ lt-ltb (x - 32768) n k
 
+-- a pixel by both coordinates
+inside-is : (W H : ℕ) (i j : ℤ) {s t : Bool} → within i W ≡ s → within j H ≡ t → (s && t) ≡ inside W H (at i j)
+unfolding inside at
+inside-is W H i j e f = rw (e, f)
+
 -- both coordinates are raised
 module _ (c : tie.After-raised162) where
   abbrev start : tie.Start
@@ -46,16 +48,10 @@ module _ (c : tie.After-raised162) where
   row = raised-read 32768 (start .fits .j) (c .raised162 .ensures .0)
 
 returns : tie.Need-returns
-unfolding within
-returns c =
-    let k = c .before in
-    rw (below-outside (start k .args .i) (start k .args .w) (column k) (c .if1 .taken))
+returns c = inside-is _ _ _ _ (below-outside _ _ (column (c .before)) (c .if1 .taken)) refl
 
 returns-2 : tie.Need-returns-2
-unfolding within
-returns-2 c =
-    let k = c .before .before in
-    rw (above-outside (start k .args .i) (start k .args .w) (column k) (c .before .if1 .left) (c .if2 .taken))
+returns-2 c = inside-is _ _ _ _ (above-outside _ _ (column (c .before .before)) (c .before .if1 .left) (c .if2 .taken)) refl
 
 -- past its two tests the column is inside
 module _ (c : tie.Else2) where
@@ -66,16 +62,11 @@ module _ (c : tie.Else2) where
   column-inside = above-inside _ _ (column both) (c .before .if1 .left) (c .if2 .left)
 
 returns-3 : tie.Need-returns-3
-unfolding within
 returns-3 c =
-    let k = both (c .before) in
-    rw (column-inside (c .before), below-outside _ (start k .args .h) (row k) (c .if3 .taken))
+    inside-is _ _ _ _ (column-inside (c .before)) (below-outside _ _ (row (both (c .before))) (c .if3 .taken))
 
 returns-4 : tie.Need-returns-4
-unfolding within
-returns-4 c =
-    let k = both (c .before) in
-    rw (column-inside (c .before), above-is _ (start k .args .h) (row k) (c .if3 .left))
+returns-4 c = inside-is _ _ _ _ (column-inside (c .before)) (above-is _ _ (row (both (c .before))) (c .if3 .left))
 
 pub is-inside-spec : {M : Type 1} → statement M
 is-inside-spec =

@@ -1,22 +1,36 @@
 -- `scope::formulas::reverse_map` meets its contract: column and row are below the picture's sides rounded up to whole blocks, so
--- no number on the way passes 64 bits.
+-- no number on the way passes 32 bits.
 -- Assumes nothing.
 use Prim.Native.Nat.{ℕ, zero, suc, _+_, _*_, _/_, _%_, _≤_, _<_}
 use native.Mathlib.Omega.{arith}
-use native.Mathlib.Nat.{mul-le-mul, mul-comm, mod-lt, le-div-iff-mul-le, div-lt-iff-lt-mul}
-use mathlib.Core.Path.{_≡_, refl, _∙_, ap}
-use mathlib.Core.Bool.{Bool, true, false, not, cond, _&&_, _||_}
-use lib.Dec.{leb, ltb}
-use lib.IntN.{ℤ, pos}
-use mir.Syntax.{w16, w64}
-use mir.Val.{Fits, toZ}
+use native.Mathlib.Nat.{mul-le-mul, mul-comm, mod-lt, div-lt-iff-lt-mul}
+use mathlib.Core.Path.{_≡_, refl, sym, _∙_, ap}
+use mathlib.Core.Bool.{Bool, true, false, not, _&&_, _||_}
+use mathlib.Core.Option.{Option}
+use mathlib.Core.List.{[], _∷_}
+use lib.Dec.{leb, lit<}
+use lib.IntN.{pos}
+use mir.Syntax.{w16}
+use mir.Val.{toZ}
+use mir.Facts.{toZ-ofZ}
 use borrow.Author.Needs.{needs}
-use borrow.Author.Tests.{le-ltb, lt-ltb, le-leb, lt-leb}
+use borrow.Author.Tests.{le-leb, lt-leb}
 use Rattle.integers.specs.Division.{ceilDiv}
 use Rattle.integers.proofs.Digits.{digits-below}
-use Rattle.scope.specs.code.ReverseCells.{cellColumn, cellRow, isLacking}
-use Rattle.scope.proofs.Ceilings.{rounded-at-most, product-fits, blocks-at-most}
-use Rattle.scope.proofs.CellBounds.{read-back}
+use Rattle.integers.proofs.Sizes.{small-fits}
+use Rattle.scope.specs.Search.{whenever}
+use Rattle.scope.specs.Plans.{Pixel, at, banks, isPlan}
+use Rattle.scope.specs.Banks.{inside, depthOf, pixelOf}
+use Rattle.scope.specs.Numbers.{isSide, cellTest}
+use Rattle.scope.specs.Calls.{answered, locate}
+use Rattle.scope.specs.declared.Plan.{Plan}
+use Rattle.scope.specs.declared.Located.{Located}
+use Rattle.scope.specs.declared.Located.the-variants.{Pixel as PixelAt, Refused}
+use Rattle.scope.specs.declared.Refusal.the-variants.{Cell}
+use Rattle.scope.proofs.Ceilings.{Rounds, ceiling-at-most, blocks-at-most, product-at-most}
+use Rattle.scope.proofs.Chains.{none-whenever, some-whenever, chain-of-one, answered-none, answered-some}
+use Rattle.scope.proofs.PlanFacts.{plan-means, sides-round}
+use Rattle.scope.proofs.MethodAnswers.{fails, holds, both-pass, past-first}
 use Rattle.scope.proofs.formulas.reverse_map.Statement.{statement}
 use Rattle.scope.proofs.formulas.reverse_map.Tie as tie
 
@@ -25,208 +39,208 @@ factor-least : (m n i : ℕ) → i < m * n → 0 < m
 factor-least zero n i h = absurd (omega arith)
 factor-least (suc m) n i h = omega arith
 
--- what the contract says of an answer
-abbrev Answers : Bool → ℕ → ℕ → Bool → ℤ → ℤ → Type 0
-Answers t column row lacking x y =
-    (lacking ≡ t) × (x ≡ cond t (pos 0) (pos (column % 32768))) × (y ≡ cond t (pos 0) (pos (row % 32768)))
+-- column and row as the code forms them, C being the width divided by a and rounded up
+abbrev slanted : Plan → ℕ → ℕ → ℕ → ℕ
+slanted p C k i = k % p .a + p .b * (i / C)
 
--- a = T + 1, d = S + 1, and C is the width divided by a and rounded up
-module _ (T b S W H k i C : ℕ) where
-  abbrev a : ℕ
-  a = T + 1
+abbrev column : Plan → ℕ → ℕ → ℕ → ℕ
+column p C k i = i % C * p .a + slanted p C k i % p .a
 
-  abbrev d : ℕ
-  d = S + 1
+abbrev row : Plan → ℕ → ℕ → ℕ → ℕ
+row p C k i = i / C * p .d + k / p .a
 
-  abbrev slanted : ℕ
-  slanted = k % a + b * (i / C)
+-- past the tests of bank and address: what the code forms fits 32 bits, column and row 16, and its answers are right
+record There (p : Plan) (W H k i C : ℕ) : Type 0 where
+  bank-small : k < 1024
+  address-small : i < 16777216
+  across : 0 < C
+  a-least : 0 < p .a
+  slanted-small : slanted p C k i < 8388608
+  column-small : column p C k i < 5120
+  row-small : row p C k i < 5120
+  no-pixel : inside W H (at (toZ w16 (column p C k i)) (toZ w16 (row p C k i))) ≡ false → Refused Cell ≡ locate p W H k i
+  pixel :
+      inside W H (at (toZ w16 (column p C k i)) (toZ w16 (row p C k i))) ≡ true
+      → PixelAt (toZ w16 (column p C k i)) (toZ w16 (row p C k i)) ≡ locate p W H k i
 
-  abbrev column : ℕ
-  column = i % C * a + slanted % a
-
-  abbrev row : ℕ
-  row = i / C * d + k / a
+module _ (p : Plan) (W H k i : ℕ) (plan : isPlan p ≡ true) (sides : isSide W && isSide H ≡ true) where
+  abbrev given : Located
+  given = PixelAt (pixelOf p W H k i .column) (pixelOf p W H k i .row)
 
   abbrev lacking : Bool
-  lacking = isLacking a b d W H k i
+  lacking = leb (banks p) k || leb (depthOf p W H) i || not (inside W H (pixelOf p W H k i))
 
-  abbrev Right : Bool → ℤ → ℤ → Type 0
-  Right = Answers lacking (cellColumn a b W k i) (cellRow a d W k i)
+  -- past 11 and 12 the answer is left to 15
+  by-cell : locate p W H k i ≡ answered (whenever lacking Cell) Refused given
+  unfolding locate cellTest
+  by-cell =
+      past-first p W H Refused given (cellTest p W H k i ∷ []) (both-pass p W H plan sides)
+      ∙ ap (λ (t : Option _). answered t Refused given) (chain-of-one (cellTest p W H k i))
 
-  -- past the tests of bank and address: what the code forms fits 64 bits, and its answers are right
-  record There : Type 0 where
-    across-least : 0 < C
-    start-fits : Fits w64 (i % C * a)
-    slant-fits : Fits w64 (b * (i / C))
-    slanted-fits : Fits w64 slanted
-    column-fits : Fits w64 column
-    bottom-fits : Fits w64 (i / C * d)
-    row-fits : Fits w64 row
-    no-column : W ≤ column → Right true (pos 0) (pos 0)
-    no-row : column < W → H ≤ row → Right true (pos 0) (pos 0)
-    pixel : column < W → row < H → Right false (toZ w16 (column % 32768)) (toZ w16 (row % 32768))
+  refused : lacking ≡ true → Refused Cell ≡ locate p W H k i
+  refused e = sym (by-cell ∙ answered-some _ Refused given Cell (some-whenever lacking Cell e))
 
-  -- and D is the height divided by d and rounded up
-  module _ {D : ℕ} (e : C ≡ ceilDiv W a) (f : D ≡ ceilDiv H d) where
-    -- by the values of the four tests
-    lacking-is :
-        {s t u v : Bool} → leb (a * d) k ≡ s → leb (C * D) i ≡ t → ltb column W ≡ u → ltb row H ≡ v
-        → lacking ≡ (s || t || not (u && v))
-    unfolding isLacking
-    lacking-is g h m n = rw (← e, ← f, g, h, m, n)
+  located : lacking ≡ false → given ≡ locate p W H k i
+  located e = sym (by-cell ∙ answered-none _ Refused given (none-whenever lacking Cell e))
 
-    right-lacking : lacking ≡ true → Right true (pos 0) (pos 0)
-    right-lacking h = rw h (refl, refl, refl)
+  -- by the values of the three tests
+  lacking-is :
+      {s t u : Bool} → leb (banks p) k ≡ s → leb (depthOf p W H) i ≡ t → inside W H (pixelOf p W H k i) ≡ u
+      → lacking ≡ (s || t || not u)
+  lacking-is e f g = rw (e, f, g)
 
-    no-bank : d ≤ k / a → Right true (pos 0) (pos 0)
-    no-bank h =
-        let l = le-div-iff-mul-le {k = a} {x = d} {y = k} (omega arith) .0 h in
-        right-lacking (lacking-is (le-leb (a * d) k (omega (arith, l, mul-comm a d))) refl refl refl)
+  no-bank : banks p ≤ k → Refused Cell ≡ locate p W H k i
+  no-bank h = refused (lacking-is (le-leb (banks p) k h) refl refl)
 
-    module _ (g : k / a < d) where
-      bank-there : leb (a * d) k ≡ false
-      bank-there =
-          lt-leb (a * d) k (omega (arith, div-lt-iff-lt-mul {k = a} {x = k} {y = d} (omega arith) .0 g, mul-comm a d))
+  no-address : k < banks p → depthOf p W H ≤ i → Refused Cell ≡ locate p W H k i
+  no-address h l = refused (lacking-is (lt-leb (banks p) k h) (le-leb (depthOf p W H) i l) refl)
 
-      no-address : C * D ≤ i → Right true (pos 0) (pos 0)
-      no-address h = right-lacking (lacking-is bank-there (le-leb (C * D) i h) refl refl)
+  -- past the tests of bank and address: C is the width divided by a and rounded up
+  module _ (h : k < banks p) (l : i < depthOf p W H) {C : ℕ} (e : C ≡ ceilDiv W (p .a)) where
+    abbrev by-a : Rounds W (p .a)
+    by-a = sides-round p W H plan sides .0
 
-      module _ (h : i < C * D) (small : (T < 4294967296) × (b < 65536) × (S < 4294967296) × (W < 4294967296) × (H < 4294967296)) where
-        across : 0 < C
-        across = factor-least C D i h
+    abbrev by-d : Rounds H (p .d)
+    by-d = sides-round p W H plan sides .1
 
-        strip-below : i / C < D
-        strip-below = div-lt-iff-lt-mul {k = C} {x = i} {y = D} across .1 (omega (arith, h, mul-comm C D))
+    bank-small : k < 1024
+    unfolding banks
+    bank-small = omega (arith, plan-means p plan .most)
 
-        column-most : column < 8589934592
-        column-most =
-            omega (
-              arith,
-              digits-below C a (mod-lt i across) (mod-lt slanted {m = a} (omega arith)),
-              blocks-at-most W T e,
-              small .0,
-              small .3,
-            )
+    address-below : i < C * ceilDiv H (p .d)
+    unfolding depthOf
+    address-below = rw e l
 
-        slant-most : b * (i / C) ≤ 65536 * 4294967296
-        slant-most =
-            mul-le-mul {n₁ = b} {m₁ = i / C} {n₂ = 65536} {m₂ = 4294967296} (omega (arith, small .1))
-            (omega (arith, strip-below, rounded-at-most H S f, small .4))
+    address-small : i < 16777216
+    address-small =
+        omega (
+          arith,
+          address-below,
+          product-at-most C (ceilDiv H (p .d)) (rw e (omega (arith, ceiling-at-most W (p .a) (by-a .1), by-a .0)))
+              (omega (arith, ceiling-at-most H (p .d) (by-d .1), by-d .0)),
+        )
 
-        row-most : row < 8589934592
-        row-most = omega (arith, digits-below D d strip-below g, blocks-at-most H S f, small .2, small .4)
+    across : 0 < C
+    across = factor-least C (ceilDiv H (p .d)) i address-below
 
-        column-is : column ≡ cellColumn a b W k i
-        unfolding cellColumn
-        column-is = rw (← e)
+    strip-below : i / C < ceilDiv H (p .d)
+    strip-below =
+        div-lt-iff-lt-mul {k = C} {x = i} {y = ceilDiv H (p .d)} across .1
+        (omega (arith, address-below, mul-comm C (ceilDiv H (p .d))))
 
-        row-is : row ≡ cellRow a d W k i
-        unfolding cellRow
-        row-is = rw (← e)
+    r-below : k / p .a < p .d
+    unfolding banks
+    r-below = div-lt-iff-lt-mul {k = p .a} {x = k} {y = p .d} (by-a .1) .1 (omega (arith, h, mul-comm (p .a) (p .d)))
 
-        by-sides : {u v : Bool} → ltb column W ≡ u → ltb row H ≡ v → lacking ≡ not (u && v)
-        by-sides = lacking-is bank-there (lt-leb (C * D) i h)
+    slant-most : p .b * (i / C) ≤ 1024 * 4096
+    slant-most =
+        mul-le-mul {n₁ = p .b} {m₁ = i / C} {n₂ = 1024} {m₂ = 4096} (omega (arith, plan-means p plan .b-below, by-a .2))
+        (omega (arith, strip-below, ceiling-at-most H (p .d) (by-d .1), by-d .0))
 
-        is-there : There
-        is-there =
-            record {
-              across-least = across;
-              start-fits = record { fits = omega (arith, column-most) };
-              slant-fits = record { fits = omega (arith, slant-most) };
-              slanted-fits = record { fits = omega (arith, slant-most, mod-lt k {m = a} (omega arith), small .0) };
-              column-fits = record { fits = omega (arith, column-most) };
-              bottom-fits = record { fits = omega (arith, row-most) };
-              row-fits = record { fits = omega (arith, row-most) };
-              no-column = λ m. right-lacking (by-sides (le-ltb column W m) refl);
-              no-row = λ m n. right-lacking (by-sides (lt-ltb column W m) (le-ltb row H n));
-              pixel = λ m n.
-                  rw (by-sides (lt-ltb column W m) (lt-ltb row H n)) (
-                    refl,
-                    read-back column ∙ ap (λ (x : ℕ). pos (x % 32768)) column-is,
-                    read-back row ∙ ap (λ (x : ℕ). pos (x % 32768)) row-is,
-                  );
-            }
+    column-small : column p C k i < 5120
+    column-small =
+        omega (
+          arith,
+          digits-below C (p .a) (mod-lt i across) (mod-lt (slanted p C k i) {m = p .a} (by-a .1)),
+          rw (← e) at (blocks-at-most W (p .a)),
+          by-a,
+        )
+
+    row-small : row p C k i < 5120
+    row-small =
+        omega (arith, digits-below (ceilDiv H (p .d)) (p .d) strip-below r-below, blocks-at-most H (p .d), by-d)
+
+    slanted-small : slanted p C k i < 8388608
+    slanted-small = omega (arith, slant-most, mod-lt k {m = p .a} (by-a .1), by-a .2)
+
+    read : (n : ℕ) → n < 5120 → toZ w16 n ≡ pos n
+    read n small = toZ-ofZ {z = pos n} (small-fits w16 5119 (pos n) (omega arith) (lit< tt))
+
+    pixel-is : at (toZ w16 (column p C k i)) (toZ w16 (row p C k i)) ≡ pixelOf p W H k i
+    unfolding pixelOf at
+    pixel-is = rw (read (column p C k i) column-small, read (row p C k i) row-small, e)
+
+    by-pixel : {u : Bool} → inside W H (at (toZ w16 (column p C k i)) (toZ w16 (row p C k i))) ≡ u → lacking ≡ not u
+    by-pixel {u} g =
+        lacking-is {s = false} {t = false} {u = u} (lt-leb (banks p) k h) (lt-leb (depthOf p W H) i l) (ap (inside W H) (sym pixel-is) ∙ g)
+
+    pixel-there :
+        inside W H (at (toZ w16 (column p C k i)) (toZ w16 (row p C k i))) ≡ true
+        → PixelAt (toZ w16 (column p C k i)) (toZ w16 (row p C k i)) ≡ locate p W H k i
+    unfolding at
+    pixel-there g = ap (λ (v : Pixel). PixelAt (v .column) (v .row)) pixel-is ∙ located (by-pixel g)
+
+    is-there : There p W H k i C
+    is-there =
+        record {
+          bank-small = bank-small;
+          address-small = address-small;
+          across = across;
+          a-least = by-a .1;
+          slanted-small = slanted-small;
+          column-small = column-small;
+          row-small = row-small;
+          no-pixel = λ g. refused (by-pixel g);
+          pixel = pixel-there;
+        }
 
 returns : tie.Need-returns
-returns c = no-bank _ _ _ _ _ _ _ _ (c .before .rounded-up .ensures) refl (c .if1 .taken)
+returns c =
+    let (plan, sides) = c .before .before .pre in
+    no-bank _ _ _ _ _ plan sides (rw (← (c .before .banks .ensures)) (c .if1 .taken))
 
--- the width was divided before the height
-abbrev first : tie.After-rounded-up2 → tie.After-rounded-up
-first c = c .before .before
+-- the bank is there
+bank-there : (c : tie.Else1) → c .before .before .args .k < banks (c .before .before .args .p)
+bank-there c = rw (← (c .before .banks .ensures)) (c .if1 .left)
 
-mul-if2 : tie.Need-mul-if2
-mul-if2 c = product-fits _ _ (first c .rounded-up .ensures) _ _ (c .rounded-up2 .ensures) (omega arith) (omega arith)
+depth-number-requires : tie.Need-depth-number-requires
+depth-number-requires c κs = c .before .before .pre
 
 returns-2 : tie.Need-returns-2
 returns-2 c =
     let k = c .before in
-    no-address _ _ _ _ _ _ _ _ (first k .rounded-up .ensures) (k .rounded-up2 .ensures) (k .before .if1 .left) (c .if2 .taken)
+    let (plan, sides) = k .before .before .before .pre in
+    no-address _ _ _ _ _ plan sides (bank-there (k .before)) (rw (← (k .depth-number .ensures)) (c .if2 .taken))
 
--- past both tests
+rounded-up-requires : tie.Need-rounded-up-requires
+rounded-up-requires c κs = let (plan, sides) = c .before .before .before .before .pre in sides-round _ _ _ plan sides .0
+
+-- the address is there too, and the width was divided
 there :
-    (c : tie.Else2) →
-    let k = first (c .before) in
-    let v = k .before .args in
-    There (v .top-a) (v .b) (v .top-d) (v .w) (v .h) (v .k) (v .i) (k .rounded-up .result)
+    (c : tie.After-rounded-up) →
+    let v = c .before .before .before .before .before .args in
+    There (v .p) (v .w) (v .h) (v .k) (v .i) (c .rounded-up .result)
 there c =
     let k = c .before in
-    is-there _ _ _ _ _ _ _ _ (first k .rounded-up .ensures) (k .rounded-up2 .ensures) (k .before .if1 .left) (c .if2 .left)
-    (omega arith, omega arith, omega arith, omega arith, omega arith)
-
-div-q : tie.Need-div-q
-div-q c = there c .across-least
-
-rem-column : tie.Need-rem-column
-rem-column c = there c .across-least
-
-mul-column : tie.Need-mul-column
-mul-column c = there c .start-fits
-
-mul-column-2 : tie.Need-mul-column-2
-mul-column-2 c = there c .slant-fits
-
-add-column : tie.Need-add-column
-add-column c = there c .slanted-fits
-
-add-column-2 : tie.Need-add-column-2
-add-column-2 c = there c .column-fits
-
-mul-row : tie.Need-mul-row
-mul-row c = there c .bottom-fits
-
-add-row : tie.Need-add-row
-add-row c = there c .row-fits
+    let (plan, sides) = k .before .before .before .before .pre in
+    is-there _ _ _ _ _ plan sides (bank-there (k .before .before)) (rw (← (k .before .depth-number .ensures)) (k .if2 .left))
+    (c .rounded-up .ensures)
 
 returns-3 : tie.Need-returns-3
-returns-3 c = there (c .before) .no-column (c .if3 .taken)
+returns-3 c = there (c .before .before) .no-pixel (fails (c .before .is-inside .ensures) (c .if3 .taken))
 
 returns-4 : tie.Need-returns-4
-returns-4 c = there (c .before .before) .no-row (c .before .if3 .left) (c .if4 .taken)
-
-returns-5 : tie.Need-returns-5
-returns-5 c = there (c .before .before) .pixel (c .before .if3 .left) (c .if4 .left)
+returns-4 c = there (c .before .before) .pixel (holds (c .before .is-inside .ensures) (c .if3 .left))
 
 pub reverse-map-spec : {M : Type 1} → statement M
 reverse-map-spec =
     tie.close
     (tie.spec
-    (λ c. search needs) (λ c. search needs) (λ c κs. search needs) (λ c. search needs)
-    returns
     (λ c κs. search needs)
-    mul-if2
+    returns
+    depth-number-requires
     returns-2
-    div-q
-    rem-column
-    mul-column
-    (λ c. search needs)
-    mul-column-2
-    add-column
-    (λ c. search needs)
-    add-column-2
-    mul-row
-    (λ c. search needs)
-    add-row
+    rounded-up-requires
+    (λ c. record { fits = omega (arith, there c .bank-small) }) (λ c. record { fits = omega (arith, there c .address-small) })
+    (λ c. there c .across) (λ c. there c .across)
+    (λ c. record { fits = omega (arith, there c .column-small) }) (λ c. there c .a-least)
+    (λ c. record { fits = omega (arith, there c .slanted-small) }) (λ c. record { fits = omega (arith, there c .slanted-small) })
+    (λ c. there c .a-least)
+    (λ c. record { fits = omega (arith, there c .column-small) })
+    (λ c. small-fits w16 5119 _ (omega (arith, there c .column-small)) (lit< tt))
+    (λ c. record { fits = omega (arith, there c .row-small) }) (λ c. there c .a-least)
+    (λ c. record { fits = omega (arith, there c .row-small) })
+    (λ c. small-fits w16 5119 _ (omega (arith, there c .row-small)) (lit< tt))
+    (λ c κs. search needs)
     returns-3
-    returns-4
-    (λ c. search needs) (λ c. search needs)
-    returns-5)
+    returns-4)

@@ -4,7 +4,7 @@ use native.Mathlib.Omega.{arith}
 use mathlib.Core.List.{[], _∷_}
 use borrow.Author.Needs.{needs}
 use Rattle.scope.specs.Program.{ascii, refusedLine}
-use Rattle.text.proofs.PutLines.{RoomFor, PutBut, first-part-fits, first-part-put, room-for-last, last-put}
+use Rattle.text.proofs.PutLines.{RoomFor, PutBut, none-stands, room-after, put-after, room-for-last, last-put}
 use Rattle.text.proofs.LineParts.{refusedPart, refused-line-is}
 use Rattle.text.proofs.lines.put_refused.Statement.{statement}
 use Rattle.text.proofs.lines.put_refused.Tie as tie
@@ -19,16 +19,16 @@ module _ (c : tie.After-number-of) where
 
 put-number-requires : tie.Need-put-number-requires
 unfolding ascii
-put-number-requires c κs = let n = c .before in rw (n .number-of .ensures) (first-part-fits (room-for-line n))
+put-number-requires c κs = let n = c .before in rw (n .number-of .ensures) (room-after (none-stands (room-for-line n)))
 
 -- after the call the line is put but for its end
 number-put :
     (c : tie.After-put-number)
     → let u = start (c .before .before) .args in
-    PutBut (refusedLine (u .r)) ((10 ∷ []) ∷ []) (c .put-number .result) (u .out .now) (c .put-number .last .1 .1 .0)
+    PutBut (refusedLine (u .r)) ((10 ∷ []) ∷ []) (c .put-number .result) (u .out .now) (c .put-number .last .1 .1 .1 .0)
 unfolding ascii
 number-put c =
-    let n = c .before .before in first-part-put (room-for-line n) (rw (n .number-of .ensures) at (c .put-number .ensures))
+    let n = c .before .before in put-after (none-stands (room-for-line n)) (rw (n .number-of .ensures) at (c .put-number .ensures))
 
 slice-write-out : tie.Need-slice-write-out
 slice-write-out c = room-for-last (number-put (c .before .before))
