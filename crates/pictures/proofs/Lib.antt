@@ -14,8 +14,4 @@ pub mod Deliveries  -- what both fetches answer and leave in the output
 pub mod Moved  -- a pattern's pixels moved to a position
 pub mod Starts  -- the tests that both fetches begin with
 pub mod Wrapped  -- the words at wrapped pixels, put to an output
-pub mod Stretches  -- something put into a list, stretch after stretch
-pub mod MadeCalls  -- one call of a list, made by the code
-pub mod ReplyRows  -- a reply in twelve numbers
-pub mod ListFaults  -- what is wrong with a list of numbers
-pub mod ListTurns  -- a list that is made call by call, by what is left
+pub mod ReplyRows  -- a reply's twelve numbers
