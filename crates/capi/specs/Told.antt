@@ -1,5 +1,5 @@
--- How an answer is told to a caller in C or Rust: a number, 0 where the call was not refused, and a row of at most four
--- numbers at the start of a lent array of four.
+-- How an answer is told to a caller in C or Rust: a number, 0 where the call was not refused, and a row of numbers at the start
+-- of a lent array of twelve.
 -- Assumes nothing.
 use Prim.Native.Nat.{ℕ, suc}
 use mathlib.Core.Path.{_≡_}

@@ -14,9 +14,9 @@ use Rattle.scope.specs.declared.Verdict.{Verdict}
 use Rattle.capi.specs.Told.{numberTold, rowIn, planRow, checkedRow, numberRow, pixelRow, putFrom}
 use Rattle.capi.specs.Flat.{flatBook, flatColumns, flatRows, flatUsed}
 
--- the number that an answer is told by, and an array of four nines after it
+-- the number that an answer is told by, and an array of twelve nines after it
 told : {A : Type 0} → (A → List ℕ) → Answer A → List ℕ
-told row x = numberTold x ∷ putFrom 0 (rowIn row x) (9 ∷ 9 ∷ 9 ∷ 9 ∷ [])
+told row x = numberTold x ∷ putFrom 0 (rowIn row x) (replicate 12 9)
 
 record Row (A : Type 0) : Type 0 where
   computed : A
@@ -28,18 +28,18 @@ row x y = record { computed = x; stated = y }
 answers : List (Row (List ℕ))
 unfolding row told plan at
 answers =
-    row (told planRow (value (plan 5 2 1))) (0 ∷ 5 ∷ 2 ∷ 1 ∷ 9 ∷ [])
-    ∷ row (told numberRow (value 8)) (0 ∷ 8 ∷ 9 ∷ 9 ∷ 9 ∷ [])
-    ∷ row (told pixelRow (value (at (pos 6) (pos 3)))) (0 ∷ 6 ∷ 3 ∷ 9 ∷ 9 ∷ [])
-    ∷ row (told planRow (turnedDown Refusal.Dependent)) (8 ∷ 0 ∷ 9 ∷ 9 ∷ 9 ∷ [])
-    ∷ row (told numberRow (turnedDown (Refusal.Repeat 4))) (4 ∷ 4 ∷ 9 ∷ 9 ∷ 9 ∷ [])
+    row (told planRow (value (plan 5 2 1))) (0 ∷ 5 ∷ 2 ∷ 1 ∷ replicate 9 9)
+    ∷ row (told numberRow (value 8)) (0 ∷ 8 ∷ replicate 11 9)
+    ∷ row (told pixelRow (value (at (pos 6) (pos 3)))) (0 ∷ 6 ∷ 3 ∷ replicate 10 9)
+    ∷ row (told planRow (turnedDown Refusal.Dependent)) (8 ∷ 0 ∷ replicate 11 9)
+    ∷ row (told numberRow (turnedDown (Refusal.Repeat 4))) (4 ∷ 4 ∷ replicate 11 9)
     ∷ row (told numberRow (turnedDown (Refusal.Unsuited (record { pattern = 1; earlier = 2; later = 3 }))))
-    (10 ∷ 0 ∷ 1 ∷ 2 ∷ 3 ∷ [])
+    (10 ∷ 0 ∷ 1 ∷ 2 ∷ 3 ∷ replicate 8 9)
     ∷ row (told checkedRow (ofVerdict (Verdict.Suits (record { plan = plan 6 4 2; surplus = 7 }))))
-    (0 ∷ 6 ∷ 4 ∷ 2 ∷ 7 ∷ [])
+    (0 ∷ 6 ∷ 4 ∷ 2 ∷ 7 ∷ replicate 8 9)
     ∷ row (told checkedRow (ofVerdict (Verdict.Clashes (record { pattern = 3; earlier = 1; later = 2 }))))
-    (10 ∷ 0 ∷ 3 ∷ 1 ∷ 2 ∷ [])
-    ∷ row (told checkedRow (ofVerdict (Verdict.Refused Refusal.Large))) (9 ∷ 0 ∷ 9 ∷ 9 ∷ 9 ∷ [])
+    (10 ∷ 0 ∷ 3 ∷ 1 ∷ 2 ∷ replicate 8 9)
+    ∷ row (told checkedRow (ofVerdict (Verdict.Refused Refusal.Large))) (9 ∷ 0 ∷ replicate 11 9)
     ∷ []
 
 answers-hold : map (λ r. r .computed) answers ≡ map (λ r. r .stated) answers

@@ -1,5 +1,5 @@
 // The library for C and Rust: the calls on numbers, slices and arrays. Each answers a number, 0 where it was not refused, and
-// puts what it has to tell at the start of `answer`, the rest unchanged: its values, or the refusal's place and, of 10, the
+// puts what it has to tell at the start of `answer`, the rest of the twelve unchanged: its values, or the refusal's place and, of 10, the
 // clash's pattern and its earlier and later position.
 mod flat;
 mod list;
@@ -41,7 +41,7 @@ pub extern "C" fn bankplan_normal_form(
     x2: i16,
     y1: i16,
     y2: i16,
-    answer: &mut [u64; 4],
+    answer: &mut [u64; 12],
 ) -> u64
     ensures { λ n. ⌜ Tells planRow (ofPlanned (normal (at x1 x2) (at y1 y2))) (now (answer .entry)) (now (answer .exit)) n ⌝ }
 {
@@ -56,7 +56,7 @@ pub extern "C" fn bankplan_bank(
     d: u32,
     i: i16,
     j: i16,
-    answer: &mut [u64; 4],
+    answer: &mut [u64; 12],
 ) -> u64
     ensures { λ n. ⌜ Tells numberRow (ofCounted (bank (plan a b d) (at i j))) (now (answer .entry)) (now (answer .exit)) n ⌝ }
 {
@@ -71,7 +71,7 @@ pub extern "C" fn bankplan_depth(
     d: u32,
     w: u32,
     h: u32,
-    answer: &mut [u64; 4],
+    answer: &mut [u64; 12],
 ) -> u64
     ensures { λ n. ⌜ Tells numberRow (ofCounted (depth (plan a b d) w h)) (now (answer .entry)) (now (answer .exit)) n ⌝ }
 {
@@ -88,7 +88,7 @@ pub extern "C" fn bankplan_address(
     h: u32,
     i: i16,
     j: i16,
-    answer: &mut [u64; 4],
+    answer: &mut [u64; 12],
 ) -> u64
     ensures { λ n. ⌜ Tells numberRow (ofCounted (address (plan a b d) w h (at i j))) (now (answer .entry)) (now (answer .exit)) n ⌝ }
 {
@@ -105,7 +105,7 @@ pub extern "C" fn bankplan_locate(
     h: u32,
     k: u64,
     i: u64,
-    answer: &mut [u64; 4],
+    answer: &mut [u64; 12],
 ) -> u64
     ensures { λ n. ⌜ Tells pixelRow (ofLocated (locate (plan a b d) w h k i)) (now (answer .entry)) (now (answer .exit)) n ⌝ }
 {
@@ -119,7 +119,7 @@ pub extern "C" fn bankplan_read_book(
     columns: &mut [i8; 1024],
     rows: &mut [i8; 1024],
     used: &mut [usize; 16],
-    answer: &mut [u64; 4],
+    answer: &mut [u64; 12],
 ) -> u64
     ensures told { λ n. ⌜ Tells countRow (ofReading (readBook (now (s .entry)))) (now (answer .entry)) (now (answer .exit)) n ⌝ }
     ensures columns { λ n. ⌜ now (columns .exit) ≡ whenRead flatColumns (readBook (now (s .entry))) (now (columns .entry)) ⌝ }
@@ -140,7 +140,7 @@ pub extern "C" fn bankplan_read_book(
 
 // The place and the length of pattern n's part of a book's bytes.
 #[no_mangle]
-pub extern "C" fn bankplan_pattern_part(s: &[u8], n: usize, answer: &mut [u64; 4]) -> u64
+pub extern "C" fn bankplan_pattern_part(s: &[u8], n: usize, answer: &mut [u64; 12]) -> u64
     ensures { λ r. ⌜ Tells (λ x. partPlace (now (s .entry)) n ∷ length (patternPart (now (s .entry)) n) ∷ []) (ofOutcome (partOutcome (now (s .entry)) n)) (now (answer .entry)) (now (answer .exit)) r ⌝ }
 {
     let outcome = part_outcome(s, n);
@@ -162,7 +162,7 @@ pub extern "C" fn bankplan_write_book(
     used: &[usize; 16],
     count: usize,
     out: &mut [u8],
-    answer: &mut [u64; 4],
+    answer: &mut [u64; 12],
 ) -> u64
     ensures told { λ n. ⌜ Tells numberRow (ofCounted (writeBook (flatBook (now (columns .entry)) (now (rows .entry)) (now (used .entry)) count) (now (out .entry)) .answer)) (now (answer .entry)) (now (answer .exit)) n ⌝ }
     ensures out { λ n. ⌜ now (out .exit) ≡ writeBook (flatBook (now (columns .entry)) (now (rows .entry)) (now (used .entry)) count) (now (out .entry)) .content ⌝ }
@@ -178,7 +178,7 @@ pub extern "C" fn bankplan_test_record(
     rows: &[i8; 1024],
     used: &[usize; 16],
     count: usize,
-    answer: &mut [u64; 4],
+    answer: &mut [u64; 12],
 ) -> u64
     ensures { λ n. ⌜ Tells noRow (ofOutcome (recordOutcome (flatBook (now (columns .entry)) (now (rows .entry)) (now (used .entry)) count))) (now (answer .entry)) (now (answer .exit)) n ⌝ }
 {
@@ -193,7 +193,7 @@ pub extern "C" fn bankplan_find(
     used: &[usize; 16],
     count: usize,
     limit: u32,
-    answer: &mut [u64; 4],
+    answer: &mut [u64; 12],
 ) -> u64
     ensures { λ n. ⌜ Tells planRow (ofPlanned (find (flatBook (now (columns .entry)) (now (rows .entry)) (now (used .entry)) count) limit)) (now (answer .entry)) (now (answer .exit)) n ⌝ }
 {
@@ -211,7 +211,7 @@ pub extern "C" fn bankplan_check(
     x2: i16,
     y1: i16,
     y2: i16,
-    answer: &mut [u64; 4],
+    answer: &mut [u64; 12],
 ) -> u64
     ensures { λ n. ⌜ Tells checkedRow (ofVerdict (check (flatBook (now (columns .entry)) (now (rows .entry)) (now (used .entry)) count) (at x1 x2) (at y1 y2))) (now (answer .entry)) (now (answer .exit)) n ⌝ }
 {

@@ -18,7 +18,7 @@ pub extern "C" fn bankplan_fill_records(
     w: u32,
     h: u32,
     list: &mut [PixelRecord],
-    answer: &mut [u64; 4],
+    answer: &mut [u64; 12],
 ) -> u64
     ensures { λ n. ⌜ Tells noRow (ofOutcome (fillRecords (plan a b d) w h (now (list .entry)) .answer)) (now (answer .entry)) (now (answer .exit)) n × (now (list .exit) ≡ fillRecords (plan a b d) w h (now (list .entry)) .content) ⌝ }
 {

@@ -30,7 +30,7 @@ pub extern "C" fn bankplan_store(
     i: i16,
     j: i16,
     x: u16,
-    answer: &mut [u64; 4],
+    answer: &mut [u64; 12],
 ) -> u64
     ensures told { λ n. ⌜ Tells noRow (ofOutcome (store (plan a b d) w h (now (mem .entry)) (at i j) x .answer)) (now (answer .entry)) (now (answer .exit)) n ⌝ }
     ensures mem { λ n. ⌜ now (mem .exit) ≡ store (plan a b d) w h (now (mem .entry)) (at i j) x .content ⌝ }
@@ -49,7 +49,7 @@ pub extern "C" fn bankplan_load(
     mem: &[u16],
     i: i16,
     j: i16,
-    answer: &mut [u64; 4],
+    answer: &mut [u64; 12],
 ) -> u64
     ensures { λ n. ⌜ Tells numberRow (ofLoaded (load (plan a b d) w h (now (mem .entry)) (at i j))) (now (answer .entry)) (now (answer .exit)) n ⌝ }
 {
@@ -66,7 +66,7 @@ pub extern "C" fn bankplan_clear(
     h: u32,
     mem: &mut [u16],
     k: u64,
-    answer: &mut [u64; 4],
+    answer: &mut [u64; 12],
 ) -> u64
     ensures told { λ n. ⌜ Tells noRow (ofOutcome (clear (plan a b d) w h (now (mem .entry)) k .answer)) (now (answer .entry)) (now (answer .exit)) n ⌝ }
     ensures mem { λ n. ⌜ now (mem .exit) ≡ clear (plan a b d) w h (now (mem .entry)) k .content ⌝ }
@@ -84,7 +84,7 @@ pub extern "C" fn bankplan_sum(
     h: u32,
     mem: &[u16],
     k: u64,
-    answer: &mut [u64; 4],
+    answer: &mut [u64; 12],
 ) -> u64
     ensures { λ n. ⌜ Tells numberRow (ofCounted (sum (plan a b d) w h (now (mem .entry)) k)) (now (answer .entry)) (now (answer .exit)) n ⌝ }
 {
@@ -108,7 +108,7 @@ pub extern "C" fn bankplan_fetch(
     i: i16,
     j: i16,
     out: &mut [u16],
-    answer: &mut [u64; 4],
+    answer: &mut [u64; 12],
 ) -> u64
     ensures told { λ m. ⌜ Tells numberRow (ofCounted (fetch (flatBook (now (columns .entry)) (now (rows .entry)) (now (used .entry)) count) (plan a b d) w h (now (mem .entry)) n (at i j) (now (out .entry)) .answer)) (now (answer .entry)) (now (answer .exit)) m ⌝ }
     ensures out { λ m. ⌜ now (out .exit) ≡ fetch (flatBook (now (columns .entry)) (now (rows .entry)) (now (used .entry)) count) (plan a b d) w h (now (mem .entry)) n (at i j) (now (out .entry)) .content ⌝ }
@@ -139,7 +139,7 @@ pub extern "C" fn bankplan_ring_fetch(
     i: i16,
     j: i16,
     out: &mut [u16],
-    answer: &mut [u64; 4],
+    answer: &mut [u64; 12],
 ) -> u64
     ensures told { λ m. ⌜ Tells numberRow (ofCounted (ringFetch (flatBook (now (columns .entry)) (now (rows .entry)) (now (used .entry)) count) (plan a b d) w h (now (mem .entry)) n (at i j) (now (out .entry)) .answer)) (now (answer .entry)) (now (answer .exit)) m ⌝ }
     ensures out { λ m. ⌜ now (out .exit) ≡ ringFetch (flatBook (now (columns .entry)) (now (rows .entry)) (now (used .entry)) count) (plan a b d) w h (now (mem .entry)) n (at i j) (now (out .entry)) .content ⌝ }

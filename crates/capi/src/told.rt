@@ -15,7 +15,7 @@ ghost use Rattle.scope.specs.Numbers.{numberOf, placeOf, clashOf, ofPlanned, of
 ghost use Rattle.capi.specs.Told.{Tells, clashRow, planRow, checkedRow, numberRow, pixelRow, noRow, putFrom};
 
 // A refusal's number; its place and its clash go to the array.
-fn tell_refusal(r: Refusal, answer: &mut [u64; 4]) -> u64
+fn tell_refusal(r: Refusal, answer: &mut [u64; 12]) -> u64
     ensures { λ n. ⌜ (n ≡ numberOf r) × (now (answer .exit) ≡ putFrom 0 (placeOf r ∷ clashRow (clashOf r)) (now (answer .entry))) ⌝ }
 {
     let Row(number, place, c) = row_of(r);
@@ -29,7 +29,7 @@ fn tell_refusal(r: Refusal, answer: &mut [u64; 4]) -> u64
 }
 
 // A plan's three numbers, or the refusal.
-pub fn tell_planned(p: Planned, answer: &mut [u64; 4]) -> u64
+pub fn tell_planned(p: Planned, answer: &mut [u64; 12]) -> u64
     ensures { λ n. ⌜ Tells planRow (ofPlanned p) (now (answer .entry)) (now (answer .exit)) n ⌝ }
 {
     match p {
@@ -44,7 +44,7 @@ pub fn tell_planned(p: Planned, answer: &mut [u64; 4]) -> u64
 }
 
 // A checked plan's three numbers and its surplus, or the clash as refusal 10, or the refusal.
-pub fn tell_verdict(v: Verdict, answer: &mut [u64; 4]) -> u64
+pub fn tell_verdict(v: Verdict, answer: &mut [u64; 12]) -> u64
     ensures { λ n. ⌜ Tells checkedRow (ofVerdict v) (now (answer .entry)) (now (answer .exit)) n ⌝ }
 {
     match v {
@@ -61,7 +61,7 @@ pub fn tell_verdict(v: Verdict, answer: &mut [u64; 4]) -> u64
 }
 
 // A number, or the refusal.
-pub fn tell_counted(c: Counted, answer: &mut [u64; 4]) -> u64
+pub fn tell_counted(c: Counted, answer: &mut [u64; 12]) -> u64
     ensures { λ n. ⌜ Tells numberRow (ofCounted c) (now (answer .entry)) (now (answer .exit)) n ⌝ }
 {
     match c {
@@ -74,7 +74,7 @@ pub fn tell_counted(c: Counted, answer: &mut [u64; 4]) -> u64
 }
 
 // A word, or the refusal.
-pub fn tell_loaded(l: Loaded, answer: &mut [u64; 4]) -> u64
+pub fn tell_loaded(l: Loaded, answer: &mut [u64; 12]) -> u64
     ensures { λ n. ⌜ Tells numberRow (ofLoaded l) (now (answer .entry)) (now (answer .exit)) n ⌝ }
 {
     match l {
@@ -87,7 +87,7 @@ pub fn tell_loaded(l: Loaded, answer: &mut [u64; 4]) -> u64
 }
 
 // A pixel's column and row without their signs, or the refusal.
-pub fn tell_located(l: Located, answer: &mut [u64; 4]) -> u64
+pub fn tell_located(l: Located, answer: &mut [u64; 12]) -> u64
     ensures { λ n. ⌜ Tells pixelRow (ofLocated l) (now (answer .entry)) (now (answer .exit)) n ⌝ }
 {
     match l {
@@ -103,7 +103,7 @@ pub fn tell_located(l: Located, answer: &mut [u64; 4]) -> u64
 }
 
 // Only that it was done, or the refusal.
-pub fn tell_outcome(o: Outcome, answer: &mut [u64; 4]) -> u64
+pub fn tell_outcome(o: Outcome, answer: &mut [u64; 12]) -> u64
     ensures { λ n. ⌜ Tells noRow (ofOutcome o) (now (answer .entry)) (now (answer .exit)) n ⌝ }
 {
     match o {

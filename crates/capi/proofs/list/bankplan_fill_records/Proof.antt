@@ -68,12 +68,12 @@ use Rattle.capi.proofs.list.bankplan_fill_records.Code as code
 abbrev R : RattleType
 R = T.the-row
 
--- the array of four
-abbrev Four : RattleType
-Four = Array u64 4
+-- the array of twelve
+abbrev Twelve : RattleType
+Twelve = Array u64 12
 
 abbrev stayed : Stays (f.ended .signature .params) (f.ended .kept)
-stayed = (stay-none (λ _. u32) yes, (stay-none (λ _. u32) yes, (stay-none (λ _. u32) yes, (stay-none (λ _. u32) yes, (stay-none (λ _. u32) yes, (gave-slice (0 ∷ []) tt (plain (λ _. R)), (gave-ref (1 ∷ []) tt (ArrayOf (plain (λ _. u64)) (λ κs. tt) 4), tt)))))))
+stayed = (stay-none (λ _. u32) yes, (stay-none (λ _. u32) yes, (stay-none (λ _. u32) yes, (stay-none (λ _. u32) yes, (stay-none (λ _. u32) yes, (gave-slice (0 ∷ []) tt (plain (λ _. R)), (gave-ref (1 ∷ []) tt (ArrayOf (plain (λ _. u64)) (λ κs. tt) 12), tt)))))))
 
 -- ---- the callees' contracts
 module _ {M : Type 1} (𝓤 : URA M) (H : Heap 𝓤) (A : Atoms 𝓤) (mem : Memory → SProp 𝓤) (run : Routine → Fun 𝓤) where
@@ -132,9 +132,9 @@ module _ {M : Type 1} (𝓤 : URA M) (H : Heap 𝓤) (A : Atoms 𝓤) (W : Given
   abbrev to-says : Outcome → Val → Says 𝓤 H A mem run .Ghost
   to-says r w = (((κ₁, tt), (q₁, tt), tt, (r, (y, tt)), (w ∷ [], (vptr b₁ o₁ ∷ [], tt))), tt)
 
-  goes-says : (r : Outcome) (w : Val) → ent 𝓤 (sep 𝓤 (sep 𝓤 (A .lft κ₁ q₁) (sem 𝓤 H A ftrue)) (sep 𝓤 (sem 𝓤 H A (O.the-row .own r (w ∷ []))) (sem 𝓤 H A (MutRef (named 0) κ₁ Four .own y (vptr b₁ o₁ ∷ []))))) (Says 𝓤 H A mem run .pre (to-says r w))
+  goes-says : (r : Outcome) (w : Val) → ent 𝓤 (sep 𝓤 (sep 𝓤 (A .lft κ₁ q₁) (sem 𝓤 H A ftrue)) (sep 𝓤 (sem 𝓤 H A (O.the-row .own r (w ∷ []))) (sem 𝓤 H A (MutRef (named 0) κ₁ Twelve .own y (vptr b₁ o₁ ∷ []))))) (Says 𝓤 H A mem run .pre (to-says r w))
   goes-says r w =
-      qed W ((‵ (flft κ₁ q₁) ⊛ ‵ ftrue) ∷ ‵ (O.the-row .own r (w ∷ [])) ∷ ‵ (MutRef (named 0) κ₁ Four .own y (vptr b₁ o₁ ∷ [])) ∷ []) ∵
+      qed W ((‵ (flft κ₁ q₁) ⊛ ‵ ftrue) ∷ ‵ (O.the-row .own r (w ∷ [])) ∷ ‵ (MutRef (named 0) κ₁ Twelve .own y (vptr b₁ o₁ ∷ [])) ∷ []) ∵
       nothing ! $ move ! (3 ∷ 0 ∷ []) $ fjoin ! $ move ! (2 ∷ 0 ∷ []) $ fjoin ! $ move ! (1 ∷ 0 ∷ []) $ join ! $ frame ! $ done !
 
   -- what the two contracts say together
@@ -146,9 +146,9 @@ module _ {M : Type 1} (𝓤 : URA M) (H : Heap 𝓤) (A : Atoms 𝓤) (W : Given
   both-say e told = (told-of ofOutcome (e .0) told, e .1)
 
   exits : (m : ℕ) (v : Val) (zs : List PixelRecord) (after : List ℕ) → Said zs after m → length zs ≡ length ys
-      → ent 𝓤 (sep 𝓤 (sep 𝓤 (A .lft κ₀ q₀) (sem 𝓤 H A ftrue)) (sep 𝓤 (sep 𝓤 (A .lft κ₁ q₁) (sem 𝓤 H A ftrue)) (sep 𝓤 (sem 𝓤 H A (finally R γ₀ zs)) (sep 𝓤 (sem 𝓤 H A (fres γ₁ (Four .coded .code after))) (sem 𝓤 H A (u64 .own m (v ∷ []))))))) (Post v)
+      → ent 𝓤 (sep 𝓤 (sep 𝓤 (A .lft κ₀ q₀) (sem 𝓤 H A ftrue)) (sep 𝓤 (sep 𝓤 (A .lft κ₁ q₁) (sem 𝓤 H A ftrue)) (sep 𝓤 (sem 𝓤 H A (finally R γ₀ zs)) (sep 𝓤 (sem 𝓤 H A (fres γ₁ (Twelve .coded .code after))) (sem 𝓤 H A (u64 .own m (v ∷ []))))))) (Post v)
   exits m v zs after e l =
-      qed W ((‵ (flft κ₀ q₀) ⊛ ‵ ftrue) ∷ (‵ (flft κ₁ q₁) ⊛ ‵ ftrue) ∷ ‵ (finally R γ₀ zs) ∷ ‵ (fres γ₁ (Four .coded .code after)) ∷ ‵ (u64 .own m (v ∷ [])) ∷ []) ∵
+      qed W ((‵ (flft κ₀ q₀) ⊛ ‵ ftrue) ∷ (‵ (flft κ₁ q₁) ⊛ ‵ ftrue) ∷ ‵ (finally R γ₀ zs) ∷ ‵ (fres γ₁ (Twelve .coded .code after)) ∷ ‵ (u64 .own m (v ∷ [])) ∷ []) ∵
       suffices ! _ (ends-at 𝓤 H A f.ended stayed (f.clauses 𝓤 H A mem run) W (((κ₀, (κ₁, tt)), (q₀, (q₁, tt)), tt, a, vals), tt) v m (tt, (tt, (tt, (tt, (tt, (zs, (after, tt))))))) (tt, (tt, (tt, (tt, (tt, (l, (tt, tt)))))))) $ says ! e $
       split ! $ move ! (1 ∷ []) $ drop ! $ join ! $ frame ! $
       nothing ! $ move ! (2 ∷ 0 ∷ []) $ fjoin ! $ move ! (1 ∷ 0 ∷ []) $ fjoin ! $ owned ! u32 (Is u32) (uint-makes 𝓤 H A W w32) ht (vint w32 ht ∷ []) (refl, gh) $ fjoin ! $ owned ! u32 (Is u32) (uint-makes 𝓤 H A W w32) wd (vint w32 wd ∷ []) (refl, gw) $ fjoin ! $
@@ -157,7 +157,7 @@ module _ {M : Type 1} (𝓤 : URA M) (H : Heap 𝓤) (A : Atoms 𝓤) (W : Given
   module _ (𝓣 : Tables 𝓤 H) (known-fills : Triple 𝓤 (𝓣 .C #records·fill-records) (Fills 𝓤 H A mem run)) (known-says : Triple 𝓤 (𝓣 .C #capi·told·tell-outcome) (Says 𝓤 H A mem run)) where
     walk : ent 𝓤 (onEntry 𝓤 H A f.signature (κ₀, (κ₁, tt)) (q₀, (q₁, tt)) a vals) (WpFn 𝓤 H (𝓣 .C) (𝓣 .Λ) code.function (vint w32 pa ∷ vint w32 pb ∷ vint w32 pd ∷ vint w32 wd ∷ vint w32 ht ∷ s ∷ vptr b₁ o₁ ∷ []) Post)
     walk =
-        qed W ((‵ (flft κ₀ q₀) ⊛ (‵ (flft κ₁ q₁) ⊛ ‵ ftrue)) ∷ ‵ (owns (u32 ∷ u32 ∷ u32 ∷ u32 ∷ u32 ∷ MutSlice (named 0) κ₀ R ∷ MutRef (named 1) κ₁ Four ∷ []) a vals) ∷ []) ∵
+        qed W ((‵ (flft κ₀ q₀) ⊛ (‵ (flft κ₁ q₁) ⊛ ‵ ftrue)) ∷ ‵ (owns (u32 ∷ u32 ∷ u32 ∷ u32 ∷ u32 ∷ MutSlice (named 0) κ₀ R ∷ MutRef (named 1) κ₁ Twelve ∷ []) a vals) ∷ []) ∵
         enter ! (𝓣 .C) (𝓣 .Λ) code.function (vint w32 pa ∷ vint w32 pb ∷ vint w32 pd ∷ vint w32 wd ∷ vint w32 ht ∷ s ∷ vptr b₁ o₁ ∷ []) _ $
         alloc1 ! (λ l₀. alloc1 ! (λ l₁. alloc1 ! (λ l₂. alloc1 ! (λ l₃. alloc1 ! (λ l₄. alloc1 ! (λ l₅. alloc1 ! (λ l₆. alloc1 ! (λ l₇. alloc1 ! (λ l₈. alloc1 ! (λ l₉. alloc1 ! (λ l₁₀. alloc1 ! (λ l₁₁. alloc1 ! (λ l₁₂. alloc0 ! $ params1 ! $
         pass1 ! (init ! 22 refl (tt, record { fits = ga })) $ pass1 ! (init ! 20 refl (tt, record { fits = gb })) $ pass1 ! (init ! 18 refl (tt, record { fits = gd })) $ pass1 ! (init ! 16 refl (tt, record { fits = gw })) $ pass1 ! (init ! 14 refl (tt, record { fits = gh })) $
@@ -197,14 +197,14 @@ module _ {M : Type 1} (𝓤 : URA M) (H : Heap 𝓤) (A : Atoms 𝓤) (W : Given
 module _ {M : Type 1} (𝓤 : URA M) (H : Heap 𝓤) (A : Atoms 𝓤) (W : Given 𝓤 H A) (mem : Memory → SProp 𝓤) (run : Routine → Fun 𝓤) (𝓣 : Tables 𝓤 H) (known-fills : Triple 𝓤 (𝓣 .C #records·fill-records) (Fills 𝓤 H A mem run)) (known-says : Triple 𝓤 (𝓣 .C #capi·told·tell-outcome) (Says 𝓤 H A mem run)) where
   fill-walks : Walks 𝓤 H A f.ended stayed (WpFn 𝓤 H (𝓣 .C) (𝓣 .Λ) code.function) (f.clauses 𝓤 H A mem run)
   fill-walks = walked 𝓤 H A f.ended stayed (f.clauses 𝓤 H A mem run) (WpFn 𝓤 H (𝓣 .C) (𝓣 .Λ) code.function)
-      (λ κs. (uint-vals w32, (uint-vals w32, (uint-vals w32, (uint-vals w32, (uint-vals w32, (slice-vals, (ptr-vals, tt)))))))) (λ κs. (uint-tells w32, (uint-tells w32, (uint-tells w32, (uint-tells w32, (uint-tells w32, (mut-slice-tells (named 0) (κs .0) R, (mut-tells (named 1) (κs .1 .0) Four, tt))))))))
+      (λ κs. (uint-vals w32, (uint-vals w32, (uint-vals w32, (uint-vals w32, (uint-vals w32, (slice-vals, (ptr-vals, tt)))))))) (λ κs. (uint-tells w32, (uint-tells w32, (uint-tells w32, (uint-tells w32, (uint-tells w32, (mut-slice-tells (named 0) (κs .0) R, (mut-tells (named 1) (κs .1 .0) Twelve, tt))))))))
       (λ κs qs bounds a g are. via 𝓤 _ (fst∗ 𝓤 _ (emp 𝓤))
       (walk 𝓤 H A W mem run (κs .0) (κs .1 .0) (qs .0) (qs .1 .0) (a .1 .1 .1 .1 .1 .0 .ptr .0) (a .1 .1 .1 .1 .1 .0 .ptr .1) (a .1 .1 .1 .1 .1 .1 .0 .ptr .0) (a .1 .1 .1 .1 .1 .1 .0 .ptr .1) (a .1 .1 .1 .1 .1 .0 .name) (a .1 .1 .1 .1 .1 .1 .0 .name) (a .1 .1 .1 .1 .1 .0 .now) (a .1 .1 .1 .1 .1 .1 .0 .now)
       (a .0) (a .1 .0) (a .1 .1 .0) (a .1 .1 .1 .0) (a .1 .1 .1 .1 .0) (are .0 .1) (are .1 .0 .1) (are .1 .1 .0 .1) (are .1 .1 .1 .0 .1) (are .1 .1 .1 .1 .0 .1) (are .1 .1 .1 .1 .1 .0 .0 .1) 𝓣 known-fills known-says))
 
   fill-meets : Meets 𝓤 H A f.signature (WpFn 𝓤 H (𝓣 .C) (𝓣 .Λ) code.function) (f.spec 𝓤 H A mem run)
   fill-meets =
-      walk-meets 𝓤 H A f.ended stayed W (number, (number, (number, (number, (number, (goes-gave-slice 𝓤 H A W 2 0 tt (plain (λ _. R)), (goes-gave-ref 𝓤 H A W 2 1 tt (ArrayOf (plain (λ _. u64)) (λ κs. tt) 4), tt))))))) (f.clauses 𝓤 H A mem run)
+      walk-meets 𝓤 H A f.ended stayed W (number, (number, (number, (number, (number, (goes-gave-slice 𝓤 H A W 2 0 tt (plain (λ _. R)), (goes-gave-ref 𝓤 H A W 2 1 tt (ArrayOf (plain (λ _. u64)) (λ κs. tt) 12), tt))))))) (f.clauses 𝓤 H A mem run)
       (WpFn 𝓤 H (𝓣 .C) (𝓣 .Λ) code.function) (WpFn-mono 𝓤 H (W .laws) 𝓣 code.function) fill-walks
     where
       number : Goes 𝓤 H A W 2 (plain (λ _. u32)) yes (stay-none (λ _. u32) yes)
