@@ -9,6 +9,7 @@ mod writer;
 pub use part::part_outcome;
 pub use part::part_place;
 pub use part::pattern_part;
+pub use reader::empty_pattern;
 pub use reader::read_book;
 pub use record::entry_number;
 pub use record::pattern_outcome;

@@ -1,28 +1,30 @@
 -- `capi::told::tell_verdict` meets its contract.
 -- Assumes nothing.
-use mathlib.Core.Path.{refl, ap}
+use mathlib.Core.Path.{ap}
+use lib.ListN.{set}
 use borrow.Author.Needs.{needs}
 use Rattle.scope.specs.Numbers.{ofVerdict}
-use Rattle.capi.proofs.Passed.{told-value, told-turned-down}
+use Rattle.capi.proofs.Passed.{told-value, told-refusal}
 use Rattle.capi.proofs.told.tell_verdict.Statement.{statement}
 use Rattle.capi.proofs.told.tell_verdict.Tie as tie
 
 returns : tie.Need-returns
-returns c = let s = c .before .before .before in told-value (ap ofVerdict (s .before .before .v .given .1)) refl
+returns c =
+    let v = c .before .before .before .before .v .given in
+    told-value (ap ofVerdict (v .1)) (ap (λ xs. set xs 3 (v .0 .0 .surplus)) (c .before .put-plan .ensures))
 
 returns-2 : tie.Need-returns-2
-returns-2 c = let t = c .before .before in told-turned-down (ap ofVerdict (t .before .v2 .given .1)) (c .tell-refusal .ensures)
+returns-2 c = let t = c .before .before in told-refusal (ap ofVerdict (t .before .v2 .given .1)) (c .tell-refusal .ensures)
 
 returns-3 : tie.Need-returns-3
-returns-3 c = let t = c .before .before in told-turned-down (ap ofVerdict (t .before .v3 .given .1)) (c .tell-refusal2 .ensures)
+returns-3 c = let t = c .before .before in told-refusal (ap ofVerdict (t .before .v3 .given .1)) (c .tell-refusal2 .ensures)
 
 pub tell-verdict-spec : {M : Type 1} → statement M
 tell-verdict-spec =
     tie.close
     (tie.spec
-    (λ c. search needs) (λ c. search needs) (λ c. search needs) (λ c. search needs) (λ c. search needs) (λ c. search needs)
-    (λ c. search needs) (λ c. search needs) (λ c. search needs) (λ c. search needs) (λ c κs. search needs) (λ c. search needs)
-    (λ c κs. search needs)
+    (λ c. search needs) (λ c κs. search needs) (λ c. search needs) (λ c. search needs) (λ c. search needs) (λ c κs. search needs)
+    (λ c. search needs) (λ c κs. search needs)
     returns
     returns-2
     returns-3)
