@@ -177,7 +177,7 @@ fn main() {
         }
     }
     let mut fetched = Vec::from([2, 3, 4, 9].map(|k| {
-        let [a, b, d, _] = proved_find(&books[k].1).1.map(|x| x as u32);
+        let [a, b, d, ..] = proved_find(&books[k].1).1.map(|x| x as u32);
         (books[k].0, &books[k].1, Plan { a, b, d })
     }));
     // a supplier's plan of several rows
