@@ -6,6 +6,7 @@ use mathlib.Core.Option.{Option}
 use mathlib.Core.List.{List, _∷_}
 use Rattle.scope.specs.Numbers.{Answer, value, refusal, turnedDown}
 use Rattle.scope.specs.Calls.{Result}
+use Rattle.scope.specs.Plans.{Pixel}
 use Rattle.scope.specs.declared.Book.{Book}
 use Rattle.scope.specs.declared.Refusal.{Refusal}
 use Rattle.scope.specs.declared.Clash.{Clash}
@@ -27,6 +28,13 @@ pub told-given :
     {before after : List ℕ} {n : ℕ} → Gives result x content → Tells row (of x) before after n
     → Tells row (of (result .answer)) before after n × (content ≡ result .content)
 told-given of (answer, same) told = (told-of of answer told, same)
+
+-- the same where the pixel that it was handed is o
+pub told-at :
+    {A B C D : Type 0} {row : A → List ℕ} (of : B → Answer A) (call : Pixel → D → Result B C) {v o : Pixel} {y : D} {x : B}
+    {content : C} {before after : List ℕ} {n : ℕ} → v ≡ o → Gives (call v y) x content → Tells row (of x) before after n
+    → Tells row (of (call o y .answer)) before after n × (content ≡ call o y .content)
+told-at of call {y} {x} {content} e given told = told-given of (subst (λ u. Gives (call u y) x content) e given) told
 
 -- What an enum tells: a value, and a refusal.
 pub told-value :

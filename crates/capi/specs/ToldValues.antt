@@ -47,11 +47,11 @@ unfolding answers
 answers-hold = refl
 
 -- flat arrays of two patterns, the pixel (1, 2) and the pixels (3, 4) and (5, 6); the entries left out are 0
-unflattened : Book
+unflattened : ℕ → Book
 unfolding flatBook
-unflattened =
+unflattened count =
     flatBook ((pos 1 ∷ replicate 63 (pos 0)) ++ (pos 3 ∷ pos 5 ∷ [])) ((pos 2 ∷ replicate 63 (pos 0)) ++ (pos 4 ∷ pos 6 ∷ []))
-    (1 ∷ 2 ∷ []) 2
+    (1 ∷ 2 ∷ []) count
 
 coordinates : List Pixel → List ℤ
 unfolding flatMap
@@ -70,9 +70,12 @@ entriesOf xs = map (λ k. getD xs k (pos 9)) (0 ∷ 1 ∷ 64 ∷ 65 ∷ 66 ∷ [
 flats : List (Row (List ℤ))
 unfolding row unflattened flattened coordinates entriesOf pixels patternAt flatColumns flatRows flatUsed
 flats =
-    row (coordinates (pixels (patternAt unflattened 0))) (pos 1 ∷ pos 2 ∷ [])
-    ∷ row (coordinates (pixels (patternAt unflattened 1))) (pos 3 ∷ pos 4 ∷ pos 5 ∷ pos 6 ∷ [])
-    ∷ row (pos (unflattened .count) ∷ pos (length (unflattened .patterns)) ∷ []) (pos 2 ∷ pos 16 ∷ [])
+    row (coordinates (pixels (patternAt (unflattened 2) 0))) (pos 1 ∷ pos 2 ∷ [])
+    ∷ row (coordinates (pixels (patternAt (unflattened 2) 1))) (pos 3 ∷ pos 4 ∷ pos 5 ∷ pos 6 ∷ [])
+    ∷ row (pos (unflattened 2 .count) ∷ pos (length (unflattened 2 .patterns)) ∷ []) (pos 2 ∷ pos 16 ∷ [])
+    -- a pattern past the count is empty
+    ∷ row (map pos (map (λ t. t .used) (take 3 (unflattened 1 .patterns)))) (pos 1 ∷ pos 0 ∷ pos 0 ∷ [])
+    ∷ row (take 2 (patternAt (unflattened 1) 1 .columns)) (pos 0 ∷ pos 0 ∷ [])
     ∷ row (entriesOf (flatColumns flattened)) (negsuc 0 ∷ pos 0 ∷ pos 3 ∷ pos 5 ∷ pos 0 ∷ [])
     ∷ row (entriesOf (flatRows flattened)) (pos 2 ∷ pos 0 ∷ negsuc 3 ∷ pos 6 ∷ pos 0 ∷ [])
     ∷ row (map pos (take 3 (flatUsed flattened))) (pos 1 ∷ pos 2 ∷ pos 0 ∷ [])

@@ -1,7 +1,9 @@
 -- `capi::bankplan_address` meets its contract.
 -- Assumes nothing.
+use mathlib.Core.Path.{_∙_, ap}
 use borrow.Author.Needs.{needs}
 use Rattle.scope.specs.Numbers.{ofCounted}
+use Rattle.scope.specs.Calls.{address}
 use Rattle.scope.proofs.PlanFacts.{pixel-handed}
 use Rattle.capi.proofs.Passed.{told-of}
 use Rattle.capi.proofs.bankplan_address.Statement.{statement}
@@ -11,7 +13,7 @@ returns : tie.Need-returns
 returns c =
     let b = c .before .before in
     let f = b .before .before .fits in
-    told-of ofCounted (rw (b .before .plan-of .ensures, pixel-handed (f .i) (f .j)) at (b .address .ensures)) (c .tell-counted .ensures)
+    told-of ofCounted ((rw (b .before .plan-of .ensures) at (b .address .ensures)) ∙ ap (address _ _ _) (pixel-handed (f .i) (f .j))) (c .tell-counted .ensures)
 
 pub bankplan-address-spec : {M : Type 1} → statement M
 bankplan-address-spec = tie.close (tie.spec (λ c κs. search needs) (λ c κs. search needs) (λ c κs. search needs) returns)

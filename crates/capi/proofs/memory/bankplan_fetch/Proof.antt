@@ -2,8 +2,9 @@
 -- Assumes nothing.
 use borrow.Author.Needs.{needs}
 use Rattle.scope.specs.Numbers.{ofCounted}
+use Rattle.scope.specs.Calls.{fetch}
 use Rattle.scope.proofs.PlanFacts.{pixel-handed}
-use Rattle.capi.proofs.Passed.{told-given}
+use Rattle.capi.proofs.Passed.{told-at}
 use Rattle.capi.proofs.memory.bankplan_fetch.Statement.{statement}
 use Rattle.capi.proofs.memory.bankplan_fetch.Tie as tie
 
@@ -13,8 +14,8 @@ returns c =
     let p = f .before .before in
     let b = p .before in
     let g = b .before .before .before .fits in
-    told-given ofCounted
-    (rw (b .book-of .ensures, p .plan-of .ensures, pixel-handed (g .i) (g .j)) at (f .fetch .ensures))
+    told-at ofCounted (fetch _ _ _ _ _ _) (pixel-handed (g .i) (g .j))
+    (rw (b .book-of .ensures, p .plan-of .ensures) at (f .fetch .ensures))
     (c .tell-counted .ensures)
 
 pub bankplan-fetch-spec : {M : Type 1} → statement M

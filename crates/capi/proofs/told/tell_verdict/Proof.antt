@@ -1,7 +1,6 @@
 -- `capi::told::tell_verdict` meets its contract.
 -- Assumes nothing.
-use mathlib.Core.Path.{ap}
-use lib.ListN.{set}
+use mathlib.Core.Path.{refl, ap}
 use borrow.Author.Needs.{needs}
 use Rattle.scope.specs.Numbers.{ofVerdict}
 use Rattle.capi.proofs.Passed.{told-value, told-refusal}
@@ -10,8 +9,8 @@ use Rattle.capi.proofs.told.tell_verdict.Tie as tie
 
 returns : tie.Need-returns
 returns c =
-    let v = c .before .before .before .before .v .given in
-    told-value (ap ofVerdict (v .1)) (ap (λ xs. set xs 3 (v .0 .0 .surplus)) (c .before .put-plan .ensures))
+    let t = c .before in
+    told-value (ap ofVerdict (t .before .before .before .v .given .1)) (rw (t .put-plan .ensures) refl)
 
 returns-2 : tie.Need-returns-2
 returns-2 c = let t = c .before .before in told-refusal (ap ofVerdict (t .before .v2 .given .1)) (c .tell-refusal .ensures)
