@@ -12,6 +12,5 @@ pub use part::pattern_part;
 pub use reader::empty_pattern;
 pub use reader::read_book;
 pub use record::entry_number;
-pub use record::pattern_outcome;
 pub use record::record_outcome;
 pub use writer::write_book;
