@@ -16,27 +16,33 @@ use bankplan::raw::{bankplan_check, bankplan_find};
 use bankplan::{Book as Record, Plan};
 
 // A call's number and the numbers it told; those that it did not set are 0.
-type Told = (u64, [u64; 4]);
+type Told = (u64, [u64; 12]);
+
+fn answer(number: u64, told: &[u64]) -> Told {
+    let mut row = [0; 12];
+    row[..told.len()].copy_from_slice(told);
+    (number, row)
+}
 
 fn proved_find(r: &Record) -> Told {
-    let mut answer = [0; 4];
+    let mut answer = [0; 12];
     (unsafe { bankplan_find(&r.columns, &r.rows, &r.used, r.count, 1024, &mut answer) }, answer)
 }
 
 fn proved_check(r: &Record, x: (i16, i16), y: (i16, i16)) -> Told {
-    let mut answer = [0; 4];
+    let mut answer = [0; 12];
     (unsafe { bankplan_check(&r.columns, &r.rows, &r.used, r.count, x.0, x.1, y.0, y.1, &mut answer) }, answer)
 }
 
 fn told(p: Result<Plan, u64>) -> Told {
-    p.map_or_else(|n| (n, [0; 4]), |p| (0, [p.a.into(), p.b.into(), p.d.into(), 0]))
+    p.map_or_else(|n| answer(n, &[]), |p| answer(0, &[p.a.into(), p.b.into(), p.d.into()]))
 }
 
 fn told_verdict(v: Result<unverified::Verdict, u64>) -> Told {
     match v {
-        Ok(unverified::Verdict::Clash(n, e, l)) => (10, [0, n as u64, e as u64, l as u64]),
-        Ok(unverified::Verdict::Suits(p, s)) => (0, [p.a.into(), p.b.into(), p.d.into(), s.into()]),
-        Err(n) => (n, [0; 4]),
+        Ok(unverified::Verdict::Clash(n, e, l)) => answer(10, &[0, n as u64, e as u64, l as u64]),
+        Ok(unverified::Verdict::Suits(p, s)) => answer(0, &[p.a.into(), p.b.into(), p.d.into(), s.into()]),
+        Err(n) => answer(n, &[]),
     }
 }
 
@@ -171,7 +177,7 @@ fn main() {
         }
     }
     let mut fetched = Vec::from([2, 3, 4, 9].map(|k| {
-        let [a, b, d, _] = proved_find(&books[k].1).1.map(|x| x as u32);
+        let [a, b, d, ..] = proved_find(&books[k].1).1.map(|x| x as u32);
         (books[k].0, &books[k].1, Plan { a, b, d })
     }));
     // a supplier's plan of several rows

@@ -30,33 +30,33 @@ impl Picture {
     }
 
     fn store(&self, (i, j): (i16, i16), x: u16) -> Told {
-        let (p, mut mem, mut answer) = (&self.p, self.mem.borrow_mut(), [0; 4]);
+        let (p, mut mem, mut answer) = (&self.p, self.mem.borrow_mut(), [0; 12]);
         let (words, m) = (mem.len(), mem.as_mut_ptr());
         let n = unsafe { bankplan_store(p.a, p.b, p.d, self.w, self.h, m, words, i, j, x, &mut answer) };
         (n, answer[0])
     }
 
     fn load(&self, (i, j): (i16, i16)) -> Told {
-        let (p, mem, mut answer) = (&self.p, self.mem.borrow(), [0; 4]);
+        let (p, mem, mut answer) = (&self.p, self.mem.borrow(), [0; 12]);
         let n = unsafe { bankplan_load(p.a, p.b, p.d, self.w, self.h, mem.as_ptr(), mem.len(), i, j, &mut answer) };
         (n, answer[0])
     }
 
     fn clear(&self, k: u64) -> Told {
-        let (p, mut mem, mut answer) = (&self.p, self.mem.borrow_mut(), [0; 4]);
+        let (p, mut mem, mut answer) = (&self.p, self.mem.borrow_mut(), [0; 12]);
         let (words, m) = (mem.len(), mem.as_mut_ptr());
         let n = unsafe { bankplan_clear(p.a, p.b, p.d, self.w, self.h, m, words, k, &mut answer) };
         (n, answer[0])
     }
 
     fn sum(&self, k: u64) -> Told {
-        let (p, mem, mut answer) = (&self.p, self.mem.borrow(), [0; 4]);
+        let (p, mem, mut answer) = (&self.p, self.mem.borrow(), [0; 12]);
         let n = unsafe { bankplan_sum(p.a, p.b, p.d, self.w, self.h, mem.as_ptr(), mem.len(), k, &mut answer) };
         (n, answer[0])
     }
 
     fn fetch(&self, ring: bool, r: &Record, n: usize, (i, j): (i16, i16), out: &mut [u16]) -> Told {
-        let (p, mem, mut answer) = (&self.p, self.mem.borrow(), [0; 4]);
+        let (p, mem, mut answer) = (&self.p, self.mem.borrow(), [0; 12]);
         let call = if ring { bankplan_ring_fetch } else { bankplan_fetch };
         let number = unsafe {
             call(

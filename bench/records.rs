@@ -31,7 +31,7 @@ fn unverified(p: &Plan, w: u32, h: u32, list: &mut [PixelRecord]) -> u64 {
 }
 
 fn proved(p: &Plan, w: u32, h: u32, list: &mut [PixelRecord]) -> u64 {
-    let mut answer = [0; 4];
+    let mut answer = [0; 12];
     unsafe { bankplan_fill_records(p.a, p.b, p.d, w, h, list.as_mut_ptr(), list.len(), &mut answer) }
 }
 

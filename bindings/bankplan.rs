@@ -18,56 +18,56 @@ pub mod raw {
     use super::PixelRecord;
 
     unsafe extern "C" {
-        pub fn bankplan_normal_form(x1: i16, x2: i16, y1: i16, y2: i16, answer: &mut [u64; 4]) -> u64;
-        pub fn bankplan_bank(a: u32, b: u32, d: u32, i: i16, j: i16, answer: &mut [u64; 4]) -> u64;
-        pub fn bankplan_depth(a: u32, b: u32, d: u32, w: u32, h: u32, answer: &mut [u64; 4]) -> u64;
-        pub fn bankplan_address(a: u32, b: u32, d: u32, w: u32, h: u32, i: i16, j: i16, answer: &mut [u64; 4]) -> u64;
-        pub fn bankplan_locate(a: u32, b: u32, d: u32, w: u32, h: u32, k: u64, i: u64, answer: &mut [u64; 4]) -> u64;
+        pub fn bankplan_normal_form(x1: i16, x2: i16, y1: i16, y2: i16, answer: &mut [u64; 12]) -> u64;
+        pub fn bankplan_bank(a: u32, b: u32, d: u32, i: i16, j: i16, answer: &mut [u64; 12]) -> u64;
+        pub fn bankplan_depth(a: u32, b: u32, d: u32, w: u32, h: u32, answer: &mut [u64; 12]) -> u64;
+        pub fn bankplan_address(a: u32, b: u32, d: u32, w: u32, h: u32, i: i16, j: i16, answer: &mut [u64; 12]) -> u64;
+        pub fn bankplan_locate(a: u32, b: u32, d: u32, w: u32, h: u32, k: u64, i: u64, answer: &mut [u64; 12]) -> u64;
         pub fn bankplan_read_book(
             s: *const u8, s_length: usize,
-            columns: &mut [i8; 1024], rows: &mut [i8; 1024], used: &mut [usize; 16], answer: &mut [u64; 4],
+            columns: &mut [i8; 1024], rows: &mut [i8; 1024], used: &mut [usize; 16], answer: &mut [u64; 12],
         ) -> u64;
-        pub fn bankplan_pattern_part(s: *const u8, s_length: usize, n: usize, answer: &mut [u64; 4]) -> u64;
+        pub fn bankplan_pattern_part(s: *const u8, s_length: usize, n: usize, answer: &mut [u64; 12]) -> u64;
         pub fn bankplan_write_book(
             columns: &[i8; 1024], rows: &[i8; 1024], used: &[usize; 16], count: usize,
-            out: *mut u8, out_length: usize, answer: &mut [u64; 4],
+            out: *mut u8, out_length: usize, answer: &mut [u64; 12],
         ) -> u64;
         pub fn bankplan_test_record(
-            columns: &[i8; 1024], rows: &[i8; 1024], used: &[usize; 16], count: usize, answer: &mut [u64; 4],
+            columns: &[i8; 1024], rows: &[i8; 1024], used: &[usize; 16], count: usize, answer: &mut [u64; 12],
         ) -> u64;
         pub fn bankplan_find(
-            columns: &[i8; 1024], rows: &[i8; 1024], used: &[usize; 16], count: usize, limit: u32, answer: &mut [u64; 4],
+            columns: &[i8; 1024], rows: &[i8; 1024], used: &[usize; 16], count: usize, limit: u32, answer: &mut [u64; 12],
         ) -> u64;
         pub fn bankplan_check(
             columns: &[i8; 1024], rows: &[i8; 1024], used: &[usize; 16], count: usize,
-            x1: i16, x2: i16, y1: i16, y2: i16, answer: &mut [u64; 4],
+            x1: i16, x2: i16, y1: i16, y2: i16, answer: &mut [u64; 12],
         ) -> u64;
         pub fn bankplan_store(
             a: u32, b: u32, d: u32, w: u32, h: u32, mem: *mut u16, mem_length: usize,
-            i: i16, j: i16, x: u16, answer: &mut [u64; 4],
+            i: i16, j: i16, x: u16, answer: &mut [u64; 12],
         ) -> u64;
         pub fn bankplan_load(
             a: u32, b: u32, d: u32, w: u32, h: u32, mem: *const u16, mem_length: usize,
-            i: i16, j: i16, answer: &mut [u64; 4],
+            i: i16, j: i16, answer: &mut [u64; 12],
         ) -> u64;
         pub fn bankplan_clear(
-            a: u32, b: u32, d: u32, w: u32, h: u32, mem: *mut u16, mem_length: usize, k: u64, answer: &mut [u64; 4],
+            a: u32, b: u32, d: u32, w: u32, h: u32, mem: *mut u16, mem_length: usize, k: u64, answer: &mut [u64; 12],
         ) -> u64;
         pub fn bankplan_sum(
-            a: u32, b: u32, d: u32, w: u32, h: u32, mem: *const u16, mem_length: usize, k: u64, answer: &mut [u64; 4],
+            a: u32, b: u32, d: u32, w: u32, h: u32, mem: *const u16, mem_length: usize, k: u64, answer: &mut [u64; 12],
         ) -> u64;
         pub fn bankplan_fetch(
             columns: &[i8; 1024], rows: &[i8; 1024], used: &[usize; 16], count: usize,
             a: u32, b: u32, d: u32, w: u32, h: u32, mem: *const u16, mem_length: usize,
-            n: usize, i: i16, j: i16, out: *mut u16, out_length: usize, answer: &mut [u64; 4],
+            n: usize, i: i16, j: i16, out: *mut u16, out_length: usize, answer: &mut [u64; 12],
         ) -> u64;
         pub fn bankplan_ring_fetch(
             columns: &[i8; 1024], rows: &[i8; 1024], used: &[usize; 16], count: usize,
             a: u32, b: u32, d: u32, w: u32, h: u32, mem: *const u16, mem_length: usize,
-            n: usize, i: i16, j: i16, out: *mut u16, out_length: usize, answer: &mut [u64; 4],
+            n: usize, i: i16, j: i16, out: *mut u16, out_length: usize, answer: &mut [u64; 12],
         ) -> u64;
         pub fn bankplan_fill_records(
-            a: u32, b: u32, d: u32, w: u32, h: u32, list: *mut PixelRecord, list_length: usize, answer: &mut [u64; 4],
+            a: u32, b: u32, d: u32, w: u32, h: u32, list: *mut PixelRecord, list_length: usize, answer: &mut [u64; 12],
         ) -> u64;
     }
 }
@@ -179,10 +179,10 @@ impl std::error::Error for Refused {}
 // they say, and what is lent for writing overlaps nothing else that is lent.
 
 // Calls, and gives the values told or the refusal.
-fn told(call: impl FnOnce(&mut [u64; 4]) -> u64) -> Result<[u64; 4], Refused> {
-    let mut answer = [0; 4];
+fn told(call: impl FnOnce(&mut [u64; 12]) -> u64) -> Result<[u64; 12], Refused> {
+    let mut answer = [0; 12];
     let number = call(&mut answer);
-    let [place, pattern, earlier, later] = answer.map(|x| x as usize);
+    let [place, pattern, earlier, later, ..] = answer.map(|x| x as usize);
     match number {
         0 => Ok(answer),
         10 => Err(Refused { number, place, clash: Some(Clash { pattern, earlier, later }) }),
@@ -190,8 +190,8 @@ fn told(call: impl FnOnce(&mut [u64; 4]) -> u64) -> Result<[u64; 4], Refused> {
     }
 }
 
-fn plan_of(answer: [u64; 4]) -> Plan {
-    let [a, b, d, _] = answer.map(|x| x as u32);
+fn plan_of(answer: [u64; 12]) -> Plan {
+    let [a, b, d, ..] = answer.map(|x| x as u32);
     Plan { a, b, d }
 }
 

@@ -12,7 +12,7 @@
 enum { WIDTH = 7, HEIGHT = 4 };
 
 /* Says what turned a call down; the number is handed on. */
-static uint64_t said(const char *call, uint64_t number, const uint64_t answer[4]) {
+static uint64_t said(const char *call, uint64_t number, const uint64_t answer[12]) {
     if (number == BANKPLAN_UNSUITED)
         printf("%s: refused %d, pixels %d and %d of pattern %d share a bank\n", call, (int)number, (int)answer[2],
                (int)answer[3], (int)answer[1]);
@@ -27,7 +27,7 @@ int main(void) {
     static int8_t columns[1024], rows[1024];
     static size_t used[16];
     uint16_t words[64];
-    uint64_t answer[4];
+    uint64_t answer[12];
 
     /* the book, as a record */
     if (said("read", bankplan_read_book(bytes, sizeof bytes, columns, rows, used, answer), answer) != 0)

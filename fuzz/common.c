@@ -33,13 +33,13 @@ void give_back(void *buffer, size_t bytes) {
 }
 
 uint64_t *fresh_answer(void) {
-    uint64_t *answer = lent(4 * sizeof *answer);
-    for (int k = 0; k < 4; k++) answer[k] = UNTOUCHED;
+    uint64_t *answer = lent(ANSWER_LENGTH * sizeof *answer);
+    for (int k = 0; k < ANSWER_LENGTH; k++) answer[k] = UNTOUCHED;
     return answer;
 }
 
 struct told take_answer(uint64_t number, uint64_t *answer) {
-    struct told t = {.number = number, .values = 4};
+    struct told t = {.number = number, .values = ANSWER_LENGTH};
     memcpy(t.row, answer, sizeof t.row);
     free(answer);
     while (t.values > 0 && t.row[t.values - 1] == UNTOUCHED) t.values--;

@@ -20,10 +20,11 @@ void *lent(size_t bytes);
 void *lent_copy(const void *from, size_t bytes);
 void give_back(void *buffer, size_t bytes);
 
-// What a call said: its number, the four numbers of the answer, and how many of them it put there.
+// What a call said: its number, the numbers of the answer, and how many of them it put there.
+enum { ANSWER_LENGTH = 12 };
 struct told {
     uint64_t number;
-    uint64_t row[4];
+    uint64_t row[ANSWER_LENGTH];
     int values;
 };
 uint64_t *fresh_answer(void);

@@ -2,8 +2,9 @@
  * Bank plans for image buffers: the functions of the static library `capi`. For C99 and later, and for C++.
  *
  * What a call answers. Every function returns a number: 0 where the call was not refused, else the number of the refusal, 1 to
- * 18 (enum bankplan_refusal). It puts a row of numbers at the start of the lent array `answer`, and leaves the rest of it:
- *   not refused        the values that stand behind "tells" below
+ * 18 (enum bankplan_refusal). It puts a row of numbers at the start of the lent array `answer` of 12, and leaves the rest of
+ * the 12 as they were:
+ *   not refused        the values that stand behind "tells" below, from answer[0] on
  *   refused            answer[0]: the place
  *   refused by 10      answer[0]: the place; answer[1], answer[2], answer[3]: the clash, that is the pattern's number, the
  *                      earlier and the later position, counted from 0
@@ -65,84 +66,84 @@ enum bankplan_refusal {
 /* Reads a book's bytes into a record. Refused by 1, 2, 3, 4, 5 as they come in the bytes. Tells the pattern count.
    Lent: columns, rows, used are filled, unused entries with 0; on a refusal they stay as they were. */
 uint64_t bankplan_read_book(const uint8_t *s, size_t s_length, int8_t columns[1024], int8_t rows[1024], size_t used[16],
-                            uint64_t answer[4]);
+                            uint64_t answer[12]);
 
 /* Where the pixel bytes of pattern n stand in a book's bytes. Refused by 1, 2, 3, 4, 5 as they come in the bytes, 17. Tells the
    offset from s and the length in bytes. */
-uint64_t bankplan_pattern_part(const uint8_t *s, size_t s_length, size_t n, uint64_t answer[4]);
+uint64_t bankplan_pattern_part(const uint8_t *s, size_t s_length, size_t n, uint64_t answer[12]);
 
 /* Writes a record's bytes, at most 2,065. Refused by 2, 3, 4 in book order, 16. Tells the count of bytes.
    Lent: the bytes stand at the start of out, the rest of it stays; on a refusal all of it does. */
 uint64_t bankplan_write_book(const int8_t columns[1024], const int8_t rows[1024], const size_t used[16], size_t count,
-                             uint8_t *out, size_t out_length, uint64_t answer[4]);
+                             uint8_t *out, size_t out_length, uint64_t answer[12]);
 
 /* Tests whether a record is a book. Refused by 2, 3, 4 in book order. Tells nothing. */
 uint64_t bankplan_test_record(const int8_t columns[1024], const int8_t rows[1024], const size_t used[16], size_t count,
-                              uint64_t answer[4]);
+                              uint64_t answer[12]);
 
 /* ---- finding and checking */
 
 /* The plan with the fewest banks, at most limit, for a book. Refused by 2, 3, 4 in book order, 6, 7. Tells a, b, d. */
 uint64_t bankplan_find(const int8_t columns[1024], const int8_t rows[1024], const size_t used[16], size_t count,
-                       uint32_t limit, uint64_t answer[4]);
+                       uint32_t limit, uint64_t answer[12]);
 
 /* The verdict on a supplier's vectors (x1, x2) and (y1, y2) for a book. Refused by 2, 3, 4 in book order, 8, 9, and by 10 with
    the clash. Tells a, b, d of their normal form and the surplus, N less the least count. */
 uint64_t bankplan_check(const int8_t columns[1024], const int8_t rows[1024], const size_t used[16], size_t count,
-                        int16_t x1, int16_t x2, int16_t y1, int16_t y2, uint64_t answer[4]);
+                        int16_t x1, int16_t x2, int16_t y1, int16_t y2, uint64_t answer[12]);
 
 /* The normal form of the vectors (x1, x2) and (y1, y2). Refused by 8, 9. Tells a, b, d. */
-uint64_t bankplan_normal_form(int16_t x1, int16_t x2, int16_t y1, int16_t y2, uint64_t answer[4]);
+uint64_t bankplan_normal_form(int16_t x1, int16_t x2, int16_t y1, int16_t y2, uint64_t answer[12]);
 
 /* ---- banks and addresses */
 
 /* The bank of a pixel, inside a picture or not. Refused by 11. Tells the bank. */
-uint64_t bankplan_bank(uint32_t a, uint32_t b, uint32_t d, int16_t i, int16_t j, uint64_t answer[4]);
+uint64_t bankplan_bank(uint32_t a, uint32_t b, uint32_t d, int16_t i, int16_t j, uint64_t answer[12]);
 
 /* The words of one bank. Refused by 11, 12. Tells the depth. */
-uint64_t bankplan_depth(uint32_t a, uint32_t b, uint32_t d, uint32_t w, uint32_t h, uint64_t answer[4]);
+uint64_t bankplan_depth(uint32_t a, uint32_t b, uint32_t d, uint32_t w, uint32_t h, uint64_t answer[12]);
 
 /* The address of a pixel in its bank. Refused by 11, 12, 14. Tells the address. */
 uint64_t bankplan_address(uint32_t a, uint32_t b, uint32_t d, uint32_t w, uint32_t h, int16_t i, int16_t j,
-                          uint64_t answer[4]);
+                          uint64_t answer[12]);
 
 /* The pixel of bank k and address i. Refused by 11, 12, 15. Tells the column and the row. */
 uint64_t bankplan_locate(uint32_t a, uint32_t b, uint32_t d, uint32_t w, uint32_t h, uint64_t k, uint64_t i,
-                         uint64_t answer[4]);
+                         uint64_t answer[12]);
 
 /* ---- pictures */
 
 /* Stores the word x at a pixel. Refused by 11, 12, 13, 14. Tells nothing.
    Lent: the word at the pixel's bank and address is x, the rest of mem stays; on a refusal all of it does. */
 uint64_t bankplan_store(uint32_t a, uint32_t b, uint32_t d, uint32_t w, uint32_t h, uint16_t *mem, size_t mem_length,
-                        int16_t i, int16_t j, uint16_t x, uint64_t answer[4]);
+                        int16_t i, int16_t j, uint16_t x, uint64_t answer[12]);
 
 /* The word at a pixel. Refused by 11, 12, 13, 14. Tells the word. */
 uint64_t bankplan_load(uint32_t a, uint32_t b, uint32_t d, uint32_t w, uint32_t h, const uint16_t *mem, size_t mem_length,
-                       int16_t i, int16_t j, uint64_t answer[4]);
+                       int16_t i, int16_t j, uint64_t answer[12]);
 
 /* Clears bank k. Refused by 11, 12, 13, 15 (k not below N). Tells nothing.
    Lent: each word of the bank is 0, the rest of mem stays; on a refusal all of it does. */
 uint64_t bankplan_clear(uint32_t a, uint32_t b, uint32_t d, uint32_t w, uint32_t h, uint16_t *mem, size_t mem_length,
-                        uint64_t k, uint64_t answer[4]);
+                        uint64_t k, uint64_t answer[12]);
 
 /* The exact sum of the words of bank k. Refused by 11, 12, 13, 15 (k not below N). Tells the sum. */
 uint64_t bankplan_sum(uint32_t a, uint32_t b, uint32_t d, uint32_t w, uint32_t h, const uint16_t *mem, size_t mem_length,
-                      uint64_t k, uint64_t answer[4]);
+                      uint64_t k, uint64_t answer[12]);
 
 /* Fetches pattern n of a book with (0, 0) moved to (i, j). Refused by 2, 3, 4 in book order, 11, 12, 13, 17, by 10 with the
    clash where the plan does not suit pattern n, 14 where any of its pixels is outside, 16. Tells the count of words.
    Lent: the words stand at the start of out in the book's pixel order, the rest of it stays; on a refusal all of it does. */
 uint64_t bankplan_fetch(const int8_t columns[1024], const int8_t rows[1024], const size_t used[16], size_t count,
                         uint32_t a, uint32_t b, uint32_t d, uint32_t w, uint32_t h, const uint16_t *mem, size_t mem_length,
-                        size_t n, int16_t i, int16_t j, uint16_t *out, size_t out_length, uint64_t answer[4]);
+                        size_t n, int16_t i, int16_t j, uint16_t *out, size_t out_length, uint64_t answer[12]);
 
 /* The same with columns modulo w and rows modulo h. Refused by 2, 3, 4 in book order, 11, 12, 13, 17, by 10 with the clash, 18,
    16. Tells the count of words. Lent: as for a fetch. */
 uint64_t bankplan_ring_fetch(const int8_t columns[1024], const int8_t rows[1024], const size_t used[16], size_t count,
                              uint32_t a, uint32_t b, uint32_t d, uint32_t w, uint32_t h, const uint16_t *mem,
                              size_t mem_length, size_t n, int16_t i, int16_t j, uint16_t *out, size_t out_length,
-                             uint64_t answer[4]);
+                             uint64_t answer[12]);
 
 /* ---- record lists */
 
@@ -157,7 +158,7 @@ typedef struct bankplan_pixel_record {
 /* Fills in the bank and the address of every record of a list. Refused by 11, 12, 14 where any pixel is outside. Tells nothing.
    Lent: every record's bank and address are filled in, its column and row stay; on a refusal the whole list does. */
 uint64_t bankplan_fill_records(uint32_t a, uint32_t b, uint32_t d, uint32_t w, uint32_t h, bankplan_pixel_record *list,
-                               size_t list_length, uint64_t answer[4]);
+                               size_t list_length, uint64_t answer[12]);
 
 /* The sizes that the library counts on, tested from C11 and C++11 on. */
 #if defined(__cplusplus) && __cplusplus >= 201103L

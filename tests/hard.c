@@ -32,9 +32,10 @@ static void say_wrong(const char *what, uint64_t number) {
 }
 
 static void lend_all(const struct call *c, const struct input *x) {
-    static const uint64_t untouched[4] = {UNTOUCHED, UNTOUCHED, UNTOUCHED, UNTOUCHED};
+    static uint64_t untouched[ANSWER_LENGTH];
     static uint8_t before[SMALL];
     if (!before[0]) memset(before, 0xee, sizeof before);
+    for (int k = 0; k < ANSWER_LENGTH; k++) untouched[k] = UNTOUCHED;
     size_t room = output_size((enum which)(c - calls), x);
     const struct {
         const void *content;
@@ -52,7 +53,7 @@ static void lend_all(const struct call *c, const struct input *x) {
 
 // What a call is lent to be filled, a record's unused entries and the words past a picture's are unknown to valgrind.
 static void make_unknown(const struct call *c, const struct input *x) {
-    lent_unknown(ANSWER, 0, 4 * sizeof(uint64_t));
+    lent_unknown(ANSWER, 0, ANSWER_LENGTH * sizeof(uint64_t));
     if (c->writes & BIT(OUTPUT)) lent_unknown(OUTPUT, 0, output_size((enum which)(c - calls), x));
     if (c->writes & RECORD)
         for (int s = COLUMNS; s <= USED; s++) lent_unknown(s, 0, s == USED ? sizeof x->used : 1024);
@@ -74,7 +75,7 @@ static void judge_answer(const struct call *c, const struct input *x, uint64_t n
     int values = number == 0 ? c->values : number == 10 ? 4 : 1;
     if (!lent_known(ANSWER, 0, values * sizeof *answer)) say_wrong("told what is not known", number);
     lent_known_again(ANSWER);
-    for (int k = 0; k < 4; k++)
+    for (int k = 0; k < ANSWER_LENGTH; k++)
         if ((answer[k] == UNTOUCHED) != (k >= values)) say_wrong("the answer's row", number);
     if (!lent_same(ANSWER, 0, values * sizeof *answer)) say_wrong("the answer's rest", number);
     bool placed = number >= 1 && number <= 5 && c->reads & BIT(BOOK);

@@ -13,6 +13,7 @@ enum slot { BOOK, COLUMNS, ROWS, USED, MEMORY, OUTPUT, LIST, ANSWER, SLOTS };
 // Where a lent buffer stands: up to a page that nobody may touch, from such a page on, or in a heap block of its size.
 enum way { END, BEGIN, HEAP };
 
+enum { ANSWER_LENGTH = 12 }; // numbers of an answer
 enum { SMALL = 8192, MOST_WORDS = 22 << 20 }; // bytes of a small slot; words of the largest picture's memory, and some
 
 // hard_lend.c

@@ -54,7 +54,7 @@ static uint64_t ring_fetch(const struct input *x) {
 
 // Whether a record has the bank and address that the calls for one pixel tell.
 static bool is_filled(const struct input *x, bankplan_pixel_record r) {
-    uint64_t k[4] = {0}, at[4] = {0};
+    uint64_t k[ANSWER_LENGTH] = {0}, at[ANSWER_LENGTH] = {0};
     return bankplan_bank(PLAN_ARGUMENTS, r.column, r.row, k) == 0 && r.bank == k[0] &&
            bankplan_address(PLAN_ARGUMENTS, SIDES, r.column, r.row, at) == 0 && r.address == at[0];
 }

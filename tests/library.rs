@@ -18,8 +18,8 @@ pub struct Told {
 const UNTOUCHED: u64 = 0xabad_1dea_abad_1dea;
 
 // Calls with a fresh answer and takes off what the call left untouched.
-fn told(call: impl FnOnce(&mut [u64; 4]) -> u64) -> Told {
-    let mut answer = [UNTOUCHED; 4];
+fn told(call: impl FnOnce(&mut [u64; 12]) -> u64) -> Told {
+    let mut answer = [UNTOUCHED; 12];
     let number = call(&mut answer);
     let mut row = answer.to_vec();
     while row.last() == Some(&UNTOUCHED) {

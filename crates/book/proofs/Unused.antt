@@ -103,7 +103,7 @@ module _ (book : Book) (legal : IsBook book) where
       }
 
 -- The reader gives the record of a list of patterns, so what holds of each such record holds of what it gives.
-read-is-of-a-list : (P : Book → Type 0) → ((ts : List (List Pixel)) → P (bookOf ts)) → (s : List ℕ) → P (readBook s .book)
+pub read-is-of-a-list : (P : Book → Type 0) → ((ts : List (List Pixel)) → P (bookOf ts)) → (s : List ℕ) → P (readBook s .book)
 unfolding readBook bookIn
 read-is-of-a-list P holds s = by-test (bytesTest s)
   where

@@ -38,8 +38,8 @@ fn pattern_at(s: &[u8], at: usize) -> Pattern
     }
 }
 
-// The pattern of no pixel.
-fn empty_pattern() -> Pattern
+// The pattern of no pixel: every entry 0.
+pub fn empty_pattern() -> Pattern
     ensures { λ r. ⌜ r ≡ patternOf [] ⌝ }
 {
     Pattern {

@@ -40,7 +40,7 @@ fn pixels_outcome(t: Pattern) -> Outcome
 }
 
 // The tests of a pattern.
-pub fn pattern_outcome(t: Pattern) -> Outcome
+fn pattern_outcome(t: Pattern) -> Outcome
     ensures { λ r. ⌜ r ≡ outcomeOf (patternTest t) ⌝ }
 {
     let used = t.used;

@@ -4,8 +4,9 @@ use Prim.Native.Nat.{ℕ}
 use mathlib.Core.Path.{_≡_, sym, _∙_, ap, subst}
 use mathlib.Core.Option.{Option}
 use mathlib.Core.List.{List, _∷_}
-use Rattle.scope.specs.Numbers.{Answer, value, refusal, turnedDown, ofOutcome}
+use Rattle.scope.specs.Numbers.{Answer, value, refusal, turnedDown}
 use Rattle.scope.specs.Calls.{Result}
+use Rattle.scope.specs.Plans.{Pixel}
 use Rattle.scope.specs.declared.Book.{Book}
 use Rattle.scope.specs.declared.Refusal.{Refusal}
 use Rattle.scope.specs.declared.Clash.{Clash}
@@ -13,7 +14,7 @@ use Rattle.scope.specs.declared.Outcome.{Outcome}
 use Rattle.scope.specs.declared.Outcome.the-variants.{Done, Refused}
 use Rattle.scope.specs.declared.Reading.{Reading}
 use Rattle.checks.proofs.Chains.{Gives}
-use Rattle.capi.specs.Told.{Tells, numberTold, clashRow, rowIn, noRow, putFrom}
+use Rattle.capi.specs.Told.{Tells, numberTold, clashRow, rowIn, putFrom}
 use Rattle.capi.specs.Flat.{ofReading, whenRead}
 
 pub told-of :
@@ -28,31 +29,28 @@ pub told-given :
     → Tells row (of (result .answer)) before after n × (content ≡ result .content)
 told-given of (answer, same) told = (told-of of answer told, same)
 
--- a value, and a refusal
+-- the same where the pixel that it was handed is o
+pub told-at :
+    {A B C D : Type 0} {row : A → List ℕ} (of : B → Answer A) (call : Pixel → D → Result B C) {v o : Pixel} {y : D} {x : B}
+    {content : C} {before after : List ℕ} {n : ℕ} → v ≡ o → Gives (call v y) x content → Tells row (of x) before after n
+    → Tells row (of (call o y .answer)) before after n × (content ≡ call o y .content)
+told-at of call {y} {x} {content} e given told = told-given of (subst (λ u. Gives (call u y) x content) e given) told
+
+-- What an enum tells: a value, and a refusal.
 pub told-value :
     {A : Type 0} {row : A → List ℕ} {x : Answer A} {v : A} {before after : List ℕ} → x ≡ value v
     → after ≡ putFrom 0 (row v) before → Tells row x before after 0
 told-value {row} {before} e put =
     record { number = sym (ap numberTold e); row-put = put ∙ sym (ap (λ a. putFrom 0 (rowIn row a) before) e) }
 
-pub told-turned-down :
+pub told-refusal :
     {A : Type 0} {row : A → List ℕ} {x : Answer A} {m place : ℕ} {clash : Option Clash} {before after : List ℕ} {n : ℕ}
     → x ≡ refusal m place clash → (n ≡ m) × (after ≡ putFrom 0 (place ∷ clashRow clash) before) → Tells row x before after n
-told-turned-down {row} {before} e (number, put) =
+told-refusal {row} {before} e (number, put) =
     record {
       number = number ∙ sym (ap numberTold e);
       row-put = put ∙ sym (ap (λ a. putFrom 0 (rowIn row a) before) e);
     }
-
--- a refused outcome is told as every other refused answer is
-pub told-refusal :
-    {A : Type 0} {row : A → List ℕ} {x : Answer A} {outcome : Outcome} {r : Refusal} {before after : List ℕ} {n : ℕ}
-    → outcome ≡ Refused r → x ≡ turnedDown r → Tells noRow (ofOutcome outcome) before after n → Tells row x before after n
-told-refusal {before} e f told =
-    told-turned-down f (
-      told .number ∙ ap (λ o. numberTold (ofOutcome o)) e,
-      told .row-put ∙ ap (λ o. putFrom 0 (rowIn noRow (ofOutcome o)) before) e,
-    )
 
 -- a reading that was done, and one that was refused
 module _ (x : Reading) where

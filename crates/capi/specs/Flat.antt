@@ -8,9 +8,9 @@ use lib.IntN.{ℤ, pos}
 use lib.ListN.{getD}
 use Rattle.scope.specs.Search.{gather}
 use Rattle.scope.specs.Plans.{patternAt}
+use Rattle.scope.specs.Books.{filled, patternOf}
 use Rattle.scope.specs.Numbers.{Answer, value, refusal, turnedDown, ofOutcome}
 use Rattle.scope.specs.Calls.{readBook}
-use Rattle.book.specs.Scan.{entryNumber}
 use Rattle.scope.specs.declared.Pattern.{Pattern}
 use Rattle.scope.specs.declared.Book.{Book}
 use Rattle.scope.specs.declared.Clash.{Clash}
@@ -22,21 +22,17 @@ unfoldable pub entries : List ℤ → ℕ → List ℤ
 unfolding gather
 entries xs n = gather 0 64 λ e. getD xs (64 * n + e) (pos 0)
 
--- the record of flat arrays
+-- the record of flat arrays: their first `count` patterns, every further entry the empty pattern, since "The unused entries
+-- don't count"
 unfoldable pub flatPattern : List ℤ → List ℤ → List ℕ → ℕ → Pattern
 unfolding entries
 flatPattern columns rows used n =
     record { columns = entries columns n; rows = entries rows n; used = getD used n 0 }
 
--- the record that stands for pattern n: its entry, the last one where there is none
-unfoldable pub flatEntry : List ℤ → List ℤ → List ℕ → ℕ → Pattern
-unfolding flatPattern
-flatEntry columns rows used n = flatPattern columns rows used (entryNumber n)
-
 unfoldable pub flatBook : List ℤ → List ℤ → List ℕ → ℕ → Book
-unfolding gather flatPattern
+unfolding gather filled patternOf flatPattern
 flatBook columns rows used count =
-    record { patterns = gather 0 16 (flatPattern columns rows used); count = count }
+    record { patterns = filled 16 (patternOf []) (gather 0 count (flatPattern columns rows used)); count = count }
 
 -- the flat arrays of a record
 unfoldable pub flatColumns : Book → List ℤ

@@ -1,10 +1,10 @@
--- How an answer is told to a caller in C or Rust: a number, 0 where the call was not refused, and a row of at most four
--- numbers at the start of a lent array of four.
+-- How an answer is told to a caller in C or Rust: a number, 0 where the call was not refused, and a row of numbers at the start
+-- of a lent array of twelve.
 -- Assumes nothing.
 use Prim.Native.Nat.{ℕ, suc}
 use mathlib.Core.Path.{_≡_}
 use mathlib.Core.Option.{Option, none, some}
-use mathlib.Core.List.{List, [], _∷_}
+use mathlib.Core.List.{List, [], _∷_, _++_}
 use lib.IntN.{natAbs}
 use lib.ListN.{set}
 use Rattle.scope.specs.Plans.{Pixel}
@@ -32,7 +32,7 @@ abbrev pub planRow : Plan → List ℕ
 planRow p = p .a ∷ p .b ∷ p .d ∷ []
 
 abbrev pub checkedRow : Checked → List ℕ
-checkedRow c = c .plan .a ∷ c .plan .b ∷ c .plan .d ∷ c .surplus ∷ []
+checkedRow c = planRow (c .plan) ++ (c .surplus ∷ [])
 
 abbrev pub numberRow : ℕ → List ℕ
 numberRow n = n ∷ []

@@ -14,9 +14,9 @@ use Rattle.scope.specs.declared.Verdict.{Verdict}
 use Rattle.capi.specs.Told.{numberTold, rowIn, planRow, checkedRow, numberRow, pixelRow, putFrom}
 use Rattle.capi.specs.Flat.{flatBook, flatColumns, flatRows, flatUsed}
 
--- the number that an answer is told by, and an array of four nines after it
+-- the number that an answer is told by, and an array of twelve nines after it
 told : {A : Type 0} → (A → List ℕ) → Answer A → List ℕ
-told row x = numberTold x ∷ putFrom 0 (rowIn row x) (9 ∷ 9 ∷ 9 ∷ 9 ∷ [])
+told row x = numberTold x ∷ putFrom 0 (rowIn row x) (replicate 12 9)
 
 record Row (A : Type 0) : Type 0 where
   computed : A
@@ -28,18 +28,18 @@ row x y = record { computed = x; stated = y }
 answers : List (Row (List ℕ))
 unfolding row told plan at
 answers =
-    row (told planRow (value (plan 5 2 1))) (0 ∷ 5 ∷ 2 ∷ 1 ∷ 9 ∷ [])
-    ∷ row (told numberRow (value 8)) (0 ∷ 8 ∷ 9 ∷ 9 ∷ 9 ∷ [])
-    ∷ row (told pixelRow (value (at (pos 6) (pos 3)))) (0 ∷ 6 ∷ 3 ∷ 9 ∷ 9 ∷ [])
-    ∷ row (told planRow (turnedDown Refusal.Dependent)) (8 ∷ 0 ∷ 9 ∷ 9 ∷ 9 ∷ [])
-    ∷ row (told numberRow (turnedDown (Refusal.Repeat 4))) (4 ∷ 4 ∷ 9 ∷ 9 ∷ 9 ∷ [])
+    row (told planRow (value (plan 5 2 1))) (0 ∷ 5 ∷ 2 ∷ 1 ∷ replicate 9 9)
+    ∷ row (told numberRow (value 8)) (0 ∷ 8 ∷ replicate 11 9)
+    ∷ row (told pixelRow (value (at (pos 6) (pos 3)))) (0 ∷ 6 ∷ 3 ∷ replicate 10 9)
+    ∷ row (told planRow (turnedDown Refusal.Dependent)) (8 ∷ 0 ∷ replicate 11 9)
+    ∷ row (told numberRow (turnedDown (Refusal.Repeat 4))) (4 ∷ 4 ∷ replicate 11 9)
     ∷ row (told numberRow (turnedDown (Refusal.Unsuited (record { pattern = 1; earlier = 2; later = 3 }))))
-    (10 ∷ 0 ∷ 1 ∷ 2 ∷ 3 ∷ [])
+    (10 ∷ 0 ∷ 1 ∷ 2 ∷ 3 ∷ replicate 8 9)
     ∷ row (told checkedRow (ofVerdict (Verdict.Suits (record { plan = plan 6 4 2; surplus = 7 }))))
-    (0 ∷ 6 ∷ 4 ∷ 2 ∷ 7 ∷ [])
+    (0 ∷ 6 ∷ 4 ∷ 2 ∷ 7 ∷ replicate 8 9)
     ∷ row (told checkedRow (ofVerdict (Verdict.Clashes (record { pattern = 3; earlier = 1; later = 2 }))))
-    (10 ∷ 0 ∷ 3 ∷ 1 ∷ 2 ∷ [])
-    ∷ row (told checkedRow (ofVerdict (Verdict.Refused Refusal.Large))) (9 ∷ 0 ∷ 9 ∷ 9 ∷ 9 ∷ [])
+    (10 ∷ 0 ∷ 3 ∷ 1 ∷ 2 ∷ replicate 8 9)
+    ∷ row (told checkedRow (ofVerdict (Verdict.Refused Refusal.Large))) (9 ∷ 0 ∷ replicate 11 9)
     ∷ []
 
 answers-hold : map (λ r. r .computed) answers ≡ map (λ r. r .stated) answers
@@ -47,11 +47,11 @@ unfolding answers
 answers-hold = refl
 
 -- flat arrays of two patterns, the pixel (1, 2) and the pixels (3, 4) and (5, 6); the entries left out are 0
-unflattened : Book
+unflattened : ℕ → Book
 unfolding flatBook
-unflattened =
+unflattened count =
     flatBook ((pos 1 ∷ replicate 63 (pos 0)) ++ (pos 3 ∷ pos 5 ∷ [])) ((pos 2 ∷ replicate 63 (pos 0)) ++ (pos 4 ∷ pos 6 ∷ []))
-    (1 ∷ 2 ∷ []) 2
+    (1 ∷ 2 ∷ []) count
 
 coordinates : List Pixel → List ℤ
 unfolding flatMap
@@ -70,9 +70,12 @@ entriesOf xs = map (λ k. getD xs k (pos 9)) (0 ∷ 1 ∷ 64 ∷ 65 ∷ 66 ∷ [
 flats : List (Row (List ℤ))
 unfolding row unflattened flattened coordinates entriesOf pixels patternAt flatColumns flatRows flatUsed
 flats =
-    row (coordinates (pixels (patternAt unflattened 0))) (pos 1 ∷ pos 2 ∷ [])
-    ∷ row (coordinates (pixels (patternAt unflattened 1))) (pos 3 ∷ pos 4 ∷ pos 5 ∷ pos 6 ∷ [])
-    ∷ row (pos (unflattened .count) ∷ pos (length (unflattened .patterns)) ∷ []) (pos 2 ∷ pos 16 ∷ [])
+    row (coordinates (pixels (patternAt (unflattened 2) 0))) (pos 1 ∷ pos 2 ∷ [])
+    ∷ row (coordinates (pixels (patternAt (unflattened 2) 1))) (pos 3 ∷ pos 4 ∷ pos 5 ∷ pos 6 ∷ [])
+    ∷ row (pos (unflattened 2 .count) ∷ pos (length (unflattened 2 .patterns)) ∷ []) (pos 2 ∷ pos 16 ∷ [])
+    -- a pattern past the count is empty
+    ∷ row (map pos (map (λ t. t .used) (take 3 (unflattened 1 .patterns)))) (pos 1 ∷ pos 0 ∷ pos 0 ∷ [])
+    ∷ row (take 2 (patternAt (unflattened 1) 1 .columns)) (pos 0 ∷ pos 0 ∷ [])
     ∷ row (entriesOf (flatColumns flattened)) (negsuc 0 ∷ pos 0 ∷ pos 3 ∷ pos 5 ∷ pos 0 ∷ [])
     ∷ row (entriesOf (flatRows flattened)) (pos 2 ∷ pos 0 ∷ negsuc 3 ∷ pos 6 ∷ pos 0 ∷ [])
     ∷ row (map pos (take 3 (flatUsed flattened))) (pos 1 ∷ pos 2 ∷ pos 0 ∷ [])

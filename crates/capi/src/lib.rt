@@ -1,30 +1,31 @@
 // The library for C and Rust: the calls on numbers, slices and arrays. Each answers a number, 0 where it was not refused, and
-// puts what it has to tell at the start of `answer`, the rest unchanged: its values, or the refusal's place and, of 10, the
-// clash's pattern and its earlier and later position.
+// puts what it has to tell at the start of `answer`, the rest of the twelve unchanged: its values, or the refusal's place and,
+// of 10, the clash's pattern and its earlier and later position.
 mod flat;
 mod list;
 mod memory;
 mod told;
 
 use crate::flat::book_of;
+use crate::flat::plan_of;
 use crate::flat::put_pixels;
 use crate::flat::put_used;
-use crate::flat::tested_of;
 use crate::told::tell_counted;
 use crate::told::tell_located;
 use crate::told::tell_outcome;
 use crate::told::tell_planned;
+use crate::told::tell_refusal;
 use crate::told::tell_verdict;
 use book::part_outcome;
 use book::part_place;
 use book::pattern_part;
 use book::read_book;
+use book::record_outcome;
 use book::write_book;
 use finder::check;
 use finder::find;
 use lattice::normal_form;
 use scope::Outcome;
-use scope::Plan;
 ghost use mathlib.Core.Path.{_≡_};
 ghost use mathlib.Core.List.{[], _∷_};
 ghost use lib.ListN.{length};
@@ -41,7 +42,7 @@ pub extern "C" fn bankplan_normal_form(
     x2: i16,
     y1: i16,
     y2: i16,
-    answer: &mut [u64; 4],
+    answer: &mut [u64; 12],
 ) -> u64
     ensures { λ n. ⌜ Tells planRow (ofPlanned (normal (at x1 x2) (at y1 y2))) (now (answer .entry)) (now (answer .exit)) n ⌝ }
 {
@@ -56,11 +57,11 @@ pub extern "C" fn bankplan_bank(
     d: u32,
     i: i16,
     j: i16,
-    answer: &mut [u64; 4],
+    answer: &mut [u64; 12],
 ) -> u64
     ensures { λ n. ⌜ Tells numberRow (ofCounted (bank (plan a b d) (at i j))) (now (answer .entry)) (now (answer .exit)) n ⌝ }
 {
-    tell_counted(Plan { a, b, d }.bank(i, j), answer)
+    tell_counted(plan_of(a, b, d).bank(i, j), answer)
 }
 
 // The depth for a picture of width w and height h.
@@ -71,11 +72,11 @@ pub extern "C" fn bankplan_depth(
     d: u32,
     w: u32,
     h: u32,
-    answer: &mut [u64; 4],
+    answer: &mut [u64; 12],
 ) -> u64
     ensures { λ n. ⌜ Tells numberRow (ofCounted (depth (plan a b d) w h)) (now (answer .entry)) (now (answer .exit)) n ⌝ }
 {
-    tell_counted(Plan { a, b, d }.depth(w, h), answer)
+    tell_counted(plan_of(a, b, d).depth(w, h), answer)
 }
 
 // The address of the pixel (i, j).
@@ -88,11 +89,11 @@ pub extern "C" fn bankplan_address(
     h: u32,
     i: i16,
     j: i16,
-    answer: &mut [u64; 4],
+    answer: &mut [u64; 12],
 ) -> u64
     ensures { λ n. ⌜ Tells numberRow (ofCounted (address (plan a b d) w h (at i j))) (now (answer .entry)) (now (answer .exit)) n ⌝ }
 {
-    tell_counted(Plan { a, b, d }.address(w, h, i, j), answer)
+    tell_counted(plan_of(a, b, d).address(w, h, i, j), answer)
 }
 
 // The column and row of the pixel of bank k and address i.
@@ -105,11 +106,11 @@ pub extern "C" fn bankplan_locate(
     h: u32,
     k: u64,
     i: u64,
-    answer: &mut [u64; 4],
+    answer: &mut [u64; 12],
 ) -> u64
     ensures { λ n. ⌜ Tells pixelRow (ofLocated (locate (plan a b d) w h k i)) (now (answer .entry)) (now (answer .exit)) n ⌝ }
 {
-    tell_located(Plan { a, b, d }.locate(w, h, k, i), answer)
+    tell_located(plan_of(a, b, d).locate(w, h, k, i), answer)
 }
 
 // Reads a book's bytes into a record's flat arrays, and tells the pattern count.
@@ -119,7 +120,7 @@ pub extern "C" fn bankplan_read_book(
     columns: &mut [i8; 1024],
     rows: &mut [i8; 1024],
     used: &mut [usize; 16],
-    answer: &mut [u64; 4],
+    answer: &mut [u64; 12],
 ) -> u64
     ensures told { λ n. ⌜ Tells countRow (ofReading (readBook (now (s .entry)))) (now (answer .entry)) (now (answer .exit)) n ⌝ }
     ensures columns { λ n. ⌜ now (columns .exit) ≡ whenRead flatColumns (readBook (now (s .entry))) (now (columns .entry)) ⌝ }
@@ -128,8 +129,8 @@ pub extern "C" fn bankplan_read_book(
 {
     let reading = read_book(s);
     let outcome = reading.outcome;
-    if let Outcome::Refused(_) = outcome {
-        return tell_outcome(outcome, answer);
+    if let Outcome::Refused(r) = outcome {
+        return tell_refusal(r, answer);
     }
     let record = reading.book;
     put_pixels(record, columns, rows);
@@ -140,12 +141,12 @@ pub extern "C" fn bankplan_read_book(
 
 // The place and the length of pattern n's part of a book's bytes.
 #[no_mangle]
-pub extern "C" fn bankplan_pattern_part(s: &[u8], n: usize, answer: &mut [u64; 4]) -> u64
+pub extern "C" fn bankplan_pattern_part(s: &[u8], n: usize, answer: &mut [u64; 12]) -> u64
     ensures { λ r. ⌜ Tells (λ x. partPlace (now (s .entry)) n ∷ length (patternPart (now (s .entry)) n) ∷ []) (ofOutcome (partOutcome (now (s .entry)) n)) (now (answer .entry)) (now (answer .exit)) r ⌝ }
 {
     let outcome = part_outcome(s, n);
-    if let Outcome::Refused(_) = outcome {
-        return tell_outcome(outcome, answer);
+    if let Outcome::Refused(r) = outcome {
+        return tell_refusal(r, answer);
     }
     let part = pattern_part(s, n);
     let place = part_place(s, n);
@@ -162,7 +163,7 @@ pub extern "C" fn bankplan_write_book(
     used: &[usize; 16],
     count: usize,
     out: &mut [u8],
-    answer: &mut [u64; 4],
+    answer: &mut [u64; 12],
 ) -> u64
     ensures told { λ n. ⌜ Tells numberRow (ofCounted (writeBook (flatBook (now (columns .entry)) (now (rows .entry)) (now (used .entry)) count) (now (out .entry)) .answer)) (now (answer .entry)) (now (answer .exit)) n ⌝ }
     ensures out { λ n. ⌜ now (out .exit) ≡ writeBook (flatBook (now (columns .entry)) (now (rows .entry)) (now (used .entry)) count) (now (out .entry)) .content ⌝ }
@@ -178,11 +179,11 @@ pub extern "C" fn bankplan_test_record(
     rows: &[i8; 1024],
     used: &[usize; 16],
     count: usize,
-    answer: &mut [u64; 4],
+    answer: &mut [u64; 12],
 ) -> u64
     ensures { λ n. ⌜ Tells noRow (ofOutcome (recordOutcome (flatBook (now (columns .entry)) (now (rows .entry)) (now (used .entry)) count))) (now (answer .entry)) (now (answer .exit)) n ⌝ }
 {
-    tell_outcome(tested_of(columns, rows, used, count), answer)
+    tell_outcome(record_outcome(book_of(columns, rows, used, count)), answer)
 }
 
 // The plan with the fewest banks within the limit for a record given as flat arrays: a, b, d.
@@ -193,7 +194,7 @@ pub extern "C" fn bankplan_find(
     used: &[usize; 16],
     count: usize,
     limit: u32,
-    answer: &mut [u64; 4],
+    answer: &mut [u64; 12],
 ) -> u64
     ensures { λ n. ⌜ Tells planRow (ofPlanned (find (flatBook (now (columns .entry)) (now (rows .entry)) (now (used .entry)) count) limit)) (now (answer .entry)) (now (answer .exit)) n ⌝ }
 {
@@ -211,7 +212,7 @@ pub extern "C" fn bankplan_check(
     x2: i16,
     y1: i16,
     y2: i16,
-    answer: &mut [u64; 4],
+    answer: &mut [u64; 12],
 ) -> u64
     ensures { λ n. ⌜ Tells checkedRow (ofVerdict (check (flatBook (now (columns .entry)) (now (rows .entry)) (now (used .entry)) count) (at x1 x2) (at y1 y2))) (now (answer .entry)) (now (answer .exit)) n ⌝ }
 {

@@ -1,8 +1,8 @@
 // The record list: a slice of records laid out as C does.
+use crate::flat::plan_of;
 use crate::told::tell_outcome;
 use records::fill_records;
 use scope::PixelRecord;
-use scope::Plan;
 ghost use mathlib.Core.Path.{_≡_};
 ghost use Rattle.scope.specs.Plans.{plan};
 ghost use Rattle.scope.specs.Numbers.{ofOutcome};
@@ -18,9 +18,9 @@ pub extern "C" fn bankplan_fill_records(
     w: u32,
     h: u32,
     list: &mut [PixelRecord],
-    answer: &mut [u64; 4],
+    answer: &mut [u64; 12],
 ) -> u64
     ensures { λ n. ⌜ Tells noRow (ofOutcome (fillRecords (plan a b d) w h (now (list .entry)) .answer)) (now (answer .entry)) (now (answer .exit)) n × (now (list .exit) ≡ fillRecords (plan a b d) w h (now (list .entry)) .content) ⌝ }
 {
-    tell_outcome(fill_records(Plan { a, b, d }, w, h, list), answer)
+    tell_outcome(fill_records(plan_of(a, b, d), w, h, list), answer)
 }

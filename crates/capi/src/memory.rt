@@ -1,16 +1,15 @@
 // The calls on a picture: the memory is a slice of 16-bit words.
-use crate::flat::entry_of;
-use crate::flat::tested_of;
+use crate::flat::book_of;
+use crate::flat::plan_of;
 use crate::told::tell_counted;
 use crate::told::tell_loaded;
 use crate::told::tell_outcome;
 use pictures::clear;
-use pictures::fetch_pattern;
+use pictures::fetch;
 use pictures::load;
-use pictures::ring_fetch_pattern;
+use pictures::ring_fetch;
 use pictures::store;
 use pictures::sum;
-use scope::Plan;
 ghost use mathlib.Core.Path.{_≡_};
 ghost use Rattle.scope.specs.Plans.{at, plan};
 ghost use Rattle.scope.specs.Numbers.{ofCounted, ofLoaded, ofOutcome};
@@ -30,12 +29,12 @@ pub extern "C" fn bankplan_store(
     i: i16,
     j: i16,
     x: u16,
-    answer: &mut [u64; 4],
+    answer: &mut [u64; 12],
 ) -> u64
     ensures told { λ n. ⌜ Tells noRow (ofOutcome (store (plan a b d) w h (now (mem .entry)) (at i j) x .answer)) (now (answer .entry)) (now (answer .exit)) n ⌝ }
     ensures mem { λ n. ⌜ now (mem .exit) ≡ store (plan a b d) w h (now (mem .entry)) (at i j) x .content ⌝ }
 {
-    tell_outcome(store(Plan { a, b, d }, w, h, mem, i, j, x), answer)
+    tell_outcome(store(plan_of(a, b, d), w, h, mem, i, j, x), answer)
 }
 
 // The word at the pixel (i, j).
@@ -49,11 +48,11 @@ pub extern "C" fn bankplan_load(
     mem: &[u16],
     i: i16,
     j: i16,
-    answer: &mut [u64; 4],
+    answer: &mut [u64; 12],
 ) -> u64
     ensures { λ n. ⌜ Tells numberRow (ofLoaded (load (plan a b d) w h (now (mem .entry)) (at i j))) (now (answer .entry)) (now (answer .exit)) n ⌝ }
 {
-    tell_loaded(load(Plan { a, b, d }, w, h, mem, i, j), answer)
+    tell_loaded(load(plan_of(a, b, d), w, h, mem, i, j), answer)
 }
 
 // Clears bank k.
@@ -66,12 +65,12 @@ pub extern "C" fn bankplan_clear(
     h: u32,
     mem: &mut [u16],
     k: u64,
-    answer: &mut [u64; 4],
+    answer: &mut [u64; 12],
 ) -> u64
     ensures told { λ n. ⌜ Tells noRow (ofOutcome (clear (plan a b d) w h (now (mem .entry)) k .answer)) (now (answer .entry)) (now (answer .exit)) n ⌝ }
     ensures mem { λ n. ⌜ now (mem .exit) ≡ clear (plan a b d) w h (now (mem .entry)) k .content ⌝ }
 {
-    tell_outcome(clear(Plan { a, b, d }, w, h, mem, k), answer)
+    tell_outcome(clear(plan_of(a, b, d), w, h, mem, k), answer)
 }
 
 // The sum of bank k's words.
@@ -84,11 +83,11 @@ pub extern "C" fn bankplan_sum(
     h: u32,
     mem: &[u16],
     k: u64,
-    answer: &mut [u64; 4],
+    answer: &mut [u64; 12],
 ) -> u64
     ensures { λ n. ⌜ Tells numberRow (ofCounted (sum (plan a b d) w h (now (mem .entry)) k)) (now (answer .entry)) (now (answer .exit)) n ⌝ }
 {
-    tell_counted(sum(Plan { a, b, d }, w, h, mem, k), answer)
+    tell_counted(sum(plan_of(a, b, d), w, h, mem, k), answer)
 }
 
 // Fetches pattern n of a record given as flat arrays, moved to (i, j), and tells how many words.
@@ -108,18 +107,14 @@ pub extern "C" fn bankplan_fetch(
     i: i16,
     j: i16,
     out: &mut [u16],
-    answer: &mut [u64; 4],
+    answer: &mut [u64; 12],
 ) -> u64
     ensures told { λ m. ⌜ Tells numberRow (ofCounted (fetch (flatBook (now (columns .entry)) (now (rows .entry)) (now (used .entry)) count) (plan a b d) w h (now (mem .entry)) n (at i j) (now (out .entry)) .answer)) (now (answer .entry)) (now (answer .exit)) m ⌝ }
     ensures out { λ m. ⌜ now (out .exit) ≡ fetch (flatBook (now (columns .entry)) (now (rows .entry)) (now (used .entry)) count) (plan a b d) w h (now (mem .entry)) n (at i j) (now (out .entry)) .content ⌝ }
 {
-    let tested = tested_of(columns, rows, used, count);
-    let t = entry_of(columns, rows, used, n);
-    let p = Plan { a, b, d };
-    tell_counted(
-        fetch_pattern(tested, count, t, p, w, h, mem, n, i, j, out),
-        answer,
-    )
+    let book = book_of(columns, rows, used, count);
+    let p = plan_of(a, b, d);
+    tell_counted(fetch(book, p, w, h, mem, n, i, j, out), answer)
 }
 
 // The same around the picture's edges.
@@ -139,16 +134,12 @@ pub extern "C" fn bankplan_ring_fetch(
     i: i16,
     j: i16,
     out: &mut [u16],
-    answer: &mut [u64; 4],
+    answer: &mut [u64; 12],
 ) -> u64
     ensures told { λ m. ⌜ Tells numberRow (ofCounted (ringFetch (flatBook (now (columns .entry)) (now (rows .entry)) (now (used .entry)) count) (plan a b d) w h (now (mem .entry)) n (at i j) (now (out .entry)) .answer)) (now (answer .entry)) (now (answer .exit)) m ⌝ }
     ensures out { λ m. ⌜ now (out .exit) ≡ ringFetch (flatBook (now (columns .entry)) (now (rows .entry)) (now (used .entry)) count) (plan a b d) w h (now (mem .entry)) n (at i j) (now (out .entry)) .content ⌝ }
 {
-    let tested = tested_of(columns, rows, used, count);
-    let t = entry_of(columns, rows, used, n);
-    let p = Plan { a, b, d };
-    tell_counted(
-        ring_fetch_pattern(tested, count, t, p, w, h, mem, n, i, j, out),
-        answer,
-    )
+    let book = book_of(columns, rows, used, count);
+    let p = plan_of(a, b, d);
+    tell_counted(ring_fetch(book, p, w, h, mem, n, i, j, out), answer)
 }

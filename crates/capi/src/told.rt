@@ -4,6 +4,7 @@ use scope::Counted;
 use scope::Loaded;
 use scope::Located;
 use scope::Outcome;
+use scope::Plan;
 use scope::Planned;
 use scope::Refusal;
 use scope::Row;
@@ -15,7 +16,7 @@ ghost use Rattle.scope.specs.Numbers.{numberOf, placeOf, clashOf, ofPlanned, of
 ghost use Rattle.capi.specs.Told.{Tells, clashRow, planRow, checkedRow, numberRow, pixelRow, noRow, putFrom};
 
 // A refusal's number; its place and its clash go to the array.
-fn tell_refusal(r: Refusal, answer: &mut [u64; 4]) -> u64
+pub(crate) fn tell_refusal(r: Refusal, answer: &mut [u64; 12]) -> u64
     ensures { λ n. ⌜ (n ≡ numberOf r) × (now (answer .exit) ≡ putFrom 0 (placeOf r ∷ clashRow (clashOf r)) (now (answer .entry))) ⌝ }
 {
     let Row(number, place, c) = row_of(r);
@@ -28,30 +29,35 @@ fn tell_refusal(r: Refusal, answer: &mut [u64; 4]) -> u64
     number
 }
 
-// A plan's three numbers, or the refusal.
-pub fn tell_planned(p: Planned, answer: &mut [u64; 4]) -> u64
+// Puts a plan's numbers at the start of the array.
+fn put_plan(p: Plan, answer: &mut [u64; 12])
+    ensures { λ r. ⌜ now (answer .exit) ≡ putFrom 0 (planRow p) (now (answer .entry)) ⌝ }
+{
+    answer[0] = p.a as u64;
+    answer[1] = p.b as u64;
+    answer[2] = p.d as u64;
+}
+
+// A plan's numbers, or the refusal.
+pub(crate) fn tell_planned(p: Planned, answer: &mut [u64; 12]) -> u64
     ensures { λ n. ⌜ Tells planRow (ofPlanned p) (now (answer .entry)) (now (answer .exit)) n ⌝ }
 {
     match p {
         Planned::Plan(q) => {
-            answer[0] = q.a as u64;
-            answer[1] = q.b as u64;
-            answer[2] = q.d as u64;
+            put_plan(q, answer);
             0
         }
         Planned::Refused(r) => tell_refusal(r, answer),
     }
 }
 
-// A checked plan's three numbers and its surplus, or the clash as refusal 10, or the refusal.
-pub fn tell_verdict(v: Verdict, answer: &mut [u64; 4]) -> u64
+// A checked plan's numbers and its surplus, or the clash as refusal 10, or the refusal.
+pub(crate) fn tell_verdict(v: Verdict, answer: &mut [u64; 12]) -> u64
     ensures { λ n. ⌜ Tells checkedRow (ofVerdict v) (now (answer .entry)) (now (answer .exit)) n ⌝ }
 {
     match v {
         Verdict::Suits(c) => {
-            answer[0] = c.plan.a as u64;
-            answer[1] = c.plan.b as u64;
-            answer[2] = c.plan.d as u64;
+            put_plan(c.plan, answer);
             answer[3] = c.surplus as u64;
             0
         }
@@ -61,7 +67,7 @@ pub fn tell_verdict(v: Verdict, answer: &mut [u64; 4]) -> u64
 }
 
 // A number, or the refusal.
-pub fn tell_counted(c: Counted, answer: &mut [u64; 4]) -> u64
+pub(crate) fn tell_counted(c: Counted, answer: &mut [u64; 12]) -> u64
     ensures { λ n. ⌜ Tells numberRow (ofCounted c) (now (answer .entry)) (now (answer .exit)) n ⌝ }
 {
     match c {
@@ -74,7 +80,7 @@ pub fn tell_counted(c: Counted, answer: &mut [u64; 4]) -> u64
 }
 
 // A word, or the refusal.
-pub fn tell_loaded(l: Loaded, answer: &mut [u64; 4]) -> u64
+pub(crate) fn tell_loaded(l: Loaded, answer: &mut [u64; 12]) -> u64
     ensures { λ n. ⌜ Tells numberRow (ofLoaded l) (now (answer .entry)) (now (answer .exit)) n ⌝ }
 {
     match l {
@@ -87,7 +93,7 @@ pub fn tell_loaded(l: Loaded, answer: &mut [u64; 4]) -> u64
 }
 
 // A pixel's column and row without their signs, or the refusal.
-pub fn tell_located(l: Located, answer: &mut [u64; 4]) -> u64
+pub(crate) fn tell_located(l: Located, answer: &mut [u64; 12]) -> u64
     ensures { λ n. ⌜ Tells pixelRow (ofLocated l) (now (answer .entry)) (now (answer .exit)) n ⌝ }
 {
     match l {
@@ -103,7 +109,7 @@ pub fn tell_located(l: Located, answer: &mut [u64; 4]) -> u64
 }
 
 // Only that it was done, or the refusal.
-pub fn tell_outcome(o: Outcome, answer: &mut [u64; 4]) -> u64
+pub(crate) fn tell_outcome(o: Outcome, answer: &mut [u64; 12]) -> u64
     ensures { λ n. ⌜ Tells noRow (ofOutcome o) (now (answer .entry)) (now (answer .exit)) n ⌝ }
 {
     match o {

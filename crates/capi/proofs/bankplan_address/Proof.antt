@@ -2,7 +2,6 @@
 -- Assumes nothing.
 use mathlib.Core.Path.{_∙_, ap}
 use borrow.Author.Needs.{needs}
-use Rattle.scope.specs.Plans.{plan}
 use Rattle.scope.specs.Numbers.{ofCounted}
 use Rattle.scope.specs.Calls.{address}
 use Rattle.scope.proofs.PlanFacts.{pixel-handed}
@@ -11,15 +10,10 @@ use Rattle.capi.proofs.bankplan_address.Statement.{statement}
 use Rattle.capi.proofs.bankplan_address.Tie as tie
 
 returns : tie.Need-returns
-unfolding plan
 returns c =
     let b = c .before .before in
-    let f = b .before .fits in
-    told-of ofCounted (b .address .ensures ∙ ap (address _ _ _) (pixel-handed (f .i) (f .j))) (c .tell-counted .ensures)
+    let f = b .before .before .fits in
+    told-of ofCounted ((rw (b .before .plan-of .ensures) at (b .address .ensures)) ∙ ap (address _ _ _) (pixel-handed (f .i) (f .j))) (c .tell-counted .ensures)
 
 pub bankplan-address-spec : {M : Type 1} → statement M
-bankplan-address-spec =
-    tie.close
-    (tie.spec
-    (λ c κs. search needs) (λ c κs. search needs)
-    returns)
+bankplan-address-spec = tie.close (tie.spec (λ c κs. search needs) (λ c κs. search needs) (λ c κs. search needs) returns)

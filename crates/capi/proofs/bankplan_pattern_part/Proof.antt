@@ -9,14 +9,14 @@ use Rattle.capi.proofs.bankplan_pattern_part.Tie as tie
 
 returns : tie.Need-returns
 returns c =
-    let t = c .before .before in
-    let refused = t .enum-told .given .1 in
-    told-refusal refused (ap ofOutcome (rw (t .before .before .part-outcome .ensures) at refused)) (c .tell-outcome .ensures)
+    let t = c .before .before .before in
+    let refused = rw (t .before .before .part-outcome .ensures) at (t .outcome .given .1) in
+    told-refusal (ap ofOutcome refused) (c .tell-refusal .ensures)
 
 returns-2 : tie.Need-returns-2
 returns-2 c =
     let t = c .before in
-    let done = rw (t .before .before .before .part-outcome .ensures) at (t .before .enum-told2 .given .1) in
+    let done = rw (t .before .before .before .part-outcome .ensures) at (t .before .enum-told .given .1) in
     told-value (ap ofOutcome done) (rw (← (c .part-place .ensures), ← (t .pattern-part .ensures .0)) refl)
 
 pub bankplan-pattern-part-spec : {M : Type 1} → statement M

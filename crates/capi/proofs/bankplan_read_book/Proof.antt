@@ -9,9 +9,9 @@ use Rattle.capi.proofs.bankplan_read_book.Tie as tie
 
 returns : tie.Need-returns
 returns c =
-    let t = c .before .before in
-    let refused = rw (t .before .before .read-book .ensures) at (t .enum-told .given .1) in (
-      told-refusal (t .enum-told .given .1) (reading-refused _ refused) (c .tell-outcome .ensures),
+    let t = c .before .before .before in
+    let refused = rw (t .before .before .read-book .ensures) at (t .outcome .given .1) in (
+      told-refusal (reading-refused _ refused) (c .tell-refusal .ensures),
       (kept-refused _ flatColumns _ refused, (kept-refused _ flatRows _ refused, kept-refused _ flatUsed _ refused)),
     )
 
@@ -20,7 +20,7 @@ returns-2 c =
     let p = c .before .before in
     let t = p .before .before .before .before in
     let e = t .before .before .read-book .ensures in
-    let done = rw e at (t .enum-told2 .given .1) in (
+    let done = rw e at (t .enum-told .given .1) in (
       told-value (reading-done _ done) (rw e refl),
       (
         (rw e at (p .put-pixels .ensures .0)) ∙ filled-read _ flatColumns _ done,

@@ -7,7 +7,9 @@ use Rattle.capi.proofs.bankplan_test_record.Statement.{statement}
 use Rattle.capi.proofs.bankplan_test_record.Tie as tie
 
 returns : tie.Need-returns
-returns c = told-of ofOutcome (c .before .before .tested-of .ensures) (c .tell-outcome .ensures)
+returns c =
+    let r = c .before .before in
+    told-of ofOutcome (rw (r .before .book-of .ensures) at (r .record-outcome .ensures)) (c .tell-outcome .ensures)
 
 pub bankplan-test-record-spec : {M : Type 1} → statement M
-bankplan-test-record-spec = tie.close (tie.spec (λ c κs. search needs) (λ c κs. search needs) returns)
+bankplan-test-record-spec = tie.close (tie.spec (λ c κs. search needs) (λ c κs. search needs) (λ c κs. search needs) returns)

@@ -1,19 +1,20 @@
 -- `capi::memory::bankplan_store` meets its contract.
 -- Assumes nothing.
 use borrow.Author.Needs.{needs}
-use Rattle.scope.specs.Plans.{plan}
 use Rattle.scope.specs.Numbers.{ofOutcome}
+use Rattle.scope.specs.Calls.{store}
 use Rattle.scope.proofs.PlanFacts.{pixel-handed}
-use Rattle.capi.proofs.Passed.{told-given}
+use Rattle.capi.proofs.Passed.{told-at}
 use Rattle.capi.proofs.memory.bankplan_store.Statement.{statement}
 use Rattle.capi.proofs.memory.bankplan_store.Tie as tie
 
 returns : tie.Need-returns
-unfolding plan
 returns c =
     let b = c .before .before .before .before in
-    let f = b .before .before .before .fits in
-    told-given ofOutcome (rw (pixel-handed (f .i) (f .j)) at (b .store .ensures)) (c .tell-outcome .ensures)
+    let p = b .before .before in
+    let f = p .before .before .fits in
+    told-at ofOutcome (store _ _ _ _) (pixel-handed (f .i) (f .j)) (rw (p .plan-of .ensures) at (b .store .ensures))
+    (c .tell-outcome .ensures)
 
 pub bankplan-store-spec : {M : Type 1} → statement M
-bankplan-store-spec = tie.close (tie.spec (λ c κs. search needs) (λ c κs. search needs) (λ c. search needs) returns)
+bankplan-store-spec = tie.close (tie.spec (λ c κs. search needs) (λ c κs. search needs) (λ c κs. search needs) (λ c. search needs) returns)

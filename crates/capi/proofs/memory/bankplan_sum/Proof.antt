@@ -1,16 +1,15 @@
 -- `capi::memory::bankplan_sum` meets its contract.
 -- Assumes nothing.
 use borrow.Author.Needs.{needs}
-use Rattle.scope.specs.Plans.{plan}
 use Rattle.scope.specs.Numbers.{ofCounted}
 use Rattle.capi.proofs.Passed.{told-of}
 use Rattle.capi.proofs.memory.bankplan_sum.Statement.{statement}
 use Rattle.capi.proofs.memory.bankplan_sum.Tie as tie
 
 returns : tie.Need-returns
-unfolding plan
 returns c =
-    told-of ofCounted (c .before .before .sum .ensures) (c .tell-counted .ensures)
+    let b = c .before .before in
+    told-of ofCounted (rw (b .before .plan-of .ensures) at (b .sum .ensures)) (c .tell-counted .ensures)
 
 pub bankplan-sum-spec : {M : Type 1} → statement M
-bankplan-sum-spec = tie.close (tie.spec (λ c κs. search needs) (λ c κs. search needs) returns)
+bankplan-sum-spec = tie.close (tie.spec (λ c κs. search needs) (λ c κs. search needs) (λ c κs. search needs) returns)

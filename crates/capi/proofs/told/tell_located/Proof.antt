@@ -11,7 +11,7 @@ use mir.Val.{toZ, ofZ}
 use borrow.Author.Needs.{needs}
 use Rattle.integers.proofs.Raised.{number-handed}
 use Rattle.scope.specs.Numbers.{ofLocated}
-use Rattle.capi.proofs.Passed.{told-value, told-turned-down}
+use Rattle.capi.proofs.Passed.{told-value, told-refusal}
 use Rattle.capi.proofs.told.tell_located.Statement.{statement}
 use Rattle.capi.proofs.told.tell_located.Tie as tie
 
@@ -31,7 +31,7 @@ returns c =
     (fits .1 .0 .1) (c .before .size .ensures) (c .size2 .ensures))
 
 returns-2 : tie.Need-returns-2
-returns-2 c = told-turned-down (ap ofLocated (c .before .before .before .l2 .given .1)) (c .tell-refusal .ensures)
+returns-2 c = told-refusal (ap ofLocated (c .before .before .before .l2 .given .1)) (c .tell-refusal .ensures)
 
 pub tell-located-spec : {M : Type 1} → statement M
 tell-located-spec =
