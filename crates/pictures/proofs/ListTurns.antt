@@ -2,18 +2,24 @@
 -- the whole list does from the start.
 -- Assumes nothing.
 use Prim.Native.Nat.{ℕ, zero, suc, _+_, _*_, _-_, _/_, _≤_, _<_}
+use native.Mathlib.Nat.{add-zero}
 use native.Mathlib.Omega.{arith}
 use mathlib.Core.Path.{_≡_, refl, sym, _∙_, ap, ap₂}
-use mathlib.Core.Option.{none}
-use mathlib.Core.List.{List, [], _∷_, _++_, flatMap}
-use lib.ListN.{length, getD, take, drop, length-drop}
-use lib.Seq.{drop-drop, length-take-le}
+use mathlib.Core.Option.{Option, none, some}
+use mathlib.Core.List.{List, [], _∷_, _++_, flatMap, append-nil}
+use lib.ListN.{length, getD, take, drop, length-drop, drop-of-length-le}
+use lib.Seq.{drop-drop, getD-drop, length-take-le, take-all}
 use Rattle.scope.specs.Search.{stateAfter, repliesOf}
 use Rattle.scope.specs.Banks.{overStart}
 use Rattle.scope.specs.promises.Demand.{Call, Reply, Setting, after, reply, run, replies}
-use Rattle.pictures.specs.Lists.{callAt, roomAt, callsFrom, callsOf, listFault, replyNumbers, outputOf, Buffers, buffers, madeList, OneMade}
+use Rattle.pictures.specs.Lists.{callOf, callAt, roomOf, roomAt, callsFrom, callsOf, listFault, listTest, listedBy, leftBy, replyNumbers, outputOf, Buffers, buffers, madeList, runList, Begun, OneMade}
+use Rattle.pictures.specs.declared.lists.Listed.{Listed}
+use Rattle.checks.proofs.Chains.{Gives}
+use Rattle.scope.specs.declared.Book.{Book}
+use Rattle.scope.specs.declared.Outcome.{Outcome}
+use Rattle.scope.specs.declared.Plan.{Plan}
 use Rattle.pictures.proofs.ReplyRows.{length-reply}
-use Rattle.pictures.proofs.ListFaults.{fault-goes-on}
+use Rattle.pictures.proofs.ListFaults.{room-at, fault-goes-on}
 use Rattle.pictures.proofs.Stretches.{putFrom, nothing-put, put-after, after-stretch, stretch-length}
 use Rattle.pictures.proofs.MadeCalls.{output-own}
 
@@ -30,6 +36,13 @@ calls-step (suc n) xs outs h =
 no-calls : (n : ℕ) (xs outs : List ℕ) → n ≡ 0 → callsFrom n xs outs ≡ []
 unfolding callsFrom
 no-calls n xs outs e = rw e refl
+
+-- the call whose numbers begin at place k
+call-of :
+    (xs : List ℕ) (k : ℕ) (out : List ℕ)
+    → callAt (drop k xs) out ≡ callOf (getD xs k 0) (getD xs (k + 1) 0) (getD xs (k + 2) 0) (getD xs (k + 3) 0) out
+unfolding callAt
+call-of xs k out = rw (getD-drop, getD-drop, getD-drop, getD-drop, add-zero k) refl
 
 -- The calls `rest` are left of `calls`: memory, outputs from place `at` and replies from place q on.
 record Midway
@@ -128,7 +141,10 @@ module _ (g : Setting) (numbers mem₀ outs₀ rows₀ : List ℕ) where
       pub room-end : at + r ≤ length outs
       room-end = omega (arith, room-there, w .out-room)
 
-      pub going-turn :
+      old-long : length old ≡ r
+      old-long = length-take-le r (drop at outs) (omega (arith, room-there, length-drop at outs))
+
+      going-turn :
           {row next end : List ℕ} → OneMade g mem (callAt xs old) old row next end
           → length next ≡ length mem
           → length end ≡ r
@@ -174,3 +190,61 @@ module _ (g : Setting) (numbers mem₀ outs₀ rows₀ : List ℕ) where
 
           rows-size : length (take q rows ++ (row ++ drop 12 (drop q rows))) ≡ length rows
           rows-size = stretch-length rows row q 12 row-fits (ap length (made .row-is) ∙ length-reply (reply g mem c))
+
+      -- The same as the loop has it: the room and the call's numbers read from the list, the outputs lent on from `at` to the end
+      -- of the call's own, the replies lent on from q to their end.
+      module _ {own : ℕ} (own-is : own ≡ roomOf (getD numbers k 0) (getD numbers (k + 4) 0)) where
+        abbrev part : List ℕ
+        part = take (at + own - at) (drop at outs)
+
+        own-room : own ≡ r
+        own-room = own-is ∙ sym (room-at numbers k)
+
+        part-is : at + own - at ≡ r
+        part-is = omega (arith, own-room)
+
+        rows-part : take (length rows - q) (drop q rows) ≡ drop q rows
+        rows-part = take-all (length rows - q) (drop q rows) (omega (arith, length-drop q rows))
+
+        no-rows-after : drop (length rows - q) (drop q rows) ≡ []
+        no-rows-after = drop-of-length-le (drop q rows) {i = length rows - q} (omega (arith, length-drop q rows))
+
+        pub going-on :
+            {row next end tail : List ℕ} → length next ≡ length mem
+            → OneMade g mem
+            (callOf (getD numbers k 0) (getD numbers (k + 1) 0) (getD numbers (k + 2) 0) (getD numbers (k + 3) 0) part)
+            part row next end
+            → length end ≡ length part
+            → tail ≡ overStart row (take (length rows - q) (drop q rows))
+            → Goes (left - 1) (k + 5) (q + 12) (at + own) next (take at outs ++ (end ++ drop (at + own - at) (drop at outs)))
+            (take q rows ++ (tail ++ drop (length rows - q) (drop q rows)))
+        unfolding overStart
+        going-on {row} {next} {end} {tail} next-long made end-long tail-is =
+            let own-made : OneMade g mem (callAt xs old) old row next end = rw (call-of numbers k old) (rw part-is at made) in
+            let twelve-long : length row ≡ 12 = ap length (own-made .row-is) ∙ length-reply (reply g mem (callAt xs old)) in
+            let tail-row : tail ++ drop (length rows - q) (drop q rows) ≡ row ++ drop 12 (drop q rows) =
+            ap₂ {C = List ℕ} _++_ (tail-is ∙ ap₂ (λ (n : ℕ) (ys : List ℕ). row ++ drop n ys) twelve-long rows-part) no-rows-after
+            ∙ append-nil (row ++ drop 12 (drop q rows)) in
+            rw (part-is, own-room, tail-row)
+            (going-turn own-made next-long (end-long ∙ ap (λ (n : ℕ). length (take n (drop at outs))) part-is ∙ old-long))
+
+-- What was found out once holds on a memory of the same length.
+pub begun-on :
+    {book : Book} {p : Plan} {W H words n : ℕ} {tested picture : Outcome} {starts : List Outcome} → n ≡ words
+    → Begun book p W H words tested picture starts
+    → Begun book p W H n tested picture starts
+begun-on e b = rw e b
+
+-- A list that passes its test is made, and one that does not is answered with what is wrong, and nothing changes.
+module _ (g : Setting) (numbers : List ℕ) (b : Buffers) where
+  abbrev wrong : Option Listed
+  wrong = listTest numbers (length (b .outputs)) (length (b .rows))
+
+  pub list-made : {content : Buffers} → wrong ≡ none → content ≡ madeList g numbers b → Gives (runList g numbers b) Listed.Made content
+  unfolding runList listedBy leftBy
+  list-made none-wrong made =
+      (ap listedBy (sym none-wrong), made ∙ ap (λ (t : Option Listed). leftBy t b (madeList g numbers b)) (sym none-wrong))
+
+  pub list-not-made : {fault : Listed} → wrong ≡ some fault → Gives (runList g numbers b) fault b
+  unfolding runList listedBy leftBy
+  list-not-made is = (ap listedBy (sym is), ap (λ (t : Option Listed). leftBy t b (madeList g numbers b)) (sym is))

@@ -144,15 +144,16 @@ madeList g xs b =
       rows = overStart (flatMap replyNumbers given) (b .rows);
     }
 
+unfoldable pub leftBy : Option Listed → Buffers → Buffers → Buffers
+leftBy none old new = new
+leftBy (some fault) old new = old
+
 -- A list that is wrong, or whose outputs or replies are too short, changes nothing.
 unfoldable pub runList : Setting → List ℕ → Buffers → Result Listed Buffers
-unfolding listTest listedBy madeList
+unfolding listTest listedBy leftBy madeList
 runList g xs b =
-    record {
-      answer = listedBy (listTest xs (length (b .outputs)) (length (b .rows)));
-      content =
-          elim (listTest xs (length (b .outputs)) (length (b .rows))) [ none ↦ madeList g xs b | some fault ↦ b ];
-    }
+    let wrong : Option Listed = listTest xs (length (b .outputs)) (length (b .rows)) in
+    record { answer = listedBy wrong; content = leftBy wrong b (madeList g xs b) }
 
 -- What the code has found out once: what the tests of the book and of the picture found, and what a fetch of each of the first
 -- 16 pattern numbers begins with

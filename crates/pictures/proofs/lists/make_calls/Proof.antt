@@ -1,12 +1,14 @@
 -- `pictures::lists::make_calls` meets its contract. The loop's invariant is `Going`; the measure is the number of calls left.
 -- Assumes nothing.
-use Prim.Native.Nat.{ℕ, _+_, _*_, _-_, _≤_}
+use Prim.Native.Nat.{ℕ, _+_, _*_, _-_, _^_, _≤_, _<_}
 use native.Mathlib.Omega.{arith}
 use mathlib.Core.Path.{_≡_, sym, _∙_, ap}
-use lib.ListN.{length}
+use lib.ListN.{length, drop, length-drop, length-take}
 use borrow.Author.Needs.{needs}
-use Rattle.pictures.specs.Lists.{setting}
-use Rattle.pictures.proofs.ListTurns.{Going, going-start, going-end, going-turn, room-end}
+use Rattle.pictures.specs.Lists.{setting, roomAt}
+use Rattle.pictures.proofs.ListFaults.{room-at}
+use Rattle.pictures.proofs.ReplyRows.{length-reply}
+use Rattle.pictures.proofs.ListTurns.{Going, going-start, going-end, room-end, going-on, begun-on}
 use Rattle.pictures.proofs.lists.make_calls.Statement.{statement}
 use Rattle.pictures.proofs.lists.make_calls.Tie as tie
 
@@ -20,56 +22,59 @@ abbrev μ-loop : tie.MeasureT-loop
 loop-holds : tie.Need-loop-holds Inv-loop μ-loop
 loop-holds c = going-start _ _ _ _ _ (c .before .before .before .before .pre .1) (c .before .before .before .before .pre .2)
 
-mul-kind : tie.Need-mul-kind Inv-loop μ-loop
-mul-kind c = ?
+-- the room of the next call is there
+module _ (c : tie.After-room-of Inv-loop μ-loop) where
+  abbrev turn : tie.At-loop Inv-loop μ-loop
+  turn = c .before .before .before .before
 
-shared-slice-read-kind : tie.Need-shared-slice-read-kind Inv-loop μ-loop
-shared-slice-read-kind c = ?
+  own-room : c .room-of .result ≡ roomAt (drop (turn .loop .k) (turn .before .before .before .before .before .args .numbers .now))
+  own-room = c .room-of .ensures ∙ sym (room-at _ (turn .loop .k))
 
-add-room-of : tie.Need-add-room-of Inv-loop μ-loop
-add-room-of c = ?
-
-add-end : tie.Need-add-end Inv-loop μ-loop
-add-end c = ?
-
-mul-make-call-4 : tie.Need-mul-make-call-4 Inv-loop μ-loop
-mul-make-call-4 c = ?
-
-sub-make-call : tie.Need-sub-make-call Inv-loop μ-loop
-sub-make-call c = ?
-
-part-make-call-start : tie.Need-part-make-call-start Inv-loop μ-loop
-part-make-call-start c = ?
-
-part-make-call-end : tie.Need-part-make-call-end Inv-loop μ-loop
-part-make-call-end c = ?
+  room-fits : turn .loop .at + c .room-of .result ≤ length (turn .loop .outs)
+  room-fits = omega (arith, own-room, room-end _ _ _ _ _ (turn .loop .inv) (c .before .before .before .loop-test .taken))
 
 make-call-requires : tie.Need-make-call-requires Inv-loop μ-loop
-make-call-requires c κs = ?
+make-call-requires c κs =
+    let l = turn (c .before .before .before .before .before) in
+    begun-on (l .loop .inv .mem-long) (l .before .before .before .before .before .pre .0)
 
-mul-put-row : tie.Need-mul-put-row Inv-loop μ-loop
-mul-put-row c = ?
+-- the call was made, and there is room for its reply
+module _ (c : tie.After-make-call Inv-loop μ-loop) where
+  abbrev roomed : tie.After-room-of Inv-loop μ-loop
+  roomed = c .before .before .before .before .before .before
 
-sub-put-row : tie.Need-sub-put-row Inv-loop μ-loop
-sub-put-row c = ?
+  abbrev began : tie.Start Inv-loop μ-loop
+  began = turn roomed .before .before .before .before .before
 
-part-put-row-start : tie.Need-part-put-row-start Inv-loop μ-loop
-part-put-row-start c = ?
+  row-there : turn roomed .loop .q + 12 ≤ length (turn roomed .loop .rows)
+  row-there = omega (arith, turn roomed .loop .inv .row-room, roomed .before .before .before .loop-test .taken)
 
-part-put-row-end : tie.Need-part-put-row-end Inv-loop μ-loop
-part-put-row-end c = ?
+  rows-small : length (turn roomed .loop .rows) * 8 < 2 ^ 63
+  rows-small = omega (arith, turn roomed .loop .inv .rows-long, began .good .1 .1 .1 .1 .1 .1 .1 .1 .1 .1 .0 .1)
+
+  numbers-there : turn roomed .loop .k + 5 ≤ length (began .args .numbers .now)
+  numbers-there = omega (arith, turn roomed .loop .inv .numbers-left, roomed .before .before .before .loop-test .taken)
+
+  numbers-small : length (began .args .numbers .now) * 8 < 2 ^ 63
+  numbers-small = began .good .1 .1 .1 .1 .1 .1 .1 .1 .0 .1
+
+-- the call after the reply was put
+abbrev made : tie.After-slice-known6 Inv-loop μ-loop → tie.After-make-call Inv-loop μ-loop
+made c = c .before .before .before .before .before .before .before .before
 
 put-row-requires : tie.Need-put-row-requires Inv-loop μ-loop
-put-row-requires c κs = ?
-
-add-k : tie.Need-add-k Inv-loop μ-loop
-add-k c = ?
-
-add-q : tie.Need-add-q Inv-loop μ-loop
-add-q c = ?
+put-row-requires c κs =
+    let m = c .before .before .before .before .before in
+    (ap length (m .make-call .ensures .row-is) ∙ length-reply _, simp (length-take, length-drop) (omega (arith, row-there m)))
 
 loop-again : tie.Need-loop-again Inv-loop μ-loop
-loop-again c = ?
+loop-again c =
+    let w = c .before .before in
+    let m = w .before .before .before .before .before .before in
+    let r = m .before .before .before .before .before .before in
+    going-on _ _ _ _ _ (turn r .loop .inv) (r .before .before .before .loop-test .taken) (r .room-of .ensures) (m .make-call .kept .1 .1 .1 .1 .1 .1 .1 .0) (m .make-call .ensures)
+    (m .make-call .kept .1 .1 .1 .1 .1 .1 .1 .1 .1 .1 .1 .1 .0)
+    (w .put-row .ensures)
 
 same-length : tie.Need-same-length Inv-loop μ-loop
 same-length c = c .before .loop .inv .mem-long
@@ -82,3 +87,28 @@ same-length-3 c = c .before .loop .inv .rows-long
 
 returns : tie.Need-returns Inv-loop μ-loop
 returns c = going-end _ _ _ _ _ (c .before .loop .inv) (omega arith)
+
+pub make-calls-spec : {M : Type 1} → statement M
+make-calls-spec =
+    tie.close
+    (tie.spec
+    Inv-loop
+    μ-loop
+    loop-holds
+    (λ c. search needs) (λ c. search needs) (λ c. search needs) (λ c. search needs) (λ c. search needs)
+    (λ c κs. search needs)
+    (λ c. omega (arith, room-fits c))
+    (λ c. search needs) (λ c. search needs) (λ c. search needs) (λ c. search needs) (λ c. search needs) (λ c. search needs) (λ c. search needs) (λ c. search needs) (λ c. search needs) (λ c. search needs) (λ c. search needs) (λ c. search needs)
+    (λ c. room-fits (c .before .before .before .before))
+    make-call-requires
+    (λ c. record { fits = omega (arith, row-there (c .before .before .before .before), rows-small (c .before .before .before .before)) })
+    (λ c. omega (arith, row-there (c .before .before .before .before)))
+    (λ c. omega (arith, row-there (c .before .before .before .before)))
+    (λ c. search needs)
+    put-row-requires
+    (λ c. record { fits = omega (arith, numbers-there (made c), numbers-small (made c)) })
+    (λ c. record { fits = omega (arith, row-there (made c), rows-small (made c)) })
+    (λ c. omega arith) (λ c. omega arith)
+    loop-again
+    same-length same-length-2 same-length-3
+    returns)
