@@ -208,7 +208,7 @@ ring-edge p W H vs = ring-decides p W H
 
 -- A call that is turned down gives the number of the first condition that holds.
 pub calls-refuse : CallsRefuse
-unfolding recordOutcome fewest bank depth locate store load clear sum
+unfolding recordOutcome fewest bank depth locate store load clear sum fetch eitherFetch ringFetch
 calls-refuse =
     record {
       normal-8 = λ x y. refused-unless (normal-follows x y) (independent-decides x y);

@@ -1,61 +1,109 @@
--- Demand 3 about the code: a list of calls that the code made has the replies and the memory of the list that demand 3 speaks of.
+-- Demand 3 of a list that the code made under the finder's plan.
 -- Assumes nothing.
-use Prim.Native.Nat.{ℕ, suc}
+use Prim.Native.Nat.{ℕ}
 use native.Mathlib.Omega.{arith}
-use mathlib.Core.Path.{_≡_, refl, _∙_, ap}
-use mathlib.Core.List.{List, [], _∷_, _++_}
-use lib.ListN.{length}
-use Rattle.scope.specs.promises.Demand.{Setting, Call, Reply, reply, after, run}
+use mathlib.Core.Path.{_≡_, refl, sym, _∙_, ap, ap₂}
+use mathlib.Core.Option.{Option, none, some}
+use mathlib.Core.List.{List, [], _∷_, _++_, flatMap, append-assoc}
+use lib.ListN.{length, getD, drop}
+use Rattle.scope.specs.Search.{stateAfter, repliesOf}
+use Rattle.scope.specs.Banks.{wordIn, overStart}
+use Rattle.scope.specs.Numbers.{value, ofPlanned}
+use Rattle.scope.specs.Calls.{Result, find}
+use Rattle.scope.specs.promises.Demand.{Call, Reply, Setting, after, reply, run, replies, pictureWords, ListHolds}
+use Rattle.scope.specs.declared.Book.{Book}
+use Rattle.scope.specs.declared.Plan.{Plan}
+use Rattle.scope.specs.declared.Planned.{Planned}
+use Rattle.scope.specs.declared.Refusal.{Refusal}
+use Rattle.checks.proofs.CallLists.{state-after-append}
+use Rattle.checks.proofs.Chains.{Gives}
+use Rattle.pictures.specs.Lists.{setting, callsOf, outputOf, replyNumbers, Buffers, listTest, listedBy, leftBy, madeList, runList}
+use Rattle.pictures.specs.declared.lists.Listed.{Listed}
 use Rattle.pictures.proofs.DemandHolds.{demand-3}
-use Rattle.claims.specs.Steps.{Made, EveryListIsMade, CodeMeetsDemand3}
+use Rattle.pictures.proofs.ListFaults.{made-passes}
+use Rattle.claims.specs.Demanded.{ranFor, findAndRun, repliesDue, DemandMet, Demanded}
+use Rattle.claims.specs.declared.FoundRun.{FoundRun}
 
-module _ (g : Setting) where
-  made-memory :
-      (mem : List ℕ) (calls : List Call) (replies : List Reply) (end : List ℕ) → Made g mem calls replies end
-      → end ≡ run g mem calls
-  unfolding run
-  made-memory mem [] [] end made = made
-  made-memory mem [] (r ∷ rs) end made = absurd made
-  made-memory mem (c ∷ cs) [] end made = absurd made
-  made-memory mem (c ∷ cs) (r ∷ rs) end (next, s, made) =
-      made-memory next cs rs end made ∙ ap (λ (m : List ℕ). run g m cs) (s .left)
+-- Each reply is the one that is due.
+replies-are-due :
+    (g : Setting) (mem : List ℕ) (calls past rest : List Call) → ListHolds g mem calls → calls ≡ past ++ rest
+    → replies g (run g mem past) rest ≡ repliesDue g (length mem) past rest
+unfolding run replies repliesOf repliesDue
+replies-are-due g mem calls past [] h e = refl
+replies-are-due g mem calls past (c ∷ rest) h e =
+    ap₂ (λ (r : Reply) (rs : List Reply). r ∷ rs) (h .each past c rest e .agrees)
+    (ap (λ (m : List ℕ). replies g m rest) (sym (state-after-append (after g) mem past (c ∷ [])))
+    ∙ replies-are-due g mem calls (past ++ (c ∷ [])) rest h (e ∙ sym (append-assoc past (c ∷ []) rest)))
 
-  made-replies :
-      (mem : List ℕ) (past : List Call) (c : Call) (later : List Call) (before : List Reply) (r : Reply) (rest : List Reply)
-      (end : List ℕ) → Made g mem (past ++ (c ∷ later)) (before ++ (r ∷ rest)) end → length before ≡ length past
-      → r ≡ reply g (run g mem past) c
-  unfolding run
-  made-replies mem [] c later [] r rest end (next, s, made) e = s .replied
-  made-replies mem [] c later (b ∷ bs) r rest end made e = absurd (omega arith)
-  made-replies mem (p ∷ ps) c later [] r rest end made e = absurd (omega arith)
-  made-replies mem (p ∷ ps) c later (b ∷ bs) r rest end (next, s, made) e =
-      made-replies next ps c later bs r rest end made (omega arith) ∙ ap (λ (m : List ℕ). reply g (run g m ps) c) (s .left)
-
-  made-as-many :
-      (mem : List ℕ) (calls : List Call) (replies : List Reply) (end : List ℕ) → Made g mem calls replies end
-      → length replies ≡ length calls
-  made-as-many mem [] [] end made = refl
-  made-as-many mem [] (r ∷ rs) end made = absurd made
-  made-as-many mem (c ∷ cs) [] end made = absurd made
-  made-as-many mem (c ∷ cs) (r ∷ rs) end (next, s, made) = ap suc (made-as-many next cs rs end made)
-
--- Each call of a list makes its step.
-pub every-list-is-made : EveryListIsMade
-unfolding run
-every-list-is-made g mem [] = ([], refl)
-every-list-is-made g mem (c ∷ cs) =
-    let (rs, made) = every-list-is-made g (after g mem c) cs in
-    (reply g mem c ∷ rs, (after g mem c, record { replied = refl; left = refl }, made))
-
--- Demand 3 about the code.
-pub code-meets-demand-3 : CodeMeetsDemand3
-code-meets-demand-3 g limit mem calls replies end plan enough zeros made =
+-- A list that was made, and of which demand 3 holds over the definitions.
+demand-met :
+    (g : Setting) (numbers : List ℕ) (b left : Buffers) → left ≡ madeList g numbers b
+    → ListHolds g (b .memory) (callsOf numbers (b .outputs))
+    → DemandMet g (callsOf numbers (b .outputs)) b left
+unfolding madeList run stateAfter
+demand-met g numbers b left is h =
+    let calls : List Call = callsOf numbers (b .outputs) in
+    let due : replies g (b .memory) calls ≡ repliesDue g (length (b .memory)) [] calls = replies-are-due g (b .memory) calls [] calls h refl in
+    let memory : left .memory ≡ run g (b .memory) calls = ap (λ (x : Buffers). x .memory) is in
     record {
-      each =
-          λ past c later before r rest e f same.
-          made-replies g mem past c later before r rest end (rw (e, f) at made) same
-          ∙ demand-3 g limit mem calls plan enough zeros .each past c later e .agrees;
-      as-many = made-as-many g mem calls replies end made;
-      memory = made-memory g mem calls replies end made;
-      holds = demand-3 g limit mem calls plan enough zeros;
+      outputs = ap (λ (x : Buffers). x .outputs) is ∙ ap (λ (rs : List Reply). overStart (flatMap outputOf rs) (b .outputs)) due;
+      answers = ap (λ (x : Buffers). x .rows) is ∙ ap (λ (rs : List Reply). overStart (flatMap replyNumbers rs) (b .rows)) due;
+      words = λ v inside. ap (λ (m : List ℕ). wordIn (g .plan) (g .W) (g .H) m v) memory ∙ h .words v inside;
+      others = λ i below none-there. ap (λ (m : List ℕ). getD m i 0) memory ∙ h .others i below none-there;
+      rest = ap (drop (pictureWords g)) memory ∙ h .rest;
+      as-long = ap length memory ∙ h .as-long;
+      holds = h;
     }
+
+-- a list whose answer is that it was made
+made-left : (g : Setting) (numbers : List ℕ) (b : Buffers) → Listed.Made ≡ runList g numbers b .answer → runList g numbers b .content ≡ madeList g numbers b
+unfolding runList leftBy
+made-left g numbers b made =
+    ap (λ (t : Option Listed). leftBy t b (madeList g numbers b)) (made-passes numbers (length (b .outputs)) (length (b .rows)) made .test)
+
+-- an answer says which plan, and what came of the list
+same-plan : {p q : Plan} {l m : Listed} → FoundRun.Ran p l ≡ FoundRun.Ran q m → p ≡ q
+same-plan e = cc
+
+same-listed : {p q : Plan} {l m : Listed} → FoundRun.Ran p l ≡ FoundRun.Ran q m → l ≡ m
+same-listed e = cc
+
+refused-not-ran : {r : Refusal} {p : Plan} {l : Listed} → FoundRun.Refused r ≡ FoundRun.Ran p l → ⊥
+refused-not-ran e = let z : _≡_ {A = ℕ} 0 1 = cc in omega arith
+
+-- The contract, by the finder's answer: a plan and the list under it,
+module _ (book : Book) (limit W H : ℕ) (numbers : List ℕ) (b : Buffers) {planned : Planned} (is : planned ≡ find book limit) where
+  abbrev Kept : FoundRun → Buffers → Type 0
+  Kept r left =
+      (r ≡ findAndRun book limit W H numbers b .answer)
+      × ((left ≡ findAndRun book limit W H numbers b .content) × Demanded r book W H numbers b left)
+
+  by-answer : {q : Planned} → planned ≡ q → findAndRun book limit W H numbers b ≡ ranFor q book W H numbers b
+  unfolding findAndRun
+  by-answer e = ap (λ (q : Planned). ranFor q book W H numbers b) (sym is ∙ e)
+
+  pub plan-kept :
+      {p : Plan} {listed : Listed} {left : Buffers} → planned ≡ Planned.Plan p
+      → Gives (runList (setting book p W H) numbers b) listed left
+      → Kept (FoundRun.Ran p listed) left
+  unfolding ranFor
+  plan-kept {p} {listed} {left} found (answer, content) = (
+    ap (FoundRun.Ran p) answer ∙ ap (λ (r : Result FoundRun Buffers). r .answer) (sym (by-answer found)),
+    (content ∙ ap (λ (r : Result FoundRun Buffers). r .content) (sym (by-answer found)),
+    λ q ran enough zeros.
+        let same : p ≡ q = same-plan ran in
+        let plan : ofPlanned (find book limit) ≡ value q = ap ofPlanned (sym is ∙ found ∙ ap Planned.Plan same) in
+        demand-met (setting book q W H) numbers b left
+        (content
+        ∙ made-left (setting book p W H) numbers b (sym (same-listed ran) ∙ answer)
+        ∙ ap (λ (p : Plan). madeList (setting book p W H) numbers b) same)
+        (demand-3 (setting book q W H) limit (b .memory) (callsOf numbers (b .outputs)) plan enough zeros)),
+  )
+
+  -- or its refusal.
+  pub refusal-kept : {r : Refusal} → planned ≡ Planned.Refused r → Kept (FoundRun.Refused r) b
+  unfolding ranFor
+  refusal-kept found = (
+    ap (λ (r : Result FoundRun Buffers). r .answer) (sym (by-answer found)),
+    (ap (λ (r : Result FoundRun Buffers). r .content) (sym (by-answer found)), λ q ran enough zeros. absurd (refused-not-ran ran)),
+  )

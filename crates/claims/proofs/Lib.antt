@@ -2,4 +2,4 @@
 pub mod CallRefusals  -- which number each call gives
 pub mod Kept  -- every promise in one value
 pub mod Example  -- demand 3's premises are met, and what it says there
-pub mod CodeLists  -- a list that the code made is one of demand 3
+pub mod CodeLists  -- a list that the code made under the finder's plan meets demand 3

@@ -1,49 +1,39 @@
-// One call of demand 3's list, made by the code. proofs/ has every promise, kept in one value.
-use pictures::clear;
-use pictures::fetch;
-use pictures::load;
-use pictures::store;
+// Demand 3 about the code: the finder, then a list of calls under its plan. proofs/ has every promise, kept in one value.
+use finder::find;
+use pictures::Listed;
+use pictures::run_list;
 use scope::Book;
-use scope::Counted;
-use scope::Loaded;
-use scope::Outcome;
 use scope::Plan;
+use scope::Planned;
+use scope::Refusal;
 ghost use mathlib.Core.Path.{_≡_};
-ghost use Rattle.claims.specs.Steps.{setting, callIn, replyIn, outputAfter, Stepped};
+ghost use Rattle.pictures.specs.Lists.{buffers};
+ghost use Rattle.claims.specs.Demanded.{findAndRun, Demanded};
 
-// A store, a clear, a load or a plain fetch, with what it is given.
-pub enum Call {
-    Store(i16, i16, u16),
-    Clear(u64),
-    Load(i16, i16),
-    Fetch(usize, i16, i16),
+// The finder's plan and what came of the list under it, or the finder's refusal: then nothing was changed.
+pub enum FoundRun {
+    Ran(Plan, Listed),
+    Refused(Refusal),
 }
 
-// What the call answered.
-pub enum Reply {
-    Stored(Outcome),
-    Cleared(Outcome),
-    Loaded(Loaded),
-    Fetched(Counted),
-}
-
-// Makes the call. Only a fetch uses the output.
-pub fn step(
+// Finds the plan with the fewest banks within the limit, and makes a list of calls under it, in the numbers of `run_list`.
+pub fn find_and_run(
     book: Book,
-    p: Plan,
+    limit: u32,
     w: u32,
     h: u32,
     mem: &mut [u16],
-    call: Call,
-    out: &mut [u16],
-) -> Reply
-    ensures stepped { λ r. ⌜ Stepped (setting book p w h) (now (mem .entry)) (callIn call (now (out .entry))) (replyIn r (now (out .exit))) (now (mem .exit)) ⌝ }
-    ensures output { λ r. ⌜ now (out .exit) ≡ outputAfter (setting book p w h) (now (mem .entry)) call (now (out .entry)) ⌝ }
+    numbers: &[u64],
+    outs: &mut [u16],
+    rows: &mut [u64],
+) -> FoundRun
+    ensures answer { λ r. ⌜ r ≡ findAndRun book limit w h (now (numbers .entry)) (buffers (now (mem .entry)) (now (outs .entry)) (now (rows .entry))) .answer ⌝ }
+    ensures left { λ r. ⌜ buffers (now (mem .exit)) (now (outs .exit)) (now (rows .exit)) ≡ findAndRun book limit w h (now (numbers .entry)) (buffers (now (mem .entry)) (now (outs .entry)) (now (rows .entry))) .content ⌝ }
+    ensures demand { λ r. ⌜ Demanded r book w h (now (numbers .entry)) (buffers (now (mem .entry)) (now (outs .entry)) (now (rows .entry))) (buffers (now (mem .exit)) (now (outs .exit)) (now (rows .exit))) ⌝ }
 {
-    match call {
-        Call::Store(i, j, x) => Reply::Stored(store(p, w, h, mem, i, j, x)),
-        Call::Clear(k) => Reply::Cleared(clear(p, w, h, mem, k)),
-        Call::Load(i, j) => Reply::Loaded(load(p, w, h, mem, i, j)),
-        Call::Fetch(n, i, j) => Reply::Fetched(fetch(book, p, w, h, mem, n, i, j, out)),
+    let planned = find(book, limit);
+    match planned {
+        Planned::Plan(p) => FoundRun::Ran(p, run_list(book, p, w, h, mem, numbers, outs, rows)),
+        Planned::Refused(r) => FoundRun::Refused(r),
     }
 }
