@@ -1,20 +1,26 @@
 -- How an answer is told: as the value or the refusal that it is, and as the answer that it equals.
 -- Assumes nothing.
 use Prim.Native.Nat.{ℕ}
+use native.Mathlib.Omega.{arith}
 use mathlib.Core.Path.{_≡_, sym, _∙_, ap, subst}
 use mathlib.Core.Option.{Option}
 use mathlib.Core.List.{List, _∷_}
 use Rattle.scope.specs.Numbers.{Answer, value, refusal, turnedDown}
-use Rattle.scope.specs.Calls.{Result}
+use Rattle.scope.specs.Calls.{Result, Lent}
 use Rattle.scope.specs.Plans.{Pixel}
 use Rattle.scope.specs.declared.Book.{Book}
+use Rattle.scope.specs.declared.Plan.{Plan}
 use Rattle.scope.specs.declared.Refusal.{Refusal}
 use Rattle.scope.specs.declared.Clash.{Clash}
 use Rattle.scope.specs.declared.Outcome.{Outcome}
 use Rattle.scope.specs.declared.Outcome.the-variants.{Done, Refused}
 use Rattle.scope.specs.declared.Reading.{Reading}
 use Rattle.checks.proofs.Chains.{Gives}
-use Rattle.capi.specs.Told.{Tells, numberTold, clashRow, rowIn, putFrom}
+use Rattle.capi.specs.Told.{Tells, numberTold, clashRow, rowIn, planRow, noRow, putFrom, ofListed, ofFoundRun}
+use Rattle.pictures.specs.declared.lists.Listed.{Listed}
+use Rattle.claims.specs.declared.FoundRun.{FoundRun}
+use Rattle.claims.specs.Demanded.{findAndRun, Demanded}
+use Rattle.pictures.specs.Lists.{Buffers}
 use Rattle.capi.specs.Flat.{ofReading, whenRead}
 
 pub told-of :
@@ -35,6 +41,15 @@ pub told-at :
     {content : C} {before after : List ℕ} {n : ℕ} → v ≡ o → Gives (call v y) x content → Tells row (of x) before after n
     → Tells row (of (call o y .answer)) before after n × (content ≡ call o y .content)
 told-at of call {y} {x} {content} e given told = told-given of (subst (λ u. Gives (call u y) x content) e given) told
+
+-- The same of a call that writes: of what it leaves, the memory is seen.
+pub told-written :
+    {A B D E : Type 0} {row : A → List ℕ} (of : B → Answer A) (call : D → E → Result B Lent) {u o : D} {y : E} {x : B} {memory : List ℕ}
+    {before after : List ℕ} {n : ℕ} → u ≡ o → (x ≡ call u y .answer) × (memory ≡ call u y .content .memory)
+    → Tells row (of x) before after n
+    → Tells row (of (call o y .answer)) before after n × (memory ≡ call o y .content .memory)
+told-written of call {y} e (answer, same) told =
+    (told-of of (answer ∙ ap (λ u. call u y .answer) e) told, same ∙ ap (λ u. call u y .content .memory) e)
 
 -- What an enum tells: a value, and a refusal.
 pub told-value :
@@ -66,3 +81,35 @@ module _ (x : Reading) where
 
     pub kept-refused : {r : Refusal} → x .outcome ≡ Refused r → out ≡ whenRead flat x out
     kept-refused e = sym (ap (λ (o : Outcome). elim o [ Done ↦ flat (x .book) | Refused q ↦ out ]) e)
+
+-- What came of a list under the finder's plan: the plan's numbers where it was made, and what was wrong where it was not.
+module _ {p : Plan} {l : Listed} {r : FoundRun} {before mid : List ℕ} {n : ℕ} (is : r ≡ FoundRun.Ran p l) (told : Tells noRow (ofListed l) before mid n) where
+  pub found-made : {after : List ℕ} → n ≡ 0 → after ≡ putFrom 0 (planRow p) mid → Tells planRow (ofFoundRun r) before after n
+  found-made {after} zero put = by-listed l is told
+    where
+      by-listed : (m : Listed) → r ≡ FoundRun.Ran p m → Tells noRow (ofListed m) before mid n → Tells planRow (ofFoundRun r) before after n
+      by-listed Listed.Made e t =
+          record { number = zero ∙ sym (ap (λ x. numberTold (ofFoundRun x)) e); row-put = put ∙ cc (e, t .row-put) }
+      by-listed (Listed.NotCalls k) e t = absurd (omega (arith, t .number))
+      by-listed Listed.Short e t = absurd (omega (arith, t .number))
+
+  pub found-wrong : (n ≡ 0 → ⊥) → Tells planRow (ofFoundRun r) before mid n
+  found-wrong not-zero = by-listed l is told
+    where
+      by-listed : (m : Listed) → r ≡ FoundRun.Ran p m → Tells noRow (ofListed m) before mid n → Tells planRow (ofFoundRun r) before mid n
+      by-listed Listed.Made e t = absurd (not-zero (t .number))
+      by-listed (Listed.NotCalls k) e t = rw e (record { number = t .number; row-put = t .row-put })
+      by-listed Listed.Short e t = rw e (record { number = t .number; row-put = t .row-put })
+
+-- The finder and a list under its plan: what it answers is told, and what it left, and that demand 3 is met.
+pub found-told :
+    (book : Book) (limit W H : ℕ) (numbers : List ℕ) (b : Buffers) {own : Book} {r : FoundRun} {left : Buffers}
+    {before after : List ℕ} {n : ℕ} → own ≡ book →
+    let ran = findAndRun own limit W H numbers b in
+    let due = findAndRun book limit W H numbers b in
+    (r ≡ ran .answer) × ((left ≡ ran .content) × Demanded r own W H numbers b left)
+    → Tells planRow (ofFoundRun r) before after n
+    → Tells planRow (ofFoundRun (due .answer)) before after n
+    × ((left ≡ due .content) × Demanded (due .answer) book W H numbers b left)
+found-told book limit W H numbers b is (answer, (content, demand)) told =
+    rw (← is) (told-of ofFoundRun answer told, (content, rw (← answer) demand))

@@ -8,10 +8,12 @@ use mathlib.Core.List.{List, [], _∷_, _++_}
 use lib.IntN.{natAbs}
 use lib.ListN.{set}
 use Rattle.scope.specs.Plans.{Pixel}
-use Rattle.scope.specs.Numbers.{Answer, value, refusal}
+use Rattle.scope.specs.Numbers.{Answer, value, refusal, turnedDown}
 use Rattle.scope.specs.declared.Clash.{Clash}
 use Rattle.scope.specs.declared.Plan.{Plan}
 use Rattle.scope.specs.declared.Checked.{Checked}
+use Rattle.pictures.specs.declared.lists.Listed.{Listed}
+use Rattle.claims.specs.declared.FoundRun.{FoundRun}
 
 -- 0, or the refusal's number
 abbrev pub numberTold : {A : Type 0} → Answer A → ℕ
@@ -52,3 +54,17 @@ putFrom k (x ∷ xs) out = putFrom (suc k) xs (set out k x)
 pub record Tells {A : Type 0} (row : A → List ℕ) (answer : Answer A) (before after : List ℕ) (n : ℕ) : Type 0 where
   pub number : n ≡ numberTold answer
   pub row-put : after ≡ putFrom 0 (rowIn row answer) before
+
+-- What came of a list of calls. Document 01 has no number for a list that is none: 255, at the place of its first numbers that
+-- are no call's. Outputs or replies that are too short are 16.
+abbrev pub ofListed : Listed → Answer Unit
+ofListed Listed.Made = value tt
+ofListed (Listed.NotCalls k) = refusal 255 k none
+ofListed Listed.Short = refusal 16 0 none
+
+-- and of one that begins with the finder: the plan where the list was made
+abbrev pub ofFoundRun : FoundRun → Answer Plan
+ofFoundRun (FoundRun.Ran p Listed.Made) = value p
+ofFoundRun (FoundRun.Ran p (Listed.NotCalls k)) = refusal 255 k none
+ofFoundRun (FoundRun.Ran p Listed.Short) = refusal 16 0 none
+ofFoundRun (FoundRun.Refused r) = turnedDown r

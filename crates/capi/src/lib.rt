@@ -4,6 +4,7 @@
 mod flat;
 mod list;
 mod memory;
+mod runs;
 mod told;
 
 use crate::flat::book_of;

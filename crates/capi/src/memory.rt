@@ -13,7 +13,7 @@ use pictures::sum;
 ghost use mathlib.Core.Path.{_≡_};
 ghost use Rattle.scope.specs.Plans.{at, plan};
 ghost use Rattle.scope.specs.Numbers.{ofCounted, ofLoaded, ofOutcome};
-ghost use Rattle.scope.specs.Calls.{store, load, clear, sum, fetch, ringFetch};
+ghost use Rattle.scope.specs.Calls.{lent, store, load, clear, sum, fetch, ringFetch};
 ghost use Rattle.capi.specs.Told.{Tells, numberRow, noRow};
 ghost use Rattle.capi.specs.Flat.{flatBook};
 
@@ -31,8 +31,8 @@ pub extern "C" fn bankplan_store(
     x: u16,
     answer: &mut [u64; 12],
 ) -> u64
-    ensures told { λ n. ⌜ Tells noRow (ofOutcome (store (plan a b d) w h (now (mem .entry)) (at i j) x .answer)) (now (answer .entry)) (now (answer .exit)) n ⌝ }
-    ensures mem { λ n. ⌜ now (mem .exit) ≡ store (plan a b d) w h (now (mem .entry)) (at i j) x .content ⌝ }
+    ensures told { λ n. ⌜ Tells noRow (ofOutcome (store (plan a b d) w h (lent (now (mem .entry))) (at i j) x .answer)) (now (answer .entry)) (now (answer .exit)) n ⌝ }
+    ensures mem { λ n. ⌜ now (mem .exit) ≡ store (plan a b d) w h (lent (now (mem .entry))) (at i j) x .content .memory ⌝ }
 {
     tell_outcome(store(plan_of(a, b, d), w, h, mem, i, j, x), answer)
 }
@@ -67,8 +67,8 @@ pub extern "C" fn bankplan_clear(
     k: u64,
     answer: &mut [u64; 12],
 ) -> u64
-    ensures told { λ n. ⌜ Tells noRow (ofOutcome (clear (plan a b d) w h (now (mem .entry)) k .answer)) (now (answer .entry)) (now (answer .exit)) n ⌝ }
-    ensures mem { λ n. ⌜ now (mem .exit) ≡ clear (plan a b d) w h (now (mem .entry)) k .content ⌝ }
+    ensures told { λ n. ⌜ Tells noRow (ofOutcome (clear (plan a b d) w h (lent (now (mem .entry))) k .answer)) (now (answer .entry)) (now (answer .exit)) n ⌝ }
+    ensures mem { λ n. ⌜ now (mem .exit) ≡ clear (plan a b d) w h (lent (now (mem .entry))) k .content .memory ⌝ }
 {
     tell_outcome(clear(plan_of(a, b, d), w, h, mem, k), answer)
 }

@@ -1,5 +1,7 @@
 // Answers told in numbers.
+use claims::FoundRun;
 use integers::size;
+use pictures::Listed;
 use scope::Counted;
 use scope::Loaded;
 use scope::Located;
@@ -13,7 +15,7 @@ use scope::row_of;
 ghost use mathlib.Core.Path.{_≡_};
 ghost use mathlib.Core.List.{_∷_};
 ghost use Rattle.scope.specs.Numbers.{numberOf, placeOf, clashOf, ofPlanned, ofCounted, ofLoaded, ofLocated, ofOutcome, ofVerdict};
-ghost use Rattle.capi.specs.Told.{Tells, clashRow, planRow, checkedRow, numberRow, pixelRow, noRow, putFrom};
+ghost use Rattle.capi.specs.Told.{Tells, clashRow, planRow, checkedRow, numberRow, pixelRow, noRow, putFrom, ofListed, ofFoundRun};
 
 // A refusal's number; its place and its clash go to the array.
 pub(crate) fn tell_refusal(r: Refusal, answer: &mut [u64; 12]) -> u64
@@ -115,5 +117,38 @@ pub(crate) fn tell_outcome(o: Outcome, answer: &mut [u64; 12]) -> u64
     match o {
         Outcome::Done => 0,
         Outcome::Refused(r) => tell_refusal(r, answer),
+    }
+}
+
+// A list that was made, or 255 and the place of numbers that are no call's, or 16.
+pub(crate) fn tell_listed(l: Listed, answer: &mut [u64; 12]) -> u64
+    ensures { λ n. ⌜ Tells noRow (ofListed l) (now (answer .entry)) (now (answer .exit)) n ⌝ }
+{
+    match l {
+        Listed::Made => 0,
+        Listed::NotCalls(k) => {
+            answer[0] = k;
+            255
+        }
+        Listed::Short => {
+            answer[0] = 0;
+            16
+        }
+    }
+}
+
+// The plan's numbers where the list under it was made; else what was wrong with the list, or the finder's refusal.
+pub(crate) fn tell_found(r: FoundRun, answer: &mut [u64; 12]) -> u64
+    ensures { λ n. ⌜ Tells planRow (ofFoundRun r) (now (answer .entry)) (now (answer .exit)) n ⌝ }
+{
+    match r {
+        FoundRun::Ran(p, l) => {
+            let number = tell_listed(l, answer);
+            if number == 0 {
+                put_plan(p, answer);
+            }
+            number
+        }
+        FoundRun::Refused(q) => tell_refusal(q, answer),
     }
 }

@@ -89,15 +89,17 @@ module _ (book : Book) (limit W H : ℕ) (numbers : List ℕ) (b : Buffers) {pla
   unfolding ranFor
   plan-kept {p} {listed} {left} found (answer, content) = (
     ap (FoundRun.Ran p) answer ∙ ap (λ (r : Result FoundRun Buffers). r .answer) (sym (by-answer found)),
-    (content ∙ ap (λ (r : Result FoundRun Buffers). r .content) (sym (by-answer found)),
-    λ q ran enough zeros.
-        let same : p ≡ q = same-plan ran in
-        let plan : ofPlanned (find book limit) ≡ value q = ap ofPlanned (sym is ∙ found ∙ ap Planned.Plan same) in
-        demand-met (setting book q W H) numbers b left
-        (content
-        ∙ made-left (setting book p W H) numbers b (sym (same-listed ran) ∙ answer)
-        ∙ ap (λ (p : Plan). madeList (setting book p W H) numbers b) same)
-        (demand-3 (setting book q W H) limit (b .memory) (callsOf numbers (b .outputs)) plan enough zeros)),
+    (
+      content ∙ ap (λ (r : Result FoundRun Buffers). r .content) (sym (by-answer found)),
+      λ q ran enough zeros.
+          let same : p ≡ q = same-plan ran in
+          let plan : ofPlanned (find book limit) ≡ value q = ap ofPlanned (sym is ∙ found ∙ ap Planned.Plan same) in
+          demand-met (setting book q W H) numbers b left
+          (content
+          ∙ made-left (setting book p W H) numbers b (sym (same-listed ran) ∙ answer)
+          ∙ ap (λ (p : Plan). madeList (setting book p W H) numbers b) same)
+          (demand-3 (setting book q W H) limit (b .memory) (callsOf numbers (b .outputs)) plan enough zeros),
+    ),
   )
 
   -- or its refusal.
