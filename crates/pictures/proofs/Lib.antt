@@ -16,6 +16,7 @@ pub mod Starts  -- the tests that both fetches begin with
 pub mod Wrapped  -- the words at wrapped pixels, put to an output
 pub mod ReplyRows  -- a reply's twelve numbers
 pub mod ListFaults  -- what is wrong with a list of numbers
+pub mod ListNumbers  -- every list of calls has numbers
 pub mod Stretches  -- something put into a list, stretch after stretch
 pub mod MadeCalls  -- one call of a list, made by the code
 pub mod ListTurns  -- a list that is made call by call, by what is left
