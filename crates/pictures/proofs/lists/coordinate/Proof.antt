@@ -1,26 +1,16 @@
 -- `pictures::lists::coordinate` meets its contract: a number from 32768 on, less 65536, fits 16 bits.
 -- Assumes nothing.
-use Prim.Native.Nat.{ℕ, _-_, _%_, _≤_, _<_}
+use Prim.Native.Nat.{ℕ, _%_, _≤_, _<_}
 use native.Mathlib.Omega.{arith}
-use mathlib.Core.Path.{_≡_, refl, sym, _∙_, ap, subst}
-use lib.IntN.{ℤ, pos, negsuc, _-ℤ_}
+use mathlib.Core.Path.{_≡_, sym, _∙_, ap, subst}
+use lib.IntN.{ℤ, pos, _-ℤ_}
 use mir.Syntax.{w16, w32}
 use mir.Val.{SFits, toZ, ofZ}
 use mir.Facts.{toZ-ofZ, toZ-pos, sfits-widen}
-use borrow.Author.Tests.{lt-ltb, le-ltb}
 use borrow.Author.Needs.{needs}
-use Rattle.integers.proofs.Integers.{own-parts, parts-add, same-integer}
-use Rattle.pictures.specs.Lists.{coordinateOf}
+use Rattle.pictures.proofs.ListNumbers.{lower-half, upper-half, less-65536}
 use Rattle.pictures.proofs.lists.coordinate.Statement.{statement}
 use Rattle.pictures.proofs.lists.coordinate.Tie as tie
-
-lower-half : (x : ℕ) → x % 65536 < 32768 → coordinateOf x ≡ pos (x % 65536)
-unfolding coordinateOf
-lower-half x h = rw (lt-ltb (x % 65536) 32768 h) refl
-
-upper-half : (x : ℕ) → 32768 ≤ x % 65536 → coordinateOf x ≡ pos (x % 65536) -ℤ pos 65536
-unfolding coordinateOf
-upper-half x h = rw (le-ltb (x % 65536) 32768 h) refl
 
 -- y of the upper half, as a number of 32 bits, less 65536
 module _ (y : ℕ) (upper : 32768 ≤ y) (below : y < 65536) where
@@ -30,12 +20,8 @@ module _ (y : ℕ) (upper : 32768 ≤ y) (below : y < 65536) where
   less-is : less ≡ pos y -ℤ pos 65536
   less-is = ap (λ (z : ℤ). z -ℤ pos 65536) (toZ-pos w32 {n = y} (omega arith))
 
-  negative : pos y -ℤ pos 65536 ≡ negsuc (65535 - y)
-  negative =
-      same-integer (parts-add (own-parts (pos y)) (own-parts (negsuc 65535))) (own-parts (negsuc (65535 - y))) (omega arith)
-
   fits-16 : SFits w16 less
-  fits-16 = subst (SFits w16) (sym (less-is ∙ negative)) (record { sfits = omega arith })
+  fits-16 = subst (SFits w16) (sym (less-is ∙ less-65536 y below)) (record { sfits = omega arith })
 
   fits-32 : SFits w32 less
   fits-32 = sfits-widen {w = w16} tt fits-16
