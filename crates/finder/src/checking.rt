@@ -50,7 +50,7 @@ fn judge(p: Plan, book: Book) -> Verdict
     let least = least_count(book);
     match least {
         Counted::Number(n) => {
-            let surplus = p.a * p.d - n as u32;
+            let surplus = (p.banks() - n) as u32;
             Verdict::Suits(Checked { plan: p, surplus })
         }
         Counted::Refused(r) => Verdict::Refused(r),

@@ -5,7 +5,6 @@ use scope::Outcome;
 use scope::Pattern;
 use scope::Plan;
 use scope::Refusal;
-use scope::is_plan;
 ghost use mathlib.Core.Path.{_≡_};
 ghost use mathlib.Core.Bool.{true};
 ghost use Prim.Native.Nat.{_≤_, _<_};
@@ -70,7 +69,7 @@ pub fn suits_outcome(p: Plan, n: usize, t: Pattern) -> Outcome
     if 64 < used {
         return Outcome::Refused(Refusal::Count(0));
     }
-    if !is_plan(p.a, p.b, p.d) {
+    if !p.is_plan() {
         return Outcome::Refused(Refusal::NotPlan);
     }
     let met = clash_in(p, n, t);

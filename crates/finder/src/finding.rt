@@ -210,7 +210,7 @@ pub fn least_count(book: Book) -> Counted
 {
     let least = find(book, 1024);
     match least {
-        Planned::Plan(p) => Counted::Number((p.a * p.d) as u64),
+        Planned::Plan(p) => Counted::Number(p.banks()),
         Planned::Refused(r) => Counted::Refused(r),
     }
 }

@@ -59,11 +59,11 @@ fn is_ring(p: Plan, w: u32, h: u32) -> bool
     requires { ⌜ isPlan p ≡ true ⌝ }
     ensures { λ r. ⌜ r ≡ isRing p w h ⌝ }
 {
-    let banks = p.a * p.d;
-    if w % banks != 0 {
+    let banks = p.banks();
+    if w as u64 % banks != 0 {
         return false;
     }
-    h % banks == 0
+    h as u64 % banks == 0
 }
 
 // The edge: 14 for a pattern moved to (i, j), or 18 for a ring fetch.

@@ -15,7 +15,7 @@ fn picture_depth(p: Plan, w: u32, h: u32, words: usize) -> Counted
 {
     let answer = p.depth(w, h);
     if let Counted::Number(depth) = answer {
-        if (words as u64) < (p.a * p.d) as u64 * depth {
+        if (words as u64) < p.banks() * depth {
             return Counted::Refused(Refusal::Memory);
         }
     }
@@ -57,7 +57,7 @@ pub(crate) fn bank_depth(p: Plan, w: u32, h: u32, words: usize, k: u64) -> Count
 {
     let answer = picture_depth(p, w, h, words);
     if let Counted::Number(_) = answer {
-        if (p.a * p.d) as u64 <= k {
+        if p.banks() <= k {
             return Counted::Refused(Refusal::Cell);
         }
     }

@@ -4,7 +4,6 @@ mod formulas;
 mod plans;
 mod refusals;
 
-pub use plans::is_plan;
 pub use refusals::Row;
 pub use refusals::number_of;
 pub use refusals::row_of;

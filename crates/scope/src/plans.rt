@@ -12,10 +12,7 @@ use crate::formulas::depth_number;
 use crate::formulas::is_inside;
 use crate::formulas::reverse_map;
 ghost use mathlib.Core.Path.{_≡_};
-ghost use mathlib.Core.Bool.{_&&_};
 ghost use mathlib.Core.List.{[], _∷_};
-ghost use Prim.Native.Nat.{_*_};
-ghost use lib.Dec.{leb, ltb};
 ghost use Rattle.scope.specs.Search.{firstOf};
 ghost use Rattle.scope.specs.Plans.{at, isPlan, banks};
 ghost use Rattle.scope.specs.Numbers.{planTest, sidesTest};
@@ -97,11 +94,4 @@ impl Plan {
         }
         reverse_map(self, w, h, k, i)
     }
-}
-
-// Whether a, b and d are a plan.
-pub fn is_plan(a: u32, b: u32, d: u32) -> bool
-    ensures { λ r. ⌜ r ≡ (leb 1 a && leb 1 d && ltb b a && leb (a * d) 1024) ⌝ }
-{
-    Plan { a, b, d }.is_plan()
 }

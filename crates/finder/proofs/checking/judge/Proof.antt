@@ -1,7 +1,7 @@
 -- `finder::checking::judge` meets its contract: a plan without a clash suits and has at least as many banks as the finder's,
 -- so the surplus does not wrap.
 -- Assumes nothing.
-use Prim.Native.Nat.{ℕ, _*_, _-_, _≤_}
+use Prim.Native.Nat.{ℕ, _-_, _≤_}
 use native.Mathlib.Omega.{arith}
 use mathlib.Core.Path.{_≡_, sym, _∙_, ap}
 use mathlib.Core.Bool.{true}
@@ -44,7 +44,7 @@ module _ (c : tie.After-enum-told) where
       (book-legal-iff (start .args .book) .0 (start .pre .1)) .0 no-clash
 
 -- the arm of a count
-module _ (c : tie.After-struct-known) where
+module _ (c : tie.After-banks) where
   abbrev counted : tie.After-least-count
   counted = c .before .before .before .before
 
@@ -61,18 +61,25 @@ module _ (c : tie.After-struct-known) where
   least-is =
       number-is-least book (start (counted .before) .pre .1) (counted .least-count .ensures) (c .before .before .least .given .1)
 
-  most : banks p ≤ 1024
+  most : c .banks .result ≤ 1024
   unfolding banks
-  most = is-plan (counted .before) .most
+  most = omega (arith, c .banks .ensures, is-plan (counted .before) .most)
 
-  least-most : n ≤ banks p
+  least-most : n ≤ c .banks .result
   least-most =
-      omega (arith, least-is, least-count-at-most (patterns book) p (is-plan (counted .before)) (suiting (counted .before)))
+      omega (
+        arith,
+        least-is,
+        c .banks .ensures,
+        least-count-at-most (patterns book) p (is-plan (counted .before)) (suiting (counted .before)),
+      )
+
+  surplus-is : c .banks .result - n ≡ banks p - leastCount (patterns book)
+  surplus-is = omega (arith, c .banks .ensures, least-is)
 
 returns-2 : tie.Need-returns-2
-unfolding banks
 returns-2 c =
-    ap (λ (least : ℕ). Verdict.Suits (record { plan = p c; surplus = p c .a * p c .d - least })) (least-is c)
+    ap (λ (surplus : ℕ). Verdict.Suits (record { plan = p c; surplus = surplus })) (surplus-is c)
     ∙ sym (judged-suits (patterns (book c)) (p c) (no-clash (counted c .before)))
 
 -- a book is counted
@@ -83,16 +90,14 @@ returns-3 c =
     absurd (book-is-counted _ (start (k .before) .pre .1) (k .least-count .ensures) (l .least2 .given .1))
 
 pub judge-spec : {M : Type 1} → statement M
-unfolding banks
 judge-spec =
     tie.close
     (tie.spec
     (λ c κs. search needs) (λ c. search needs)
     returns
-    (λ c. search needs) (λ c κs. search needs) (λ c. search needs)
-    (λ c. record { fits = omega (arith, most c) })
-    (λ c. record { fits = omega (arith, most c, least-most c) })
+    (λ c. search needs) (λ c κs. search needs) (λ c. search needs) (λ c κs. search needs)
     (λ c. omega (arith, least-most c))
+    (λ c. omega (arith, most c))
     (λ c. search needs)
     returns-2
     returns-3)

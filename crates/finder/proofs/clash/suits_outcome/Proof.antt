@@ -17,12 +17,10 @@ returns-2 : tie.Need-returns-2
 returns-2 c = suits-count _ _ _ (λ h. omega arith)
 
 returns-3 : tie.Need-returns-3
-unfolding isPlan
 returns-3 c =
     suits-no-plan _ _ _ (omega arith) (omega arith) (fails (c .before .is-plan .ensures) (c .if3 .taken))
 
 plan : (c : tie.Else3) → isPlan (c .before .before .before .before .args .p) ≡ true
-unfolding isPlan
 plan c = holds (c .before .is-plan .ensures) (c .if3 .left)
 
 clash-in-requires : tie.Need-clash-in-requires

@@ -54,7 +54,7 @@ module _ (p : Plan) (W H words : ℕ) where
         (depth-before-memory p W H words
         ∙ chain-refuses depthTest (room ∷ []) r (refusal-shows depthTest (depthOf p W H) is e)))
 
-    module _ {n : ℕ} (e : answer ≡ Counted.Number n) where
+    module _ {n m : ℕ} (e : answer ≡ Counted.Number n) (counted : m ≡ banks p) where
       depth-shows : (depthTest ≡ none) × (depthOf p W H ≡ n)
       unfolding depth
       depth-shows = number-shows depthTest (depthOf p W H) is e
@@ -66,25 +66,28 @@ module _ (p : Plan) (W H words : ℕ) where
       legal : IsPlan p × (IsSide W × IsSide H)
       legal = test-before (plan-legal-iff p) (last-test (sides-legal-iff W H)) .iff .0 (depth-shows .0)
 
-      words-at-most : p .a * p .d * n ≤ 1024 * (4096 * 4096)
+      few-banks : m ≤ 1024
+      unfolding banks
+      few-banks = omega (arith, counted, legal .0 .most)
+
+      words-at-most : m * n ≤ 1024 * (4096 * 4096)
       words-at-most =
-          mul-le-mul (legal .0 .most) (rw (depth-shows .1) at (depth-at-most p W H (legal .0) (legal .1 .0) (legal .1 .1)))
+          mul-le-mul few-banks (rw (depth-shows .1) at (depth-at-most p W H (legal .0) (legal .1 .0) (legal .1 .1)))
 
-      memory-short : words < p .a * p .d * n → Counted.Refused Refusal.Memory ≡ pictureDepth p W H words
-      unfolding banks
+      count-is : banks p * depthOf p W H ≡ m * n
+      count-is = rw (counted, depth-shows .1)
+
+      memory-short : words < m * n → Counted.Refused Refusal.Memory ≡ pictureDepth p W H words
       memory-short h =
-          sym
-          (refused Refusal.Memory
-          (past-depth ∙ memory-decides p W H words .refuses (λ l. omega (arith, rw (depth-shows .1) at l))))
+          sym (refused Refusal.Memory (past-depth ∙ memory-decides p W H words .refuses (λ l. omega (arith, count-is))))
 
-      memory-enough : p .a * p .d * n ≤ words → Counted.Number n ≡ pictureDepth p W H words
-      unfolding banks
+      memory-enough : m * n ≤ words → Counted.Number n ≡ pictureDepth p W H words
       memory-enough h =
           ap Counted.Number (sym (depth-shows .1))
-          ∙ sym (given (past-depth ∙ memory-decides p W H words .passes (rw (depth-shows .1) h)))
+          ∙ sym (given (past-depth ∙ memory-decides p W H words .passes (omega (arith, count-is))))
 
 -- the plan's call gave a number
-module _ (c : tie.After-struct-known) where
+module _ (c : tie.After-banks) where
   abbrev asked : tie.After-depth
   asked = c .before .before .before .before
 
@@ -94,23 +97,14 @@ module _ (c : tie.After-struct-known) where
   number-is : asked .depth .result ≡ Counted.Number (c .before .before .answer .given .0 .0)
   number-is = c .before .before .answer .given .1
 
-  count-small : let p = asked .before .args .p in p .a * p .d ≤ 1024
-  count-small = legal _ _ _ (asked .before .args .words) is number-is .0 .most
-
 mul-if1 : tie.Need-mul-if1
-mul-if1 c = omega (arith, count-small c)
-
-cast-if1 : tie.Need-cast-if1
-cast-if1 c = omega (arith, count-small c)
-
-mul-if1-2 : tie.Need-mul-if1-2
-mul-if1-2 c = omega (arith, words-at-most _ _ _ (asked c .before .args .words) (is c) (number-is c))
+mul-if1 c = omega (arith, words-at-most _ _ _ (asked c .before .args .words) (is c) (number-is c) (c .banks .ensures))
 
 returns : tie.Need-returns
-returns c = memory-short _ _ _ _ (is (c .before)) (number-is (c .before)) (c .if1 .taken)
+returns c = memory-short _ _ _ _ (is (c .before)) (number-is (c .before)) (c .before .banks .ensures) (c .if1 .taken)
 
 returns-2 : tie.Need-returns-2
-returns-2 c = memory-enough _ _ _ _ (is (c .before)) (number-is (c .before)) (c .if1 .left)
+returns-2 c = memory-enough _ _ _ _ (is (c .before)) (number-is (c .before)) (c .before .banks .ensures) (c .if1 .left)
 
 returns-3 : tie.Need-returns-3
 returns-3 c = no-depth _ _ _ _ (c .before .before .depth .ensures) _ (c .enum-told .given .1)
@@ -119,10 +113,8 @@ pub picture-depth-spec : {M : Type 1} → statement M
 picture-depth-spec =
     tie.close
     (tie.spec
-    (λ c κs. search needs) (λ c. search needs)
+    (λ c κs. search needs) (λ c. search needs) (λ c κs. search needs)
     mul-if1
-    cast-if1
-    mul-if1-2
     returns
     (λ c. search needs)
     returns-2
