@@ -1,19 +1,21 @@
--- What a test that found a refusal or nothing answers, what such an answer tells of its test, and what a loop that runs
--- through tests answers.
+-- What a test that found a refusal or nothing answers, what such an answer tells of its test (scope, Chains), and what a
+-- loop that runs through tests answers.
 -- Assumes nothing.
 use Prim.Native.Nat.{ℕ, _<_}
 use native.Mathlib.Omega.{arith}
-use mathlib.Core.Path.{_≡_, refl, sym, _∙_}
+use mathlib.Core.Path.{_≡_, sym}
 use mathlib.Core.Option.{Option, none, some}
 use Rattle.scope.specs.Search.{first}
 use Rattle.scope.specs.Numbers.{recordTest}
-use Rattle.scope.specs.Calls.{answered, recordOutcome}
+use Rattle.scope.specs.Calls.{recordOutcome}
 use Rattle.scope.specs.declared.Book.{Book}
 use Rattle.scope.specs.declared.Refusal.{Refusal}
 use Rattle.scope.specs.declared.Outcome.{Outcome}
 use Rattle.checks.proofs.Searches.{found-from-0, none-first}
 use Rattle.checks.proofs.Chains.{answered-none, answered-some}
 use Rattle.book.specs.Scan.{outcomeOf}
+-- what an answer tells of its test
+pub use Rattle.scope.proofs.Chains.{done-found-nothing, refused-found}
 
 pub answered-by-refusal : (t : Option Refusal) (r : Refusal) → t ≡ some r → Outcome.Refused r ≡ outcomeOf t
 answered-by-refusal t r e = sym (answered-some t Outcome.Refused Outcome.Done r e)
@@ -21,20 +23,8 @@ answered-by-refusal t r e = sym (answered-some t Outcome.Refused Outcome.Done r 
 pub answered-by-done : (t : Option Refusal) → t ≡ none → Outcome.Done ≡ outcomeOf t
 answered-by-done t e = sym (answered-none t Outcome.Refused Outcome.Done e)
 
--- the other way round
 pub done-not-refused : {r : Refusal} → Outcome.Done ≡ Outcome.Refused r → ⊥
 done-not-refused e = let z : _≡_ {A = ℕ} 0 1 = cc in omega arith
-
-module _ {outcome : Outcome} where
-  pub done-found-nothing : (t : Option Refusal) → outcome ≡ outcomeOf t → outcome ≡ Outcome.Done → t ≡ none
-  unfolding answered
-  done-found-nothing none answer done = refl
-  done-found-nothing (some r) answer done = absurd (done-not-refused (sym done ∙ answer))
-
-  pub refused-found : {r : Refusal} (t : Option Refusal) → outcome ≡ outcomeOf t → outcome ≡ Outcome.Refused r → t ≡ some r
-  unfolding answered
-  refused-found none answer refused = absurd (done-not-refused (sym answer ∙ refused))
-  refused-found (some q) answer refused = cc
 
 -- the answer of `record_outcome`
 module _ {outcome : Outcome} (book : Book) (answer : outcome ≡ recordOutcome book) where
