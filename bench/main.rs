@@ -9,6 +9,7 @@ use std::time::Instant;
 mod bankplan;
 mod pictures;
 mod records;
+mod runs;
 mod unverified;
 mod words;
 
@@ -183,9 +184,13 @@ fn main() {
     // a supplier's plan of several rows
     fetched.push(("3 by 3 block, plan 6, 4, 5", &books[2].1, Plan { a: 6, b: 4, d: 5 }));
     let listed = [fetched[0].2, fetched[4].2];
+    // lists of fetches of one small pattern, and of all patterns of the largest book
+    let [a, b, d, ..] = proved_find(&books[10].1).1.map(|x| x as u32);
+    let runs = [fetched[0], (books[10].0, &books[10].1, Plan { a, b, d })];
     if std::env::args().nth(1).as_deref() == Some("answers") {
         pictures::pictures(&fetched, false);
         records::lists(&listed, false);
+        runs::lists(&runs, false);
         println!("the unverified versions give the same answers");
         return;
     }
@@ -222,4 +227,5 @@ fn main() {
     }
     pictures::pictures(&fetched, true);
     records::lists(&listed, true);
+    runs::lists(&runs, true);
 }

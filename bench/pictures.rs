@@ -8,7 +8,7 @@ use crate::bankplan::{Book as Record, Plan};
 use crate::{seconds, time, words};
 
 /// A picture under a plan, with its memory.
-struct Picture {
+pub struct Picture {
     p: Plan,
     w: u32,
     h: u32,
@@ -16,14 +16,14 @@ struct Picture {
 }
 
 // What a call told: its number, and the value or 0.
-type Told = (u64, u64);
+pub type Told = (u64, u64);
 
 fn told<T: Into<u64>>(r: Result<T, u64>) -> Told {
     r.map_or_else(|n| (n, 0), |x| (0, x.into()))
 }
 
 impl Picture {
-    fn new(p: Plan, w: u32, h: u32) -> Picture {
+    pub fn new(p: Plan, w: u32, h: u32) -> Picture {
         let words = p.a * p.d * w.div_ceil(p.a) * h.div_ceil(p.d);
         let mem = RefCell::new((0..words).map(|k| (k * 40503 % 65521) as u16).collect());
         Picture { p, w, h, mem }
@@ -55,7 +55,7 @@ impl Picture {
         (n, answer[0])
     }
 
-    fn fetch(&self, ring: bool, r: &Record, n: usize, (i, j): (i16, i16), out: &mut [u16]) -> Told {
+    pub fn fetch(&self, ring: bool, r: &Record, n: usize, (i, j): (i16, i16), out: &mut [u16]) -> Told {
         let (p, mem, mut answer) = (&self.p, self.mem.borrow(), [0; 12]);
         let call = if ring { bankplan_ring_fetch } else { bankplan_fetch };
         let number = unsafe {

@@ -1,7 +1,7 @@
 //! The calls on a picture in Rust as one would write them without proofs: the same checks, the same memory.
 
 use crate::bankplan::{Book as Record, Plan};
-use crate::unverified::{clash_of, test_record};
+use crate::unverified::{clash_of, test_record, Verdict};
 
 /// Words in a bank, and words from one strip of rows to the next.
 struct Layout {
@@ -125,4 +125,84 @@ pub fn ring_fetch(r: &Record, p: &Plan, w: u32, h: u32, mem: &[u16], n: usize, o
         *x = mem[place(p, &l, i.rem_euclid(w as i32), j.rem_euclid(h as i32))];
     }
     Ok(r.used[n])
+}
+
+/// A refusal: its number, and of 10 the clash.
+type Refused = (u64, Option<(usize, usize, usize)>);
+
+/// A book under a plan in a picture, with what a list of calls need find out only once.
+pub struct Tested<'a> {
+    r: &'a Record,
+    p: &'a Plan,
+    w: u32,
+    h: u32,
+    layout: Result<Layout, u64>,
+    starts: [Result<(), Refused>; 16],
+}
+
+impl<'a> Tested<'a> {
+    pub fn new(r: &'a Record, p: &'a Plan, w: u32, h: u32, words: usize) -> Self {
+        let (book, layout) = (test_record(r), layout(p, w, h, words));
+        let start = |n| match (book, &layout) {
+            (0, Ok(_)) if n >= r.count => Err((17, None)),
+            (0, Ok(_)) => match clash_of(r, p, n) {
+                Some(Verdict::Clash(n, e, l)) => Err((10, Some((n, e, l)))),
+                _ => Ok(()),
+            },
+            (0, Err(number)) => Err((*number, None)),
+            (number, _) => Err((number, None)),
+        };
+        let starts = std::array::from_fn(start);
+        Tested { r, p, w, h, layout, starts }
+    }
+
+    fn layout(&self) -> Result<&Layout, Refused> {
+        self.layout.as_ref().map_err(|number| (*number, None))
+    }
+
+    fn place(&self, (i, j): (i16, i16)) -> Result<usize, Refused> {
+        let l = self.layout()?;
+        if inside(self.w, self.h, i.into(), j.into()) {
+            Ok(place(self.p, l, i.into(), j.into()))
+        } else {
+            Err((14, None))
+        }
+    }
+
+    pub fn store(&self, mem: &mut [u16], o: (i16, i16), x: u16) -> Result<(), Refused> {
+        mem[self.place(o)?] = x;
+        Ok(())
+    }
+
+    pub fn load(&self, mem: &[u16], o: (i16, i16)) -> Result<u16, Refused> {
+        Ok(mem[self.place(o)?])
+    }
+
+    pub fn clear(&self, mem: &mut [u16], k: u64) -> Result<(), Refused> {
+        let l = self.layout()?;
+        if k >= u64::from(self.p.a * self.p.d) {
+            return Err((15, None));
+        }
+        mem[k as usize * l.depth..][..l.depth].fill(0);
+        Ok(())
+    }
+
+    pub fn fetch(&self, mem: &[u16], n: usize, o: (i16, i16), out: &mut [u16]) -> Result<usize, Refused> {
+        // past the record's entries a number is not in the book, whatever the entry's tests found
+        self.starts[n.min(15)].or_else(|r| if n < 16 || r.0 != 10 { Err(r) } else { Ok(()) })?;
+        if n >= self.r.count {
+            return Err((17, None));
+        }
+        let l = self.layout()?;
+        if !moved(self.r, n, o).all(|(i, j)| inside(self.w, self.h, i, j)) {
+            return Err((14, None));
+        }
+        if out.len() < self.r.used[n] {
+            return Err((16, None));
+        }
+        for (x, (i, j)) in out.iter_mut().zip(moved(self.r, n, o)) {
+            *x = mem[place(self.p, l, i, j)];
+        }
+        Ok(self.r.used[n])
+    }
 }

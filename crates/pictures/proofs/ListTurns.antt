@@ -1,7 +1,8 @@
 -- A list of calls that is made one after the other. It goes by what is left: what the calls that are left do from here on is what
 -- the whole list does from the start.
 -- Assumes nothing.
-use Prim.Native.Nat.{ℕ, zero, suc, _+_, _*_, _-_, _/_, _≤_, _<_}
+use Prim.Native.Nat.{ℕ, zero, suc, _+_, _*_, _-_, _/_, _≤_, _<_, min}
+use native.Mathlib.Decide.{decLt}
 use native.Mathlib.Nat.{add-zero}
 use native.Mathlib.Omega.{arith}
 use mathlib.Core.Path.{_≡_, refl, sym, _∙_, ap, ap₂}
@@ -10,6 +11,9 @@ use mathlib.Core.List.{List, [], _∷_, _++_, flatMap, append-nil}
 use lib.ListN.{length, getD, take, drop, length-drop, drop-of-length-le}
 use lib.Seq.{drop-drop, getD-drop, length-take-le, take-all}
 use Rattle.scope.specs.Search.{stateAfter, repliesOf}
+use Rattle.scope.specs.Calls.{fetchStart}
+use Rattle.pictures.specs.Fetching.{foundBy}
+use Rattle.pictures.proofs.Starts.{found-by, starts-alike}
 use Rattle.scope.specs.Banks.{overStart}
 use Rattle.scope.specs.promises.Demand.{Call, Reply, Setting, after, reply, run, replies}
 use Rattle.pictures.specs.Lists.{callOf, callAt, roomOf, roomAt, callsFrom, callsOf, listFault, listTest, listedBy, leftBy, replyNumbers, outputOf, Buffers, buffers, madeList, runList, Begun, OneMade}
@@ -230,10 +234,24 @@ module _ (g : Setting) (numbers mem₀ outs₀ rows₀ : List ℕ) where
 
 -- What was found out once holds on a memory of the same length.
 pub begun-on :
-    {book : Book} {p : Plan} {W H words n : ℕ} {tested picture : Outcome} {starts : List Outcome} → n ≡ words
-    → Begun book p W H words tested picture starts
-    → Begun book p W H n tested picture starts
+    {book : Book} {p : Plan} {W H words n : ℕ} {starts : List Outcome} → n ≡ words → Begun book p W H words starts
+    → Begun book p W H n starts
 begun-on e b = rw e b
+
+-- and tells what a fetch of any pattern number begins with
+pub start-known :
+    (book : Book) (p : Plan) (W H words n : ℕ) (starts : List Outcome) {s : ℕ} → Begun book p W H words starts → s ≡ min n 16
+    → foundBy (getD starts s Outcome.Done) ≡ fetchStart book p W H words n
+start-known book p W H words n starts {s} b e = by-number (decLt n 16)
+  where
+    by-number : Dec (n < 16) → foundBy (getD starts s Outcome.Done) ≡ fetchStart book p W H words n
+    by-number (yes h) =
+        let is : s ≡ n = omega arith in
+        found-by _ (ap (λ (m : ℕ). getD starts m Outcome.Done) is ∙ b .found n (omega arith))
+    by-number (no h) =
+        let is : s ≡ 16 = omega arith in
+        found-by _ (ap (λ (m : ℕ). getD starts m Outcome.Done) is ∙ b .found 16 (omega arith))
+        ∙ starts-alike book n p W H words (omega arith)
 
 -- A list that passes its test is made, and one that does not is answered with what is wrong, and nothing changes.
 module _ (g : Setting) (numbers : List ℕ) (b : Buffers) where

@@ -13,7 +13,6 @@ use Rattle.scope.specs.Search.{firstOf}
 use Rattle.scope.specs.Plans.{Pixel, patternAt, isPlan}
 use Rattle.scope.specs.Numbers.{recordTest, numberTest, countTest, planTest, suitsTest}
 use Rattle.scope.specs.Calls.{pictureTest, fetchStart, fetchRest, eitherFetch, fetch, ringFetch}
-use Rattle.scope.specs.promises.Meaning.{IsBook}
 use Rattle.scope.specs.declared.Book.{Book}
 use Rattle.scope.specs.declared.Counted.{Counted}
 use Rattle.scope.specs.declared.Outcome.{Outcome}
@@ -27,8 +26,9 @@ use Rattle.checks.proofs.Booleans.{last-test, test-before}
 use Rattle.checks.proofs.BookTests.{book-legal-iff, count-legal-iff}
 use Rattle.checks.proofs.Chains.{chain-refuses, chain-goes-on, chain-of-one, Gives, same-gives}
 use Rattle.checks.proofs.Deciding.{number-decides}
+use Rattle.checks.proofs.Searches.{none-not-some}
 use Rattle.checks.proofs.Tests.{number-in-book-iff, plan-legal-iff}
-use Rattle.book.specs.Scan.{outcomeOf}
+use Rattle.book.specs.Scan.{outcomeOf, entryNumber}
 use Rattle.book.proofs.Outcomes.{answered-by-refusal, done-found-nothing, refused-found}
 use Rattle.book.proofs.Scanning.{entry-number-is}
 use Rattle.finder.specs.Clashing.{suitsOutcome}
@@ -45,15 +45,15 @@ entry-below : (book : Book) (n : ℕ) → n < 16 → entryFor book n ≡ pattern
 unfolding entryFor
 entry-below book n h = ap (patternAt book) (entry-number-is n h)
 
-module _ (tested picture : Option Refusal) (book : Book) (p : Plan) (n : ℕ) where
+module _ (tested picture : Option Refusal) (count : ℕ) (t : Pattern) (p : Plan) (n : ℕ) where
   abbrev start : Option Refusal
-  start = startTest tested picture book p n
+  start = startTest tested picture count t p n
 
   abbrev number : Option Refusal
-  number = numberTest (book .count) n
+  number = numberTest count n
 
   abbrev suiting : Option Refusal
-  suiting = suitsTest p n (patternAt book n)
+  suiting = suitsTest p n t
 
   -- The outcome, by the test that refuses.
   pub refused-by-tested : {r : Refusal} → tested ≡ some r → Refused r ≡ outcomeOf start
@@ -72,48 +72,85 @@ module _ (tested picture : Option Refusal) (book : Book) (p : Plan) (n : ℕ) wh
       past-picture : start ≡ firstOf (number ∷ suiting ∷ [])
       past-picture = past-tested ∙ chain-goes-on picture (number ∷ suiting ∷ []) here
 
-      pub refused-by-number : book .count ≤ n → Refused NoPattern ≡ outcomeOf start
+      pub refused-by-number : count ≤ n → Refused NoPattern ≡ outcomeOf start
       refused-by-number h =
           answered-by-refusal start NoPattern
-          (past-picture
-          ∙ chain-refuses number (suiting ∷ []) NoPattern (number-decides (book .count) n .refuses (λ below. omega arith)))
-
-      abbrev count-of : Pattern → Option Refusal
-      count-of t = countTest 64 (t .used) 0
-
-      abbrev tests-of : Pattern → Option Refusal
-      tests-of t = firstOf (count-of t ∷ planTest p ∷ suitsTest p n t ∷ [])
+          (past-picture ∙ chain-refuses number (suiting ∷ []) NoPattern (number-decides count n .refuses (λ below. omega arith)))
 
       -- the plan and the pattern's pixel count have been tested: what is left is whether the plan suits
       pub as-it-suits :
-          {answer : Outcome} → recordTest book ≡ none → isPlan p ≡ true → n < book .count → answer ≡ suitsOutcome p n (entryFor book n)
+          {answer : Outcome} → (1 ≤ t .used) × (t .used ≤ 64) → isPlan p ≡ true → n < count → answer ≡ suitsOutcome p n t
           → answer ≡ outcomeOf start
       unfolding suitsOutcome
-      as-it-suits passed plan below is =
-          is ∙ ap outcomeOf (ap (λ (t : Pattern). tests-of t) (entry-below book n (omega (arith, legal-book .most))) ∙ only-10 ∙ sym past-number)
+      as-it-suits size plan below is = is ∙ ap outcomeOf (only-10 ∙ sym past-number)
         where
-          legal-book : IsBook book
-          legal-book = book-legal-iff book .0 passed
-
-          only-10 : tests-of (patternAt book n) ≡ suiting
+          only-10 : firstOf (countTest 64 (t .used) 0 ∷ planTest p ∷ suiting ∷ []) ≡ suiting
           only-10 =
-              let t = legal-book .each n below in
-              chain-goes-on (count-of (patternAt book n)) (planTest p ∷ suiting ∷ []) (count-legal-iff 64 _ 0 .1 (t .least, t .most))
+              chain-goes-on (countTest 64 (t .used) 0) (planTest p ∷ suiting ∷ []) (count-legal-iff 64 (t .used) 0 .1 size)
               ∙ chain-goes-on (planTest p) (suiting ∷ []) (plan-legal-iff p .1 (is-plan-iff p .0 plan))
               ∙ chain-of-one suiting
 
           past-number : start ≡ suiting
-          past-number =
-              past-picture ∙ chain-goes-on number (suiting ∷ []) (number-decides (book .count) n .passes below) ∙ chain-of-one suiting
+          past-number = past-picture ∙ chain-goes-on number (suiting ∷ []) (number-decides count n .passes below) ∙ chain-of-one suiting
 
--- With what the tests of the book and of the picture found it is the chain that both fetches begin with.
-pub start-is :
-    (book : Book) (p : Plan) (W H words n : ℕ) {tested picture : Option Refusal} {answer : Outcome}
-    → tested ≡ recordTest book → picture ≡ pictureTest p W H words → answer ≡ outcomeOf (startTest tested picture book p n)
-    → foundBy answer ≡ fetchStart book p W H words n
-unfolding fetchStart startTest
-start-is book p W H words n {tested} {picture} book-found picture-found is =
-    found-by (startTest tested picture book p n) is ∙ cc (book-found, picture-found)
+-- the last of four tests counts only where the first and the third find nothing
+last-alike :
+    (a b c : Option Refusal) {d e : Option Refusal} → (a ≡ none → c ≡ none → d ≡ e)
+    → firstOf (a ∷ b ∷ c ∷ d ∷ []) ≡ firstOf (a ∷ b ∷ c ∷ e ∷ [])
+unfolding firstOf
+last-alike (some r) b c h = refl
+last-alike none (some r) c h = refl
+last-alike none none (some r) h = refl
+last-alike none none none h = rw (h refl refl) refl
+
+-- the entry that the code takes
+pub entry-is : (book : Book) (n : ℕ) {k : ℕ} → k ≡ entryNumber n → patternAt book k ≡ entryFor book n
+unfolding entryFor
+entry-is book n e = ap (patternAt book) e
+
+module _ (book : Book) (n : ℕ) where
+  -- the record that stands for a number of a legal book is that pattern's, and its pixel count is legal
+  entry-own : recordTest book ≡ none → n < book .count → entryFor book n ≡ patternAt book n
+  entry-own passed below = entry-below book n (omega (arith, book-legal-iff book .0 passed .most))
+
+  pub entry-size :
+      {tested : Option Refusal} {t : Pattern} → tested ≡ recordTest book → t ≡ entryFor book n → tested ≡ none → n < book .count
+      → (1 ≤ t .used) × (t .used ≤ 64)
+  entry-size found entry e below =
+      let passed = sym found ∙ e in
+      let legal = book-legal-iff book .0 passed .each n below in
+      rw (entry ∙ entry-own passed below) (legal .least, legal .most)
+
+  -- With what the tests of the book and of the picture found, and that record, it is the chain that both fetches begin with.
+  pub start-is :
+      (p : Plan) (W H words : ℕ) {tested picture : Option Refusal} {t : Pattern} {answer : Outcome}
+      → tested ≡ recordTest book → picture ≡ pictureTest p W H words → t ≡ entryFor book n
+      → answer ≡ outcomeOf (startTest tested picture (book .count) t p n)
+      → answer ≡ outcomeOf (fetchStart book p W H words n)
+  unfolding fetchStart startTest
+  start-is p W H words {tested} {picture} {t} book-found picture-found entry is =
+      is
+      ∙ ap outcomeOf
+      (cc (book-found, picture-found, entry)
+      ∙ last-alike (recordTest book) (pictureTest p W H words) (numberTest (book .count) n)
+      (λ passed in-book. ap (suitsTest p n) (entry-own passed (number-in-book-iff (book .count) n .0 in-book))))
+
+  -- From 16 on all numbers begin alike.
+  pub starts-alike : (p : Plan) (W H words : ℕ) → 16 ≤ n → fetchStart book p W H words 16 ≡ fetchStart book p W H words n
+  unfolding fetchStart firstOf
+  starts-alike p W H words h = by-tests (recordTest book) refl
+    where
+      by-tests :
+          (a : Option Refusal) → recordTest book ≡ a →
+          let b = pictureTest p W H words in
+          firstOf (a ∷ b ∷ numberTest (book .count) 16 ∷ suitsTest p 16 (patternAt book 16) ∷ [])
+          ≡ firstOf (a ∷ b ∷ numberTest (book .count) n ∷ suitsTest p n (patternAt book n) ∷ [])
+      by-tests (some r) e = refl
+      by-tests none e =
+          let most : book .count ≤ 16 = book-legal-iff book .0 e .most in
+          rw
+          (number-decides (book .count) 16 .refuses (λ below. omega arith), number-decides (book .count) n .refuses (λ below. omega arith))
+          (last-alike none (pictureTest p W H words) (some NoPattern) {d = suitsTest p 16 (patternAt book 16)} {e = suitsTest p n (patternAt book n)} (λ _ found. absurd (none-not-some (sym found))))
 
 -- What the first tests of a fetch show where they find nothing.
 module _ (book : Book) (p : Plan) (W H words n : ℕ) where

@@ -28,11 +28,10 @@ unfoldable pub entryFor : Book → ℕ → Pattern
 unfolding patternAt
 entryFor book n = patternAt book (entryNumber n)
 
--- what a fetch begins with, given what the tests of the book and those of the picture found
-unfoldable pub startTest : Option Refusal → Option Refusal → Book → Plan → ℕ → Option Refusal
-unfolding firstOf numberTest suitsTest patternAt
-startTest tested picture book p n =
-    firstOf (tested ∷ picture ∷ numberTest (book .count) n ∷ suitsTest p n (patternAt book n) ∷ [])
+-- what a fetch of the pattern t, number n of `count`, begins with, given what the tests of the book and of the picture found
+unfoldable pub startTest : Option Refusal → Option Refusal → ℕ → Pattern → Plan → ℕ → Option Refusal
+unfolding firstOf numberTest suitsTest
+startTest tested picture count t p n = firstOf (tested ∷ picture ∷ numberTest count n ∷ suitsTest p n t ∷ [])
 
 -- the words at these pixels, wrapped
 unfoldable pub wordsAt : Plan → ℕ → ℕ → List ℕ → List Pixel → List ℕ

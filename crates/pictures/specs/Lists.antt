@@ -15,15 +15,14 @@ use lib.ListN.{length, getD, take, drop, replicate}
 use Rattle.scope.specs.Search.{whenever, firstOf}
 use Rattle.scope.specs.Plans.{at}
 use Rattle.scope.specs.Banks.{overStart}
-use Rattle.scope.specs.Numbers.{Answer, value, refusal, recordTest}
-use Rattle.scope.specs.Calls.{Result, pictureTest}
+use Rattle.scope.specs.Numbers.{Answer, value, refusal}
+use Rattle.scope.specs.Calls.{Result, fetchStart}
 use Rattle.scope.specs.promises.Demand.{Write, store, clear, Read, load, fetch, Call, write, read, Reply, wrote, loaded, fetched, Setting, after, reply, run, replies}
 use Rattle.scope.specs.declared.Book.{Book}
 use Rattle.scope.specs.declared.Plan.{Plan}
 use Rattle.scope.specs.declared.Clash.{Clash}
 use Rattle.scope.specs.declared.Outcome.{Outcome}
 use Rattle.book.specs.Scan.{outcomeOf}
-use Rattle.pictures.specs.Fetching.{foundBy, startTest}
 use Rattle.pictures.specs.declared.lists.Listed.{Listed}
 
 abbrev pub setting : Book → Plan → ℕ → ℕ → Setting
@@ -155,15 +154,9 @@ runList g xs b =
     let wrong : Option Listed = listTest xs (length (b .outputs)) (length (b .rows)) in
     record { answer = listedBy wrong; content = leftBy wrong b (madeList g xs b) }
 
--- What the code has found out once: what the tests of the book and of the picture found, and what a fetch of each of the first
--- 16 pattern numbers begins with
-pub record Begun
-    (book : Book) (p : Plan) (W H words : ℕ) (tested picture : Outcome) (starts : List Outcome) : Type 0
-  where
-    pub book-found : foundBy tested ≡ recordTest book
-    pub picture-found : foundBy picture ≡ pictureTest p W H words
-    pub starts-found :
-        (n : ℕ) → n < 16 → getD starts n Outcome.Done ≡ outcomeOf (startTest (foundBy tested) (foundBy picture) book p n)
+-- What the code has found out once: what a fetch of each pattern number up to 16 begins with
+pub record Begun (book : Book) (p : Plan) (W H words : ℕ) (starts : List Outcome) : Type 0 where
+  pub found : (n : ℕ) → n < 17 → getD starts n Outcome.Done ≡ outcomeOf (fetchStart book p W H words n)
 
 -- a fetch's output after its reply, that of another call as it was
 abbrev pub stretchAfter : Reply → List ℕ → List ℕ

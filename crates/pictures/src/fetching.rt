@@ -15,32 +15,26 @@ use scope::Refusal;
 ghost use mathlib.Core.Path.{_≡_};
 ghost use mathlib.Core.Bool.{true, false};
 ghost use mathlib.Core.Option.{none};
-ghost use Prim.Native.Nat.{_≤_};
+ghost use Prim.Native.Nat.{_≤_, _<_};
 ghost use lib.ListN.{length};
 ghost use Rattle.scope.specs.Plans.{at, isPlan};
-ghost use Rattle.scope.specs.Numbers.{recordTest, isRing};
+ghost use Rattle.scope.specs.Numbers.{isRing};
 ghost use Rattle.scope.specs.Calls.{pictureTest, moved, edgeTest, fetchRest, eitherFetch, fetch, ringFetch};
 ghost use Rattle.book.specs.Scan.{outcomeOf};
-ghost use Rattle.pictures.specs.Fetching.{foundBy, entryFor, startTest, delivered};
+ghost use Rattle.pictures.specs.Fetching.{foundBy, startTest, delivered};
 
-// The record of pattern n, the last one where there is none.
-pub(crate) fn entry_for(book: Book, n: usize) -> Pattern
-    ensures { λ r. ⌜ r ≡ entryFor book n ⌝ }
-{
-    let k = entry_number(n);
-    book.patterns[k]
-}
-
-// What a fetch of pattern n begins with: what the tests of the book and of the picture found, then 17, 10.
+// What a fetch of the pattern t, number n of `count`, begins with: what the tests of the book and of the picture found, then 17,
+// 10.
 pub(crate) fn start_outcome(
     tested: Outcome,
     picture: Outcome,
-    book: Book,
+    count: usize,
+    t: Pattern,
     p: Plan,
     n: usize,
 ) -> Outcome
-    requires { ⌜ (foundBy tested ≡ recordTest book) × (foundBy picture ≡ none → isPlan p ≡ true) ⌝ }
-    ensures { λ r. ⌜ r ≡ outcomeOf (startTest (foundBy tested) (foundBy picture) book p n) ⌝ }
+    requires { ⌜ (foundBy tested ≡ none → n < count → (1 ≤ t .used) × (t .used ≤ 64)) × (foundBy picture ≡ none → isPlan p ≡ true) ⌝ }
+    ensures { λ r. ⌜ r ≡ outcomeOf (startTest (foundBy tested) (foundBy picture) count t p n) ⌝ }
 {
     if let Outcome::Refused(_) = tested {
         return tested;
@@ -48,10 +42,10 @@ pub(crate) fn start_outcome(
     if let Outcome::Refused(_) = picture {
         return picture;
     }
-    if book.count <= n {
+    if count <= n {
         return Outcome::Refused(Refusal::NoPattern);
     }
-    suits_outcome(p, n, entry_for(book, n))
+    suits_outcome(p, n, t)
 }
 
 // Whether a ring fetch is allowed.
@@ -148,8 +142,9 @@ fn either_fetch(
 {
     let tested = record_outcome(book);
     let picture = picture_outcome(p, w, h, mem.len());
-    let start = start_outcome(tested, picture, book, p, n);
-    let t = entry_for(book, n);
+    let k = entry_number(n);
+    let t = book.patterns[k];
+    let start = start_outcome(tested, picture, book.count, t, p, n);
     fetch_rest(start, ring, t, p, w, h, mem, i, j, out)
 }
 

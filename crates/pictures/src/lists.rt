@@ -1,7 +1,6 @@
 // A list of demand 3's calls in numbers, made one after the other. The book, and whether the plan suits each pattern, are
 // tested once.
 use crate::banks::clear;
-use crate::fetching::entry_for;
 use crate::fetching::fetch_rest;
 use crate::fetching::start_outcome;
 use crate::places::picture_outcome;
@@ -11,21 +10,21 @@ use crate::rows::outcome_row;
 use crate::rows::put_row;
 use crate::words::load;
 use crate::words::store;
+use book::entry_number;
 use book::record_outcome;
 use scope::Book;
 use scope::Outcome;
+use scope::Pattern;
 use scope::Plan;
 ghost use mathlib.Core.Path.{_≡_};
 ghost use mathlib.Core.Option.{none};
-ghost use Prim.Native.Nat.{ℕ, _*_, _/_, _≤_, _<_};
+ghost use Prim.Native.Nat.{ℕ, _*_, _/_, _≤_, _<_, min};
 ghost use lib.ListN.{length, getD};
-ghost use mathlib.Core.Bool.{true};
-ghost use Rattle.scope.specs.Plans.{isPlan};
+ghost use Rattle.scope.specs.declared.Book.{Book};
 ghost use Rattle.scope.specs.declared.Outcome.{Outcome};
 ghost use Rattle.book.specs.Scan.{outcomeOf};
-ghost use Rattle.scope.specs.Numbers.{recordTest};
-ghost use Rattle.scope.specs.Calls.{pictureTest};
-ghost use Rattle.pictures.specs.Fetching.{foundBy, startTest};
+ghost use Rattle.scope.specs.Calls.{pictureTest, fetchStart};
+ghost use Rattle.pictures.specs.Fetching.{foundBy, entryFor};
 ghost use Rattle.pictures.specs.Lists.{setting, coordinateOf, callOf, roomOf, isCall, listFault, listTest, listedBy, buffers, madeList, runList, Begun, OneMade};
 
 // What came of a list: it was made, or it was not and nothing changed, because the numbers from this place on are no call's, or
@@ -114,44 +113,34 @@ fn list_outcome(numbers: &[u64], outs: usize, rows: usize) -> Listed
     fault
 }
 
-// What a fetch of each of the first 16 pattern numbers begins with.
-fn starts_of(tested: Outcome, picture: Outcome, book: Book, p: Plan) -> [Outcome; 16]
-    requires { ⌜ (foundBy tested ≡ recordTest book) × (foundBy picture ≡ none → isPlan p ≡ true) ⌝ }
-    ensures { λ r. ⌜ ((n : ℕ) → n < 16 → getD r n Outcome.Done ≡ outcomeOf (startTest (foundBy tested) (foundBy picture) book p n)) ⌝ }
+// What a fetch of the pattern numbers 0 to 16 begins with; the record has no entry 16.
+fn starts_of(book: Book, p: Plan, w: u32, h: u32, words: usize) -> [Outcome; 17]
+    ensures { λ r. ⌜ ((n : ℕ) → n < 17 → getD r n Outcome.Done ≡ outcomeOf (fetchStart book p w h words n)) ⌝ }
 {
-    let mut starts = [Outcome::Done; 16];
+    let tested = record_outcome(book);
+    let picture = picture_outcome(p, w, h, words);
+    let mut starts = [Outcome::Done; 17];
     let mut n = 0;
-    while n < 16 {
-        starts[n] = start_outcome(tested, picture, book, p, n);
+    while n < 17 {
+        let k = entry_number(n);
+        let t = book.patterns[k];
+        starts[n] = start_outcome(tested, picture, book.count, t, p, n);
         n += 1;
     }
     starts
 }
 
-// The same for any pattern number.
-fn start_for(
-    starts: [Outcome; 16],
-    tested: Outcome,
-    picture: Outcome,
-    book: Book,
-    p: Plan,
-    n: usize,
-) -> Outcome
-    requires { ⌜ (foundBy tested ≡ recordTest book) × (foundBy picture ≡ none → isPlan p ≡ true) × ((m : ℕ) → m < 16 → getD starts m Outcome.Done ≡ outcomeOf (startTest (foundBy tested) (foundBy picture) book p m)) ⌝ }
-    ensures { λ r. ⌜ r ≡ outcomeOf (startTest (foundBy tested) (foundBy picture) book p n) ⌝ }
+// Which of these is that of pattern number n: from 16 on all are alike.
+fn start_number(n: u64) -> usize
+    ensures { λ r. ⌜ r ≡ min n 16 ⌝ }
 {
-    if n < 16 {
-        return starts[n];
-    }
-    start_outcome(tested, picture, book, p, n)
+    if n < 16 { n as usize } else { 16 }
 }
 
-// Makes the call of these numbers. Only a fetch uses the output.
+// Makes the call of these numbers. Only a fetch uses the output, what it begins with and the record of its pattern.
 fn make_call(
-    book: Book,
-    tested: Outcome,
-    picture: Outcome,
-    starts: [Outcome; 16],
+    start: Outcome,
+    t: Pattern,
     p: Plan,
     w: u32,
     h: u32,
@@ -162,8 +151,8 @@ fn make_call(
     n: u64,
     out: &mut [u16],
 ) -> [u64; 12]
-    requires { ⌜ Begun book p w h (length (now mem)) tested picture starts ⌝ }
-    ensures { λ r. ⌜ OneMade (setting book p w h) (now (mem .entry)) (callOf kind i j n (now (out .entry))) (now (out .entry)) r (now (mem .exit)) (now (out .exit)) ⌝ }
+    requires { ⌜ (foundBy start ≡ none → (pictureTest p w h (length (now mem)) ≡ none) × (t .used ≤ 64)) ⌝ }
+    ensures { λ r. ⌜ ((book : Book) → foundBy start ≡ fetchStart book p w h (length (now (mem .entry))) n → t ≡ entryFor book n → OneMade (setting book p w h) (now (mem .entry)) (callOf kind i j n (now (out .entry))) (now (out .entry)) r (now (mem .exit)) (now (out .exit))) ⌝ }
 {
     if kind == 1 {
         return outcome_row(clear(p, w, h, mem, n));
@@ -176,17 +165,13 @@ fn make_call(
     if kind == 2 {
         return loaded_row(load(p, w, h, mem, x, y));
     }
-    let start = start_for(starts, tested, picture, book, p, n as usize);
-    let t = entry_for(book, n as usize);
     counted_row(fetch_rest(start, false, t, p, w, h, mem, x, y, out))
 }
 
 // Makes the calls of a list of numbers, five to a call, one after the other.
 fn make_calls(
     book: Book,
-    tested: Outcome,
-    picture: Outcome,
-    starts: [Outcome; 16],
+    starts: [Outcome; 17],
     p: Plan,
     w: u32,
     h: u32,
@@ -195,7 +180,7 @@ fn make_calls(
     outs: &mut [u16],
     rows: &mut [u64],
 )
-    requires { ⌜ Begun book p w h (length (now mem)) tested picture starts × (listFault (length (now numbers) / 5) 0 (now numbers) (length (now outs)) ≡ none) × (12 * (length (now numbers) / 5) ≤ length (now rows)) ⌝ }
+    requires { ⌜ Begun book p w h (length (now mem)) starts × (listFault (length (now numbers) / 5) 0 (now numbers) (length (now outs)) ≡ none) × (12 * (length (now numbers) / 5) ≤ length (now rows)) ⌝ }
     ensures { λ r. ⌜ buffers (now (mem .exit)) (now (outs .exit)) (now (rows .exit)) ≡ madeList (setting book p w h) (now (numbers .entry)) (buffers (now (mem .entry)) (now (outs .entry)) (now (rows .entry))) ⌝ }
 {
     let mut left = numbers.len() / 5;
@@ -204,12 +189,15 @@ fn make_calls(
     let mut at = 0;
     while 0 < left {
         let kind = numbers[k];
+        let n = numbers[k + 3];
+        let s = start_number(n);
+        let start = starts[s];
+        let e = entry_number(n as usize);
+        let t = book.patterns[e];
         let end = at + room_of(kind, numbers[k + 4]) as usize;
         let row = make_call(
-            book,
-            tested,
-            picture,
-            starts,
+            start,
+            t,
             p,
             w,
             h,
@@ -217,7 +205,7 @@ fn make_calls(
             kind,
             numbers[k + 1],
             numbers[k + 2],
-            numbers[k + 3],
+            n,
             &mut outs[at..end],
         );
         put_row(row, &mut rows[q..]);
@@ -245,22 +233,8 @@ pub fn run_list(
 {
     let outcome = list_outcome(numbers, outs.len(), rows.len());
     if let Listed::Made = outcome {
-        let tested = record_outcome(book);
-        let picture = picture_outcome(p, w, h, mem.len());
-        let starts = starts_of(tested, picture, book, p);
-        make_calls(
-            book,
-            tested,
-            picture,
-            starts,
-            p,
-            w,
-            h,
-            mem,
-            numbers,
-            outs,
-            rows,
-        );
+        let starts = starts_of(book, p, w, h, mem.len());
+        make_calls(book, starts, p, w, h, mem, numbers, outs, rows);
     }
     outcome
 }

@@ -1,15 +1,19 @@
 -- `pictures::fetching::either_fetch` meets its contract: the first tests, then the rest with the record that stands for the pattern.
 -- Assumes nothing.
-use mathlib.Core.Path.{_≡_, sym, _∙_}
+use Prim.Native.Nat.{ℕ, _<_}
+use native.Mathlib.Omega.{arith}
+use mathlib.Core.Path.{_≡_, sym, _∙_, subst}
 use lib.ListN.{length}
 use borrow.Author.Needs.{needs}
 use Rattle.scope.specs.Numbers.{recordTest}
 use Rattle.scope.specs.Calls.{recordOutcome, pictureTest, fetchStart}
 use Rattle.scope.proofs.PlanFacts.{is-plan-iff}
-use Rattle.pictures.specs.Fetching.{foundBy}
+use Rattle.scope.specs.Plans.{patternAt}
+use Rattle.book.proofs.Scanning.{entry-number-below}
+use Rattle.pictures.specs.Fetching.{foundBy, entryFor}
 use Rattle.pictures.proofs.CallTests.{picture-test-iff}
 use Rattle.scope.proofs.PlanFacts.{pixel-handed}
-use Rattle.pictures.proofs.Starts.{found-by, start-is, started, fetched-by-entry}
+use Rattle.pictures.proofs.Starts.{found-by, entry-is, entry-size, start-is, started, fetched-by-entry}
 use Rattle.pictures.proofs.fetching.either_fetch.Statement.{statement}
 use Rattle.pictures.proofs.fetching.either_fetch.Tie as tie
 
@@ -18,7 +22,7 @@ module _ (c : tie.After-picture-outcome) where
   abbrev given : tie.Start
   given = c .before .before .before .before
 
-  book-found : foundBy (c .before .record-outcome .result) ≡ recordTest (given .args .book)
+  book-found : foundBy (c .before .record-outcome .result) ≡ recordTest (given .args .t2)
   unfolding recordOutcome
   book-found = found-by _ (c .before .record-outcome .ensures)
 
@@ -27,33 +31,60 @@ module _ (c : tie.After-picture-outcome) where
       foundBy (c .picture-outcome .result) ≡ pictureTest (u .p) (u .w) (u .h) (length (u .mem .now))
   picture-found = found-by _ (c .picture-outcome .ensures)
 
--- and all that a fetch begins with
-start-found :
-    (c : tie.After-start-outcome) →
-    let u = given (c .before) .args in
-    foundBy (c .start-outcome .result) ≡ fetchStart (u .book) (u .p) (u .w) (u .h) (length (u .mem .now)) (u .n)
-start-found c = start-is _ _ _ _ _ _ (book-found (c .before)) (picture-found (c .before)) (c .start-outcome .ensures)
+-- the record that stands for the pattern is taken
+module _ (c : tie.After-entry-number) where
+  abbrev asked : tie.After-picture-outcome
+  asked = c .before
+
+  below-16 : c .entry-number .result < 16
+  below-16 = subst (λ (k : ℕ). k < 16) (sym (c .entry-number .ensures)) (entry-number-below (given asked .args .n))
+
+  own-entry : patternAt (given asked .args .t2) (c .entry-number .result) ≡ entryFor (given asked .args .t2) (given asked .args .n)
+  own-entry = entry-is _ _ (c .entry-number .ensures)
 
 start-outcome-requires : tie.Need-start-outcome-requires
-start-outcome-requires c κs = (
-  book-found c,
-  λ e. is-plan-iff _ .1 (picture-test-iff _ _ _ _ .0 (sym (picture-found c) ∙ e) .plan),
-)
+unfolding patternAt
+start-outcome-requires c κs =
+    let e = c .before in (
+      λ passed below. entry-size _ _ (book-found (asked e)) (own-entry e) passed below,
+      λ passed. is-plan-iff _ .1 (picture-test-iff _ _ _ _ .0 (sym (picture-found (asked e)) ∙ passed) .plan),
+    )
+
+-- and all that a fetch begins with is found
+start-found :
+    (c : tie.After-start-outcome) →
+    let u = given (asked (c .before .before)) .args in
+    foundBy (c .start-outcome .result) ≡ fetchStart (u .t2) (u .p) (u .w) (u .h) (length (u .mem .now)) (u .n)
+unfolding patternAt
+start-found c =
+    let e = c .before .before in
+    found-by _ (start-is _ _ _ _ _ _ (book-found (asked e)) (picture-found (asked e)) (own-entry e) (c .start-outcome .ensures))
 
 fetch-rest-requires : tie.Need-fetch-rest-requires
+unfolding patternAt
 fetch-rest-requires c κs =
-    let s = c .before .before in
+    let s = c .before in
     λ e.
     let shown = started _ _ _ _ _ _ (sym (start-found s) ∙ e) in
-    (shown .picture, rw (c .before .entry-for .ensures) (shown .most))
+    (shown .picture, rw (own-entry (s .before .before)) (shown .most))
 
 returns : tie.Need-returns
+unfolding patternAt
 returns c =
     let d = c .before .before in
-    let e = d .before .before in
-    let s = e .before in
-    let f = given (s .before) .fits in
-    fetched-by-entry _ _ _ _ _ _ _ _ _ (start-found s) (e .entry-for .ensures) (pixel-handed (f .i) (f .j)) (d .fetch-rest .ensures)
+    let s = d .before .before in
+    let e = s .before .before in
+    let f = given (asked e) .fits in
+    fetched-by-entry _ _ _ _ _ _ _ _ _ (start-found s) (own-entry e) (pixel-handed (f .i) (f .j)) (d .fetch-rest .ensures)
 
 pub either-fetch-spec : {M : Type 1} → statement M
-either-fetch-spec = tie.close (tie.spec (λ c κs. search needs) (λ c κs. search needs) start-outcome-requires (λ c κs. search needs) fetch-rest-requires (λ c. search needs) returns)
+either-fetch-spec =
+    tie.close
+    (tie.spec
+    (λ c κs. search needs) (λ c κs. search needs) (λ c κs. search needs)
+    (λ c. record { fits = omega (arith, below-16 c) })
+    (λ c. below-16 c)
+    start-outcome-requires
+    fetch-rest-requires
+    (λ c. search needs)
+    returns)

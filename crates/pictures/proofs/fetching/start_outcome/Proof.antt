@@ -1,36 +1,34 @@
 -- `pictures::fetching::start_outcome` meets its contract: what was found before, then the number, then whether the plan suits.
 -- Assumes nothing.
-use mathlib.Core.Path.{_≡_, sym, _∙_, ap}
+use mathlib.Core.Path.{_∙_, ap}
 use borrow.Author.Needs.{needs}
-use Rattle.finder.specs.Clashing.{suitsOutcome}
 use Rattle.pictures.specs.Fetching.{foundBy}
 use Rattle.pictures.proofs.Starts.{refused-by-tested, refused-by-picture, refused-by-number, as-it-suits}
 use Rattle.pictures.proofs.fetching.start_outcome.Statement.{statement}
 use Rattle.pictures.proofs.fetching.start_outcome.Tie as tie
 
 returns : tie.Need-returns
-returns c = let refused = c .enum-told .given .1 in refused ∙ refused-by-tested _ _ _ _ _ (ap foundBy refused)
+returns c = let refused = c .enum-told .given .1 in refused ∙ refused-by-tested _ _ _ _ _ _ (ap foundBy refused)
 
 returns-2 : tie.Need-returns-2
 returns-2 c =
     let refused = c .enum-told3 .given .1 in
-    refused ∙ refused-by-picture _ _ _ _ _ (ap foundBy (c .before .before .enum-told2 .given .1)) (ap foundBy refused)
+    refused ∙ refused-by-picture _ _ _ _ _ _ (ap foundBy (c .before .before .enum-told2 .given .1)) (ap foundBy refused)
 
 returns-3 : tie.Need-returns-3
 returns-3 c =
-    let k = c .before .before in
-    refused-by-number _ _ _ _ _ (ap foundBy (k .before .before .enum-told2 .given .1)) (ap foundBy (k .enum-told4 .given .1))
+    let k = c .before in
+    refused-by-number _ _ _ _ _ _ (ap foundBy (k .before .before .enum-told2 .given .1)) (ap foundBy (k .enum-told4 .given .1))
     (c .if1 .taken)
 
 returns-4 : tie.Need-returns-4
 returns-4 c =
-    let e = c .before .before in
-    let k = e .before .before in
+    let e = c .before in
+    let k = e .before in
     let tested = ap foundBy (k .before .before .enum-told2 .given .1) in
     let picture = ap foundBy (k .enum-told4 .given .1) in
     let pre = k .before .before .before .before .pre in
-    as-it-suits _ _ _ _ _ tested picture (sym (pre .0) ∙ tested) (pre .1 picture) (e .if1 .left)
-    (c .suits-outcome .ensures ∙ ap (suitsOutcome _ _) (c .before .entry-for .ensures))
+    as-it-suits _ _ _ _ _ _ tested picture (pre .0 tested (e .if1 .left)) (pre .1 picture) (e .if1 .left) (c .suits-outcome .ensures)
 
 pub start-outcome-spec : {M : Type 1} → statement M
-start-outcome-spec = tie.close (tie.spec (λ c. search needs) returns (λ c. search needs) (λ c. search needs) returns-2 (λ c. search needs) returns-3 (λ c κs. search needs) (λ c κs. search needs) returns-4)
+start-outcome-spec = tie.close (tie.spec (λ c. search needs) returns (λ c. search needs) (λ c. search needs) returns-2 (λ c. search needs) returns-3 (λ c κs. search needs) returns-4)
