@@ -1,23 +1,31 @@
--- The tests 11, 12, 13 of a picture, and what the answers of depth and place tell of the tests of the calls.
+-- The tests 11, 12, 13 of a picture, what the answers of depth and place tell of the tests of the calls, and what a call
+-- answers and leaves by what its tests found.
 -- Assumes nothing.
 use Prim.Native.Nat.{ℕ, _<_}
 use native.Mathlib.Omega.{arith}
-use mathlib.Core.Path.{_≡_}
-use mathlib.Core.Option.{none, some}
-use mathlib.Core.List.{[], _∷_}
+use mathlib.Core.Path.{_≡_, sym, _∙_, ap}
+use mathlib.Core.Option.{Option, none, some}
+use mathlib.Core.List.{List, [], _∷_}
 use Rattle.scope.specs.Search.{firstOf}
 use Rattle.scope.specs.Plans.{Pixel}
 use Rattle.scope.specs.Banks.{depthOf, wordOf}
 use Rattle.scope.specs.Numbers.{planTest, sidesTest, memoryTest}
-use Rattle.scope.specs.Calls.{pictureTest, wordTest, wholeBankTest}
+use Rattle.scope.specs.Calls.{Result, Lent, lent, answered, changed, pictureTest, wordTest, wholeBankTest}
 use Rattle.scope.specs.declared.Plan.{Plan}
 use Rattle.scope.specs.declared.Counted.{Counted}
+use Rattle.scope.specs.declared.Outcome.{Outcome}
 use Rattle.scope.specs.declared.Refusal.{Refusal}
-use Rattle.checks.proofs.Chains.{tests-as-one}
+use Rattle.checks.proofs.Chains.{tests-as-one, answered-none, answered-some, value-given, refusal-given}
 use Rattle.lattice.proofs.Words.{pixels-have-words}
 use Rattle.pictures.proofs.CallTests.{word-test-iff}
 use Rattle.pictures.specs.Places.{pictureDepth, wordPlace, bankDepth}
 use Rattle.checks.proofs.CountedAnswers.{number-shows, refusal-shows}
+
+-- The pixel's word is the one at n, in the memory.
+pub record PlaceIn (p : Plan) (W H words : ℕ) (v : Pixel) (n : ℕ) : Type 0 where
+  pub passed : wordTest p W H words v ≡ none
+  pub place-is : wordOf p W H v ≡ n
+  pub in-memory : n < words
 
 module _ (p : Plan) (W H words : ℕ) where
   -- They are those of the depth, 11 and 12, before that of the memory.
@@ -42,18 +50,19 @@ module _ (p : Plan) (W H words : ℕ) where
     unfolding pictureDepth
     picture-refusal-shows = refusal-shows (pictureTest p W H words) (depthOf p W H) is
 
-  -- that of `word_place`,
-  module _ (v : Pixel) {answer : Counted} (is : answer ≡ wordPlace p W H words v) where
-    pub place-shows : {n : ℕ} → answer ≡ Counted.Number n → (wordTest p W H words v ≡ none) × (wordOf p W H v ≡ n)
+  -- that of `word_place`, to which the pixel v was handed as u,
+  module _ {u v : Pixel} (handed : u ≡ v) {answer : Counted} (is : answer ≡ wordPlace p W H words u) where
+    place-tested : answer ≡ answered (wordTest p W H words v) Counted.Refused (Counted.Number (wordOf p W H v))
     unfolding wordPlace
-    place-shows = number-shows (wordTest p W H words v) (wordOf p W H v) is
+    place-tested = is ∙ ap (wordPlace p W H words) handed
 
-    pub place-in-memory : {n : ℕ} → answer ≡ Counted.Number n → n < words
-    place-in-memory e = let (passed, same) = place-shows e in rw same at (word-in-memory v passed)
+    pub place-in : {n : ℕ} → answer ≡ Counted.Number n → PlaceIn p W H words v n
+    place-in e =
+        let (passed, same) = number-shows (wordTest p W H words v) (wordOf p W H v) place-tested e in
+        record { passed = passed; place-is = same; in-memory = rw same at (word-in-memory v passed) }
 
     pub place-refusal-shows : {r : Refusal} → answer ≡ Counted.Refused r → wordTest p W H words v ≡ some r
-    unfolding wordPlace
-    place-refusal-shows = refusal-shows (wordTest p W H words v) (wordOf p W H v) is
+    place-refusal-shows = refusal-shows (wordTest p W H words v) (wordOf p W H v) place-tested
 
   -- and that of `bank_depth`.
   module _ (k : ℕ) {answer : Counted} (is : answer ≡ bankDepth p W H words k) where
@@ -64,3 +73,30 @@ module _ (p : Plan) (W H words : ℕ) where
     pub bank-refusal-shows : {r : Refusal} → answer ≡ Counted.Refused r → wholeBankTest p W H words k ≡ some r
     unfolding bankDepth
     bank-refusal-shows = refusal-shows (wholeBankTest p W H words k) (depthOf p W H) is
+
+-- A call that writes gives this answer and leaves this memory.
+abbrev pub Leaves : Result Outcome Lent → Outcome → List ℕ → Type 0
+Leaves result answer memory = (answer ≡ result .answer) × (memory ≡ result .content .memory)
+
+-- Where its tests found nothing, a call gives its value; one that writes is done, and leaves what it wrote.
+module _ {t : Option Refusal} (passed : t ≡ none) where
+  pub gives-value : {X : Type 0} (refused : Refusal → X) {given x : X} → given ≡ x → given ≡ answered t refused x
+  gives-value refused {x} e = e ∙ sym (answered-none t refused x passed)
+
+  pub leaves-written :
+      (mem after : List ℕ) {content : List ℕ} → content ≡ after
+      → Leaves (changed t Outcome.Refused (lent mem) Outcome.Done (lent after)) Outcome.Done content
+  leaves-written mem after e =
+      let (done, left) = value-given t Outcome.Refused (lent mem) Outcome.Done (lent after) passed in
+      (done, e ∙ ap (λ (l : Lent). l .memory) left)
+
+-- Where they found a refusal, it gives that in its own way; one that writes leaves the memory as it was.
+module _ {t : Option Refusal} {r : Refusal} (found : t ≡ some r) where
+  pub gives-refusal : {X : Type 0} (refused : Refusal → X) (x : X) → refused r ≡ answered t refused x
+  gives-refusal refused x = sym (answered-some t refused x r found)
+
+  pub leaves-as-it-was :
+      (mem after : List ℕ) → Leaves (changed t Outcome.Refused (lent mem) Outcome.Done (lent after)) (Outcome.Refused r) mem
+  leaves-as-it-was mem after =
+      let (answer, left) = refusal-given t Outcome.Refused (lent mem) Outcome.Done (lent after) r found in
+      (answer, ap (λ (l : Lent). l .memory) left)

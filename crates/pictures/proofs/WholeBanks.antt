@@ -1,33 +1,25 @@
--- What a call that writes leaves. What the depth that `bank_depth` gives tells of a bank: the call's tests found nothing, where the bank stands, and what
+-- What the depth that `bank_depth` gives tells of a bank: the call's tests found nothing, where the bank stands, and what
 -- the part of the memory that the code takes for it is.
 -- Assumes nothing.
 use Prim.Native.Nat.{ℕ, _+_, _*_, _-_, _≤_, _<_}
 use native.Mathlib.Omega.{arith}
 use native.Mathlib.Nat.{mul-le-mul}
-use mathlib.Core.Path.{_≡_, ap}
+use mathlib.Core.Path.{_≡_}
 use mathlib.Core.Option.{none}
 use mathlib.Core.List.{List, _++_}
 use lib.ListN.{length, take, drop, replicate, length-drop}
 use lib.Seq.{length-take-le, drop-drop}
 use Rattle.scope.specs.Plans.{banks}
 use Rattle.scope.specs.Banks.{depthOf, bankWords, afterClear}
-use Rattle.scope.specs.Calls.{Result, Lent, lent, wholeBankTest}
+use Rattle.scope.specs.Calls.{wholeBankTest}
 use Rattle.scope.specs.declared.Plan.{Plan}
 use Rattle.scope.specs.declared.Counted.{Counted}
-use Rattle.scope.specs.declared.Outcome.{Outcome}
-use Rattle.checks.proofs.Chains.{Gives}
 use Rattle.pictures.proofs.CallTests.{bank-test-iff}
 use Rattle.pictures.proofs.Memory.{bank-in-picture}
 use Rattle.lattice.proofs.Words.{depth-at-most}
 use Rattle.pictures.specs.Places.{bankDepth}
 use Rattle.pictures.proofs.PictureTests.{bank-shows}
-
--- A call that writes gives this answer and leaves this memory.
-abbrev pub Leaves : Result Outcome Lent → Outcome → List ℕ → Type 0
-Leaves result answer memory = (answer ≡ result .answer) × (memory ≡ result .content .memory)
-
-pub kept : {result : Result Outcome Lent} {answer : Outcome} {mem : List ℕ} → Gives result answer (lent mem) → Leaves result answer mem
-kept (answer, content) = (answer, ap (λ (l : Lent). l .memory) content)
+pub use Rattle.pictures.proofs.PictureTests.{Leaves}
 
 -- Bank k has `deep` words. There are at most 1024 banks of at most 2^24 words, so its end is at most 2^34, and it is in the
 -- memory.

@@ -3,54 +3,42 @@
 -- Assumes nothing.
 use Prim.Native.Nat.{ℕ}
 use native.Mathlib.Omega.{arith}
-use mathlib.Core.Path.{_≡_, _∙_, ap}
-use mathlib.Core.Option.{Option}
+use mathlib.Core.Path.{_≡_}
 use mathlib.Core.List.{List}
 use lib.ListN.{length}
 use borrow.Author.Needs.{needs}
 use Rattle.scope.specs.Banks.{afterClear}
-use Rattle.scope.specs.Calls.{Lent, lent, wholeBankTest, clear}
+use Rattle.scope.specs.Calls.{lent, clear}
 use Rattle.scope.specs.declared.Plan.{Plan}
 use Rattle.scope.specs.declared.Counted.{Counted}
 use Rattle.scope.specs.declared.Outcome.{Outcome}
 use Rattle.scope.specs.declared.Refusal.{Refusal}
-use Rattle.checks.proofs.Chains.{value-given, refusal-given}
 use Rattle.pictures.specs.Places.{bankDepth}
-use Rattle.pictures.proofs.PictureTests.{bank-refusal-shows}
-use Rattle.pictures.proofs.WholeBanks.{Leaves, kept, BankIn, bank-in, part-cleared}
+use Rattle.pictures.proofs.PictureTests.{bank-refusal-shows, Leaves, leaves-written, leaves-as-it-was}
+use Rattle.pictures.proofs.WholeBanks.{BankIn, bank-in, part-cleared}
 use Rattle.pictures.proofs.banks.clear.Statement.{statement}
 use Rattle.pictures.proofs.banks.clear.Tie as tie
 
--- What the call answers and what stands in the memory, by the depth that is given.
+-- what the call answers and what stands in the memory
 module _ (p : Plan) (W H : ℕ) (mem : List ℕ) (k : ℕ) where
-  abbrev tests : Option Refusal
-  tests = wholeBankTest p W H (length mem) k
-
-  abbrev zeroed : Lent
-  zeroed = lent (afterClear p W H mem k)
-
   cleared :
       {deep : ℕ} {content : List ℕ} → BankIn p W H mem k deep → content ≡ afterClear p W H mem k
       → Leaves (clear p W H (lent mem) k) Outcome.Done content
   unfolding clear
-  cleared bank e =
-      let (done, zeros) = value-given tests Outcome.Refused (lent mem) Outcome.Done zeroed (bank .passed) in
-      (done, e ∙ ap (λ (l : Lent). l .memory) zeros)
+  cleared bank = leaves-written (bank .passed) mem (afterClear p W H mem k)
 
   refused :
-      {answer : Counted} {r : Refusal} → answer ≡ bankDepth p W H (length mem) k → answer ≡ Counted.Refused r
+      {asked : Counted} {r : Refusal} → asked ≡ bankDepth p W H (length mem) k → asked ≡ Counted.Refused r
       → Leaves (clear p W H (lent mem) k) (Outcome.Refused r) mem
   unfolding clear
-  refused {r} is no-depth =
-      kept (refusal-given tests Outcome.Refused (lent mem) Outcome.Done zeroed r (bank-refusal-shows p W H (length mem) k is no-depth))
+  refused is e = leaves-as-it-was (bank-refusal-shows p W H (length mem) k is e) mem (afterClear p W H mem k)
 
 -- the bank's depth was given
-module _ (c : tie.After-depth) where
-  abbrev asked : tie.After-bank-depth
-  asked = c .before .before
-
-  bank : let u = asked .before .before .args in BankIn (u .p) (u .w) (u .h) (u .mem .now) (u .k) (c .depth .given .0 .0)
-  bank = bank-in (asked .bank-depth .ensures) (c .depth .given .1)
+bank :
+    (c : tie.After-depth) →
+    let u = c .before .before .before .before .args in
+    BankIn (u .p) (u .w) (u .h) (u .mem .now) (u .k) (c .depth .given .0 .0)
+bank c = bank-in (c .before .before .bank-depth .ensures) (c .depth .given .1)
 
 returns : tie.Need-returns
 returns c =

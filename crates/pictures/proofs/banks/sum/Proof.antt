@@ -3,53 +3,41 @@
 -- Assumes nothing.
 use Prim.Native.Nat.{ℕ, _+_, _*_, _-_}
 use native.Mathlib.Omega.{arith}
-use mathlib.Core.Path.{_≡_, sym, _∙_, ap}
-use mathlib.Core.Option.{Option}
+use mathlib.Core.Path.{_≡_, _∙_, ap}
 use mathlib.Core.List.{List, foldr}
 use lib.ListN.{length, take, drop}
 use borrow.Author.Needs.{needs}
 use Rattle.scope.specs.Banks.{bankSum}
-use Rattle.scope.specs.Calls.{wholeBankTest, sum}
+use Rattle.scope.specs.Calls.{sum}
 use Rattle.scope.specs.declared.Plan.{Plan}
 use Rattle.scope.specs.declared.Counted.{Counted}
 use Rattle.scope.specs.declared.Refusal.{Refusal}
-use Rattle.checks.proofs.Chains.{answered-none, answered-some}
 use Rattle.pictures.specs.Places.{bankDepth}
-use Rattle.pictures.proofs.PictureTests.{bank-refusal-shows}
+use Rattle.pictures.proofs.PictureTests.{bank-refusal-shows, gives-value, gives-refusal}
 use Rattle.pictures.proofs.WholeBanks.{BankIn, bank-in, part-is-bank, part-at-most}
 use Rattle.pictures.proofs.banks.sum.Statement.{statement}
 use Rattle.pictures.proofs.banks.sum.Tie as tie
 
--- What the call answers, by the depth that is given.
+-- what the call answers
 module _ (p : Plan) (W H : ℕ) (mem : List ℕ) (k : ℕ) where
-  abbrev tests : Option Refusal
-  tests = wholeBankTest p W H (length mem) k
-
-  abbrev total : Counted
-  total = Counted.Number (bankSum p W H mem k)
-
   summed :
       {deep n : ℕ} → BankIn p W H mem k deep → n ≡ foldr _+_ 0 (take ((k + 1) * deep - k * deep) (drop (k * deep) mem))
       → Counted.Number n ≡ sum p W H mem k
   unfolding sum bankSum
-  summed bank e =
-      ap Counted.Number (e ∙ ap (foldr _+_ 0) (part-is-bank bank))
-      ∙ sym (answered-none tests Counted.Refused total (bank .passed))
+  summed bank e = gives-value (bank .passed) Counted.Refused (ap Counted.Number (e ∙ ap (foldr _+_ 0) (part-is-bank bank)))
 
   refused :
-      {answer : Counted} {r : Refusal} → answer ≡ bankDepth p W H (length mem) k → answer ≡ Counted.Refused r
+      {asked : Counted} {r : Refusal} → asked ≡ bankDepth p W H (length mem) k → asked ≡ Counted.Refused r
       → Counted.Refused r ≡ sum p W H mem k
   unfolding sum
-  refused {r} is no-depth =
-      sym (answered-some tests Counted.Refused total r (bank-refusal-shows p W H (length mem) k is no-depth))
+  refused is e = gives-refusal (bank-refusal-shows p W H (length mem) k is e) Counted.Refused (Counted.Number (bankSum p W H mem k))
 
 -- the bank's depth was given
-module _ (c : tie.After-depth) where
-  abbrev asked : tie.After-bank-depth
-  asked = c .before .before
-
-  bank : let u = asked .before .before .args in BankIn (u .p) (u .w) (u .h) (u .mem .now) (u .k) (c .depth .given .0 .0)
-  bank = bank-in (asked .bank-depth .ensures) (c .depth .given .1)
+bank :
+    (c : tie.After-depth) →
+    let u = c .before .before .before .before .args in
+    BankIn (u .p) (u .w) (u .h) (u .mem .now) (u .k) (c .depth .given .0 .0)
+bank c = bank-in (c .before .before .bank-depth .ensures) (c .depth .given .1)
 
 sum-words-requires : tie.Need-sum-words-requires
 sum-words-requires c κs = part-at-most (bank (c .before .before))
