@@ -2,8 +2,8 @@
 -- Assumes nothing.
 use Prim.Native.Nat.{ℕ, _≤_}
 use native.Mathlib.Omega.{arith}
-use mathlib.Core.Path.{_≡_, refl, sym, _∙_, ap}
-use mathlib.Core.Bool.{true, false, not}
+use mathlib.Core.Path.{_≡_, refl, sym, _∙_}
+use mathlib.Core.Bool.{true, false}
 use mathlib.Core.Option.{Option, none, some}
 use mathlib.Core.List.{[], _∷_}
 use Rattle.scope.specs.Search.{firstOf}
@@ -16,7 +16,7 @@ use Rattle.scope.specs.declared.Pattern.{Pattern}
 use Rattle.scope.specs.declared.Plan.{Plan}
 use Rattle.scope.specs.declared.Refusal.{Refusal}
 use Rattle.scope.specs.declared.Refusal.the-variants.{Count, NotPlan, Unsuited}
-use Rattle.checks.proofs.Searches.{none-whenever, some-whenever}
+use Rattle.scope.proofs.MethodAnswers.{demand-met, demand-fails}
 use Rattle.checks.proofs.Chains.{chain-refuses, chain-goes-on, chain-of-one, answered-none, answered-some}
 use Rattle.checks.proofs.BookTests.{count-legal-iff}
 use Rattle.checks.proofs.BookRefusals.{count-refused}
@@ -58,14 +58,14 @@ module _ (p : Plan) (n : ℕ) (t : Pattern) where
     unfolding planTest
     suits-no-plan e =
         refused-by NotPlan
-        (past-count ∙ chain-refuses (planTest p) (suitsTest p n t ∷ []) NotPlan (some-whenever (not (isPlan p)) NotPlan (ap not e)))
+        (past-count ∙ chain-refuses (planTest p) (suitsTest p n t ∷ []) NotPlan (demand-fails (isPlan p) NotPlan e))
 
     module _ (plan : isPlan p ≡ true) where
       past-plan : tests ≡ suitsTest p n t
       unfolding planTest
       past-plan =
           past-count
-          ∙ chain-goes-on (planTest p) (suitsTest p n t ∷ []) (none-whenever (not (isPlan p)) NotPlan (ap not plan))
+          ∙ chain-goes-on (planTest p) (suitsTest p n t ∷ []) (demand-met (isPlan p) NotPlan plan)
           ∙ chain-of-one (suitsTest p n t)
 
       pub suits-clash : (c : Clash) → clashIn p n (pixels t) ≡ some c → Outcome.Refused (Unsuited c) ≡ suitsOutcome p n t

@@ -7,7 +7,7 @@ use mathlib.Core.Bool.{Bool, true, false, not}
 use mathlib.Core.Option.{Option, none, some}
 use mathlib.Core.List.{List, [], _∷_, map, List·Memᴰ, List·Memᴰ·head, List·Memᴰ·tail}
 use lib.IntN.{pos}
-use lib.ListN.{length, length-map}
+use lib.ListN.{length}
 use Rattle.integers.proofs.Divisions.{remainder-of-small}
 use Rattle.scope.specs.Search.{firstOf, whenever}
 use Rattle.scope.specs.Plans.{Pixel}
@@ -21,15 +21,16 @@ use Rattle.scope.specs.declared.Plan.{Plan}
 use Rattle.scope.specs.declared.Refusal.{Refusal}
 use Rattle.scope.specs.declared.Refusal.the-variants.{Output}
 use Rattle.scope.proofs.PlanFacts.{inside-means, inside-iff}
+use Rattle.scope.proofs.MethodAnswers.{demand-met, demand-fails}
 use Rattle.checks.proofs.Chains.{chain-refuses, chain-goes-on, chain-of-one, Gives, same-gives, value-given, refusal-given}
 use Rattle.checks.proofs.Deciding.{output-decides}
 use Rattle.checks.proofs.Patterns.{same-coordinates}
-use Rattle.checks.proofs.Searches.{some-whenever, none-whenever}
 use Rattle.checks.proofs.Tests.{all-inside-iff}
 use Rattle.book.specs.Scan.{outcomeOf}
 use Rattle.book.proofs.Outcomes.{answered-by-refusal, answered-by-done}
 use Rattle.lattice.proofs.Formulas.{moved-size}
 use Rattle.pictures.specs.Fetching.{wordsAt, delivered}
+use Rattle.pictures.proofs.Fetches.{length-read}
 
 -- What is delivered, by the output's room; the pixel v that was handed on is the position o.
 module _ (t : Pattern) (p : Plan) (W H : ℕ) (mem : List ℕ) (o : Pixel) (out : List ℕ) where
@@ -76,10 +77,10 @@ map-fixed f (x ∷ xs) h = ap₂ _∷_ (h x (List·Memᴰ·head refl)) (map-fixe
 -- A test of a condition: its outcome where the condition fails, and where it holds.
 module _ (b : Bool) (r : Refusal) where
   pub condition-fails : b ≡ false → Outcome.Refused r ≡ outcomeOf (whenever (not b) r)
-  condition-fails e = answered-by-refusal (whenever (not b) r) r (some-whenever (not b) r (ap not e))
+  condition-fails e = answered-by-refusal (whenever (not b) r) r (demand-fails b r e)
 
   pub condition-holds : b ≡ true → Outcome.Done ≡ outcomeOf (whenever (not b) r)
-  condition-holds e = answered-by-done (whenever (not b) r) (none-whenever (not b) r (ap not e))
+  condition-holds e = answered-by-done (whenever (not b) r) (demand-met b r e)
 
 -- where the edge's test finds nothing, the wrapped pixels are those that are read
 read-wrapped :
@@ -90,11 +91,6 @@ read-wrapped true p W H vs e = refl
 read-wrapped false p W H vs e =
     let all-inside = all-inside-iff W H vs .0 e in
     map-fixed (wrapped W H) vs (λ v m. inside-wrapped W H v (inside-iff W H v .1 (all-inside v m)))
-
-length-read : (ring : Bool) (W H : ℕ) (vs : List Pixel) → length (pixelsRead ring W H vs) ≡ length vs
-unfolding pixelsRead
-length-read false W H vs = refl
-length-read true W H vs = length-map vs (wrapped W H)
 
 -- What a fetch goes on with after its first tests, which found `start`.
 module _

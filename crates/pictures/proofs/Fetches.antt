@@ -2,7 +2,7 @@
 -- Assumes nothing.
 use Prim.Native.Nat.{ℕ, _≤_}
 use native.Mathlib.Omega.{arith}
-use mathlib.Core.Path.{_≡_, _∙_, ap}
+use mathlib.Core.Path.{_≡_, refl, _∙_, ap}
 use mathlib.Core.Bool.{Bool, true, false}
 use mathlib.Core.Option.{Option, none}
 use mathlib.Core.List.{List, map, map-map, map-congr-left}
@@ -55,11 +55,11 @@ module _ (p : Plan) (W H : ℕ) (mem : List ℕ) (vs : List Pixel) (out : List �
         apart = different;
       }
 
--- a fetch reads as many pixels as its pattern has
-length-read : (ring : Bool) (W H : ℕ) (t : Pattern) (o : Pixel) → length (pixelsRead ring W H (moved t o)) ≡ t .used
+-- as many pixels are read, wrapped or not
+pub length-read : (ring : Bool) (W H : ℕ) (vs : List Pixel) → length (pixelsRead ring W H vs) ≡ length vs
 unfolding pixelsRead
-length-read false W H t o = moved-size t o
-length-read true W H t o = length-map (moved t o) (wrapped W H) ∙ moved-size t o
+length-read false W H vs = refl
+length-read true W H vs = length-map vs (wrapped W H)
 
 -- if wrapping keeps the bank of a pixel, it keeps the banks of a fetch
 same-banks :
@@ -84,7 +84,7 @@ module _
         → FetchedAll p W H mem (pixelsRead ring W H (moved t o)) out (eitherFetch ring book p W H mem n o out)
     unfolding eitherFetch fetchRest fetchTest
     either-gives ring passed different =
-        fetched-all p W H mem (pixelsRead ring W H (moved t o)) out _ passed (omega (arith, length-read ring W H t o)) different
+        fetched-all p W H mem (pixelsRead ring W H (moved t o)) out _ passed (omega (arith, length-read ring W H (moved t o), moved-size t o)) different
 
     -- A legal fetch gives the words of its pixels.
     pub fetch-gives : AllInside W H (moved t o) → FetchedAll p W H mem (moved t o) out (fetch book p W H mem n o out)

@@ -1,21 +1,19 @@
--- A pattern's pixels moved to a position: whether a moved coordinate is from 0 to a side less 1, its remainder by the side,
--- and how a loop finds whether all are inside.
+-- A pattern's pixels moved to a position: a moved coordinate raised, its remainder by a side, and how a loop finds whether
+-- all are inside.
 -- Assumes nothing.
-use Prim.Native.Nat.{ℕ, _+_, _-_, _≤_, _<_}
+use Prim.Native.Nat.{ℕ, _+_, _≤_, _<_}
 use native.Mathlib.Omega.{arith}
 use native.Mathlib.Decide.{ℕ-discrete}
 use mathlib.Core.Path.{_≡_, refl, sym, ap, subst, _∙_}
 use mathlib.Core.Bool.{true, false, and-false, false≢true}
 use mathlib.Core.List.{List, [], _∷_, List·Memᴰ}
-use lib.Dec.{ltb}
 use lib.ListN.{getD}
-use lib.IntN.{ℤ, pos, negsuc, natAbs, _+ℤ_}
+use lib.IntN.{ℤ, pos, negsuc, _+ℤ_}
 use mir.Syntax.{w16}
 use mir.Val.{SFits, toZ, ofZ}
 use Rattle.integers.specs.Division.{floorMod}
 use Rattle.integers.proofs.Comparisons.{ltb-iff}
 use Rattle.integers.proofs.Ring.{ring, linear, _·_, reify}
-use Rattle.integers.proofs.Raised.{lowered}
 use Rattle.integers.proofs.Divisions.{remainder-below, remainder-of-small}
 use Rattle.integers.proofs.Sizes.{small-fits}
 use Rattle.scope.specs.Search.{every}
@@ -34,22 +32,6 @@ pub raised-sum :
 raised-sum h k y z {m} {n} e f =
     linear ((pos 1 · e) ∷ (pos 1 · f) ∷ [])
     (ring (pos m ∷ pos n ∷ pos h ∷ pos k ∷ y ∷ z ∷ []) (search reify depth 40 fits 9000) refl)
-
--- n is z raised by h
-module _ (h n : ℕ) (z : ℤ) (side : ℕ) (e : pos n ≡ z +ℤ pos h) where
-  -- below h it is outside
-  pub below-outside : n < h → within z side ≡ false
-  unfolding within
-  below-outside k = by-sign z e
-    where
-      by-sign : (y : ℤ) → pos n ≡ y +ℤ pos h → within y side ≡ false
-      by-sign (pos m) d = let s : n ≡ m + h = ap natAbs d in absurd (omega arith)
-      by-sign (negsuc m) d = refl
-
-  -- from h on what it has more than h tells
-  pub above-is : h ≤ n → within z side ≡ ltb (n - h) side
-  unfolding within
-  above-is k = ap (λ (y : ℤ). within y side) (lowered h n z e k)
 
 -- within a side it is its own remainder
 pub own-remainder : (z : ℤ) (side : ℕ) → within z side ≡ true → z ≡ pos (floorMod z side)

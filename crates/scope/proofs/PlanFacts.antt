@@ -1,18 +1,19 @@
 -- What the tests of a plan, of a picture's sides and of a pixel say in plain numbers, with the bounds that the code rests on.
 -- Assumes nothing.
-use Prim.Native.Nat.{ℕ, _*_, _^_, _≤_, _<_}
+use Prim.Native.Nat.{ℕ, _+_, _-_, _*_, _^_, _≤_, _<_}
 use native.Mathlib.Omega.{arith}
 use native.Mathlib.Nat.{le-mul-of-pos-right, mul-comm}
 use mathlib.Core.Path.{_≡_, refl, sym, ap, ap₂}
 use mathlib.Core.Logic.{_↔_, Iff·trans}
-use mathlib.Core.Bool.{true, _&&_, false≢true}
-use lib.IntN.{ℤ, pos, negsuc, natAbs, pos-ne-negsuc}
+use mathlib.Core.Bool.{true, false, _&&_, false≢true}
+use lib.Dec.{ltb}
+use lib.IntN.{ℤ, pos, negsuc, natAbs, _+ℤ_, pos-ne-negsuc}
 use lib.Signed.{mag}
 use mir.Syntax.{Width, w16}
 use mir.Val.{SFits, toZ, ofZ, hbits}
 use mir.Facts.{toZ-ofZ}
 use Rattle.integers.proofs.Comparisons.{leb-iff, ltb-iff, and-iff}
-use Rattle.integers.proofs.Raised.{number-handed}
+use Rattle.integers.proofs.Raised.{lowered, number-handed}
 use Rattle.scope.specs.Plans.{Pixel, at, isPlan, banks}
 use Rattle.scope.specs.Banks.{within, inside}
 use Rattle.scope.specs.Numbers.{isSide}
@@ -64,6 +65,20 @@ within-iff : (z : ℤ) (n : ℕ) → (within z n ≡ true) ↔ ((i : ℕ) × (z 
 unfolding within
 within-iff (pos i) n = (λ e. (i, refl, ltb-iff i n .0 e), λ t. ltb-iff i n .1 (rw (ap natAbs (t .1)) (t .2)))
 within-iff (negsuc i) n = (λ e. absurd (false≢true e), λ t. absurd (pos-ne-negsuc (t .0) i (sym (t .1))))
+
+-- and of a coordinate z the code has n, z raised by h: below h it is outside, and from h on what n has more than h tells
+module _ (h n : ℕ) (z : ℤ) (side : ℕ) (raised : pos n ≡ z +ℤ pos h) where
+  pub raised-outside : n < h → within z side ≡ false
+  unfolding within
+  raised-outside k = by-sign z raised
+    where
+      by-sign : (y : ℤ) → pos n ≡ y +ℤ pos h → within y side ≡ false
+      by-sign (pos m) d = let s : n ≡ m + h = ap natAbs d in absurd (omega arith)
+      by-sign (negsuc m) d = refl
+
+  pub raised-within : h ≤ n → within z side ≡ ltb (n - h) side
+  unfolding within
+  raised-within k = ap (λ (y : ℤ). within y side) (lowered h n z raised k)
 
 pub inside-iff : InsideMeans
 unfolding inside

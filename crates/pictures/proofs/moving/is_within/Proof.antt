@@ -5,7 +5,8 @@ use mathlib.Core.Path.{_≡_, sym}
 use lib.IntN.{pos, _+ℤ_}
 use borrow.Author.Needs.{needs}
 use Rattle.integers.proofs.Raised.{raised-read}
-use Rattle.pictures.proofs.Moved.{raised-sum, below-outside, above-is}
+use Rattle.scope.proofs.PlanFacts.{raised-outside, raised-within}
+use Rattle.pictures.proofs.Moved.{raised-sum}
 use Rattle.pictures.proofs.moving.is_within.Statement.{statement}
 use Rattle.pictures.proofs.moving.is_within.Tie as tie
 
@@ -20,10 +21,10 @@ sum-is c =
     (raised-read 128 (s .fits .c) (c .raised8 .ensures .0))
 
 returns : tie.Need-returns
-returns c = sym (below-outside 32896 _ _ _ (sum-is (c .before)) (c .if1 .taken))
+returns c = sym (raised-outside 32896 _ _ _ (sum-is (c .before)) (c .if1 .taken))
 
 returns-2 : tie.Need-returns-2
-returns-2 c = sym (above-is 32896 _ _ _ (sum-is (c .before)) (c .if1 .left))
+returns-2 c = sym (raised-within 32896 _ _ _ (sum-is (c .before)) (c .if1 .left))
 
 pub is-within-spec : {M : Type 1} → statement M
 is-within-spec = tie.close (tie.spec (λ c κs. search needs) (λ c κs. search needs) (λ c. search needs) returns returns-2)

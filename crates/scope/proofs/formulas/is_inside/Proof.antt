@@ -1,35 +1,17 @@
 -- `scope::formulas::is_inside` meets its contract: a coordinate raised by 2^15 is below 2^15 exactly if it is negative.
 -- Assumes nothing.
-use Prim.Native.Nat.{ℕ, _+_, _-_, _≤_, _<_}
-use native.Mathlib.Omega.{arith}
-use mathlib.Core.Path.{_≡_, refl, _∙_, ap}
-use mathlib.Core.Bool.{Bool, true, false, _&&_}
-use lib.Dec.{ltb}
-use lib.IntN.{ℤ, pos, negsuc, natAbs, _+ℤ_}
+use Prim.Native.Nat.{ℕ}
+use mathlib.Core.Path.{_≡_, refl, _∙_}
+use mathlib.Core.Bool.{Bool, true, _&&_}
+use lib.IntN.{ℤ, pos, _+ℤ_}
 use borrow.Author.Needs.{needs}
 use borrow.Author.Tests.{le-ltb, lt-ltb}
-use Rattle.integers.proofs.Raised.{raised-read, lowered}
+use Rattle.integers.proofs.Raised.{raised-read}
 use Rattle.scope.specs.Plans.{at}
 use Rattle.scope.specs.Banks.{within, inside}
+use Rattle.scope.proofs.PlanFacts.{raised-outside, raised-within}
 use Rattle.scope.proofs.formulas.is_inside.Statement.{statement}
 use Rattle.scope.proofs.formulas.is_inside.Tie as tie
-
--- x is the coordinate z raised by 2^15, and n a side
-below-outside : {x : ℕ} (z : ℤ) (n : ℕ) → pos x ≡ z +ℤ pos 32768 → x < 32768 → within z n ≡ false
-unfolding within
-below-outside {x} (pos m) n e h = let s : x ≡ m + 32768 = ap natAbs e in absurd (omega arith)
-below-outside (negsuc m) n e h = refl
-
-module _ {x : ℕ} (z : ℤ) (n : ℕ) (raised : pos x ≡ z +ℤ pos 32768) where
-  above-is : 32768 ≤ x → within z n ≡ ltb (x - 32768) n
-  unfolding within
-  above-is h = ap (λ (y : ℤ). within y n) (lowered 32768 x z raised h)
-
-  above-outside : 32768 ≤ x → n ≤ x - 32768 → within z n ≡ false
-  above-outside h k = above-is h ∙ le-ltb (x - 32768) n k
-
-  above-inside : 32768 ≤ x → x - 32768 < n → within z n ≡ true
-  above-inside h k = above-is h ∙ lt-ltb (x - 32768) n k
 
 -- a pixel by both coordinates
 inside-is : (W H : ℕ) (i j : ℤ) {s t : Bool} → within i W ≡ s → within j H ≡ t → (s && t) ≡ inside W H (at i j)
@@ -48,10 +30,12 @@ module _ (c : tie.After-raised162) where
   row = raised-read 32768 (start .fits .j) (c .raised162 .ensures .0)
 
 returns : tie.Need-returns
-returns c = inside-is _ _ _ _ (below-outside _ _ (column (c .before)) (c .if1 .taken)) refl
+returns c = inside-is _ _ _ _ (raised-outside 32768 _ _ _ (column (c .before)) (c .if1 .taken)) refl
 
 returns-2 : tie.Need-returns-2
-returns-2 c = inside-is _ _ _ _ (above-outside _ _ (column (c .before .before)) (c .before .if1 .left) (c .if2 .taken)) refl
+returns-2 c =
+    inside-is _ _ _ _
+    (raised-within 32768 _ _ _ (column (c .before .before)) (c .before .if1 .left) ∙ le-ltb _ _ (c .if2 .taken)) refl
 
 -- past its two tests the column is inside
 module _ (c : tie.Else2) where
@@ -59,14 +43,14 @@ module _ (c : tie.Else2) where
   both = c .before .before
 
   column-inside : within (start both .args .i) (start both .args .w) ≡ true
-  column-inside = above-inside _ _ (column both) (c .before .if1 .left) (c .if2 .left)
+  column-inside = raised-within 32768 _ _ _ (column both) (c .before .if1 .left) ∙ lt-ltb _ _ (c .if2 .left)
 
 returns-3 : tie.Need-returns-3
 returns-3 c =
-    inside-is _ _ _ _ (column-inside (c .before)) (below-outside _ _ (row (both (c .before))) (c .if3 .taken))
+    inside-is _ _ _ _ (column-inside (c .before)) (raised-outside 32768 _ _ _ (row (both (c .before))) (c .if3 .taken))
 
 returns-4 : tie.Need-returns-4
-returns-4 c = inside-is _ _ _ _ (column-inside (c .before)) (above-is _ _ (row (both (c .before))) (c .if3 .left))
+returns-4 c = inside-is _ _ _ _ (column-inside (c .before)) (raised-within 32768 _ _ _ (row (both (c .before))) (c .if3 .left))
 
 pub is-inside-spec : {M : Type 1} → statement M
 is-inside-spec =
