@@ -3,7 +3,7 @@
 -- Assumes nothing.
 use Prim.Native.Nat.{ℕ, _<_}
 use native.Mathlib.Omega.{arith}
-use mathlib.Core.Path.{_≡_, sym}
+use mathlib.Core.Path.{_≡_, refl}
 use mathlib.Core.Option.{Option, none, some}
 use Rattle.scope.specs.Search.{first}
 use Rattle.scope.specs.Numbers.{recordTest}
@@ -12,16 +12,16 @@ use Rattle.scope.specs.declared.Book.{Book}
 use Rattle.scope.specs.declared.Refusal.{Refusal}
 use Rattle.scope.specs.declared.Outcome.{Outcome}
 use Rattle.checks.proofs.Searches.{found-from-0, none-first}
-use Rattle.checks.proofs.Chains.{answered-none, answered-some}
+use Rattle.checks.proofs.Chains.{gives-value, gives-refusal}
 use Rattle.book.specs.Scan.{outcomeOf}
 -- what an answer tells of its test
 pub use Rattle.scope.proofs.Chains.{done-found-nothing, refused-found}
 
 pub answered-by-refusal : (t : Option Refusal) (r : Refusal) → t ≡ some r → Outcome.Refused r ≡ outcomeOf t
-answered-by-refusal t r e = sym (answered-some t Outcome.Refused Outcome.Done r e)
+answered-by-refusal t r e = gives-refusal e Outcome.Refused Outcome.Done
 
 pub answered-by-done : (t : Option Refusal) → t ≡ none → Outcome.Done ≡ outcomeOf t
-answered-by-done t e = sym (answered-none t Outcome.Refused Outcome.Done e)
+answered-by-done t e = gives-value e Outcome.Refused refl
 
 pub done-not-refused : {r : Refusal} → Outcome.Done ≡ Outcome.Refused r → ⊥
 done-not-refused e = let z : _≡_ {A = ℕ} 0 1 = cc in omega arith

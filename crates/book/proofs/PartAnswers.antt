@@ -2,7 +2,7 @@
 -- Assumes nothing.
 use Prim.Native.Nat.{ℕ, _+_, _*_, _≤_, _<_}
 use native.Mathlib.Omega.{arith}
-use mathlib.Core.Path.{_≡_, sym}
+use mathlib.Core.Path.{_≡_}
 use mathlib.Core.Option.{none, some}
 use mathlib.Core.List.{List}
 use lib.ListN.{length}
@@ -11,7 +11,7 @@ use Rattle.scope.specs.Numbers.{bytesTest}
 use Rattle.scope.specs.Calls.{partTest, partOutcome, partPlace}
 use Rattle.scope.specs.declared.Outcome.{Outcome}
 use Rattle.scope.specs.declared.Refusal.{Refusal}
-use Rattle.checks.proofs.Chains.{answered-none, answered-some}
+use Rattle.checks.proofs.Chains.{answered-none, gives-refusal}
 use Rattle.book.proofs.Outcomes.{done-found-nothing, refused-found}
 use Rattle.book.proofs.Parts.{part-test-iff}
 use Rattle.book.proofs.Taken.{pattern-bounds}
@@ -24,7 +24,7 @@ module _ (s : List ℕ) (n : ℕ) {outcome : Outcome} (answer : outcome ≡ part
 
     pub refused-place : 0 ≡ partPlace s n
     unfolding partPlace
-    refused-place = sym (answered-some (partTest s n) (λ r. 0) (start s n + 1) r refused-part)
+    refused-place = gives-refusal refused-part (λ r. 0) (start s n + 1)
 
   module _ (done : outcome ≡ Outcome.Done) where
     pub taken-part : partTest s n ≡ none

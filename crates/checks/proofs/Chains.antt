@@ -19,6 +19,7 @@ use Rattle.checks.proofs.Searches.{none-not-some}
 -- what `scope` has of them
 pub use Rattle.scope.proofs.Chains.{chain-none-iff, chain-refuses, chain-goes-on, chain-of-one, tests-as-one}
 pub use Rattle.scope.proofs.Chains.{value-not-refusal, value-injective, answered-none, answered-some, answered-refused, answered-value}
+pub use Rattle.scope.proofs.Chains.{gives-value, gives-refusal}
 
 -- What a chain finds, its first test finds, or that finds nothing and the rest does.
 pub chain-some : (t : Option Refusal) (ts : List (Option Refusal)) (r : Refusal) → firstOf (t ∷ ts) ≡ some r

@@ -16,7 +16,7 @@ use Rattle.scope.specs.declared.Book.{Book}
 use Rattle.scope.specs.declared.Planned.{Planned}
 use Rattle.scope.specs.declared.Clash.{Clash}
 use Rattle.scope.specs.declared.Refusal.{Refusal}
-use Rattle.checks.proofs.Chains.{chain-refuses, value-not-refusal, value-injective, answered-none, answered-some, RefusedBy, answered-value, answered-refusal}
+use Rattle.checks.proofs.Chains.{chain-refuses, value-not-refusal, value-injective, answered-none, gives-refusal, RefusedBy, answered-value, answered-refusal}
 use Rattle.checks.proofs.Booleans.{last-test, test-before}
 use Rattle.checks.proofs.Tests.{limit-legal-iff}
 use Rattle.checks.proofs.BookTests.{book-legal-iff}
@@ -57,7 +57,7 @@ legal-find-iff book limit =
 module _ (book : Book) (limit : ℕ) where
   pub find-refused : (r : Refusal) → findTest book limit ≡ some r → Planned.Refused r ≡ find book limit
   unfolding find
-  find-refused r e = sym (answered-some (findTest book limit) Planned.Refused (found (leastPlan (patterns book) limit)) r e)
+  find-refused r e = gives-refusal e Planned.Refused (found (leastPlan (patterns book) limit))
 
   pub book-refused : (r : Refusal) → recordTest book ≡ some r → Planned.Refused r ≡ find book limit
   unfolding findTest

@@ -17,9 +17,10 @@ use Rattle.scope.specs.declared.Plan.{Plan}
 use Rattle.scope.specs.declared.Refusal.{Refusal}
 use Rattle.scope.specs.declared.Refusal.the-variants.{Count, NotPlan, Unsuited}
 use Rattle.scope.proofs.MethodAnswers.{demand-met, demand-fails}
-use Rattle.checks.proofs.Chains.{chain-refuses, chain-goes-on, chain-of-one, answered-none, answered-some}
+use Rattle.checks.proofs.Chains.{chain-refuses, chain-goes-on, chain-of-one}
 use Rattle.checks.proofs.BookTests.{count-legal-iff}
 use Rattle.checks.proofs.BookRefusals.{count-refused}
+use Rattle.book.proofs.Outcomes.{answered-by-refusal, answered-by-done}
 use Rattle.finder.specs.Clashing.{metAt, suitsOutcome}
 use Rattle.finder.specs.declared.clash.Met.{Met}
 
@@ -45,7 +46,7 @@ module _ (p : Plan) (n : ℕ) (t : Pattern) where
 
   refused-by : (r : Refusal) → tests ≡ some r → Outcome.Refused r ≡ suitsOutcome p n t
   unfolding suitsOutcome
-  refused-by r e = sym (answered-some tests Outcome.Refused Outcome.Done r e)
+  refused-by r e = answered-by-refusal tests r e
 
   pub suits-count : ((1 ≤ t .used) × (t .used ≤ 64) → ⊥) → Outcome.Refused (Count 0) ≡ suitsOutcome p n t
   suits-count h = refused-by (Count 0) (chain-refuses (countTest 64 (t .used) 0) _ (Count 0) (count-refused 64 (t .used) 0 h))
@@ -76,4 +77,4 @@ module _ (p : Plan) (n : ℕ) (t : Pattern) where
       unfolding suitsTest suitsOutcome
       suits-done e =
           let found : suitsTest p n t ≡ none = rw (e, suitsTest) in
-          sym (answered-none tests Outcome.Refused Outcome.Done (past-plan ∙ found))
+          answered-by-done tests (past-plan ∙ found)

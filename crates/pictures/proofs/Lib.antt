@@ -8,7 +8,7 @@ pub mod Pictures  -- a legal call on a picture gives what it is for
 pub mod Runs  -- a run of calls keeps the words last stored in place
 pub mod Replies  -- so each call gives what it is to give
 pub mod DemandHolds  -- demand 3
-pub mod PictureTests  -- the tests 11, 12, 13, what depth and place show, and what a call answers by its tests
+pub mod PictureTests  -- the tests 11, 12, 13, what depth and place show, and what a call that writes leaves
 pub mod WholeBanks  -- what the depth of a bank shows; its part of the memory
 pub mod Deliveries  -- what both fetches answer and leave in the output
 pub mod Moved  -- a pattern's pixels moved to a position

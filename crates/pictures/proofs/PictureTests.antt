@@ -1,9 +1,9 @@
 -- The tests 11, 12, 13 of a picture, what the answers of depth and place tell of the tests of the calls, and what a call
--- answers and leaves by what its tests found.
+-- that writes leaves by what its tests found.
 -- Assumes nothing.
 use Prim.Native.Nat.{ℕ, _<_}
 use native.Mathlib.Omega.{arith}
-use mathlib.Core.Path.{_≡_, sym, _∙_, ap}
+use mathlib.Core.Path.{_≡_, _∙_, ap}
 use mathlib.Core.Option.{Option, none, some}
 use mathlib.Core.List.{List, [], _∷_}
 use Rattle.scope.specs.Search.{firstOf}
@@ -15,7 +15,7 @@ use Rattle.scope.specs.declared.Plan.{Plan}
 use Rattle.scope.specs.declared.Counted.{Counted}
 use Rattle.scope.specs.declared.Outcome.{Outcome}
 use Rattle.scope.specs.declared.Refusal.{Refusal}
-use Rattle.checks.proofs.Chains.{tests-as-one, answered-none, answered-some, value-given, refusal-given}
+use Rattle.checks.proofs.Chains.{tests-as-one, value-given, refusal-given}
 use Rattle.lattice.proofs.Words.{pixels-have-words}
 use Rattle.pictures.proofs.CallTests.{word-test-iff}
 use Rattle.pictures.specs.Places.{pictureDepth, wordPlace, bankDepth}
@@ -78,25 +78,19 @@ module _ (p : Plan) (W H words : ℕ) where
 abbrev pub Leaves : Result Outcome Lent → Outcome → List ℕ → Type 0
 Leaves result answer memory = (answer ≡ result .answer) × (memory ≡ result .content .memory)
 
--- Where its tests found nothing, a call gives its value; one that writes is done, and leaves what it wrote.
-module _ {t : Option Refusal} (passed : t ≡ none) where
-  pub gives-value : {X : Type 0} (refused : Refusal → X) {given x : X} → given ≡ x → given ≡ answered t refused x
-  gives-value refused {x} e = e ∙ sym (answered-none t refused x passed)
-
+-- Where its tests found nothing it is done, and leaves what it wrote; where they found a refusal it leaves the memory as it
+-- was.
+module _ {t : Option Refusal} where
   pub leaves-written :
-      (mem after : List ℕ) {content : List ℕ} → content ≡ after
+      t ≡ none → (mem after : List ℕ) {content : List ℕ} → content ≡ after
       → Leaves (changed t Outcome.Refused (lent mem) Outcome.Done (lent after)) Outcome.Done content
-  leaves-written mem after e =
+  leaves-written passed mem after e =
       let (done, left) = value-given t Outcome.Refused (lent mem) Outcome.Done (lent after) passed in
       (done, e ∙ ap (λ (l : Lent). l .memory) left)
 
--- Where they found a refusal, it gives that in its own way; one that writes leaves the memory as it was.
-module _ {t : Option Refusal} {r : Refusal} (found : t ≡ some r) where
-  pub gives-refusal : {X : Type 0} (refused : Refusal → X) (x : X) → refused r ≡ answered t refused x
-  gives-refusal refused x = sym (answered-some t refused x r found)
-
   pub leaves-as-it-was :
-      (mem after : List ℕ) → Leaves (changed t Outcome.Refused (lent mem) Outcome.Done (lent after)) (Outcome.Refused r) mem
-  leaves-as-it-was mem after =
+      {r : Refusal} → t ≡ some r → (mem after : List ℕ)
+      → Leaves (changed t Outcome.Refused (lent mem) Outcome.Done (lent after)) (Outcome.Refused r) mem
+  leaves-as-it-was {r} found mem after =
       let (answer, left) = refusal-given t Outcome.Refused (lent mem) Outcome.Done (lent after) r found in
       (answer, ap (λ (l : Lent). l .memory) left)

@@ -81,6 +81,13 @@ module _ {X : Type 0} where
   unfolding answered
   answered-some t refused x r e = rw (e, answered)
 
+  -- the same, as an answer that is given: its value, or in its own way the refusal
+  pub gives-value : {t : Option Refusal} → t ≡ none → (refused : Refusal → X) {given x : X} → given ≡ x → given ≡ answered t refused x
+  gives-value {t} passed refused {x} e = e ∙ sym (answered-none t refused x passed)
+
+  pub gives-refusal : {t : Option Refusal} {r : Refusal} → t ≡ some r → (refused : Refusal → X) (x : X) → refused r ≡ answered t refused x
+  gives-refusal {t} {r} found refused x = sym (answered-some t refused x r found)
+
   -- a refusal that is not the value is what the tests found
   pub answered-refused :
       (t : Option Refusal) (refused : Refusal → X) (x : X) (r : Refusal) → ((s : Refusal) → refused s ≡ refused r → s ≡ r)

@@ -15,7 +15,7 @@ use Rattle.scope.specs.declared.Plan.{Plan}
 use Rattle.scope.specs.declared.Refusal.{Refusal}
 use Rattle.scope.specs.declared.Refusal.the-variants.{NotPlan, Sides, Outside}
 use Rattle.scope.proofs.Chains.{whenever-none, none-whenever, some-whenever, chain-none-iff, chain-refuses, chain-goes-on, chain-of-one}
-use Rattle.scope.proofs.Chains.{tests-as-one, answered-some}
+use Rattle.scope.proofs.Chains.{tests-as-one, gives-refusal}
 
 -- the code asks `!r` for a test t whose value r a callee gave
 pub fails : {r t : Bool} → r ≡ t → not r ≡ true → t ≡ false
@@ -74,7 +74,7 @@ module _ (p : Plan) (W H : ℕ) where
     as-one = tests-as-one [] (planTest p ∷ sidesTest W H ∷ []) rest
 
     pub refused-first : {r : Refusal} → pictureTests ≡ some r → refused r ≡ answer
-    refused-first {r} e = sym (answered-some _ refused x r (as-one ∙ chain-refuses pictureTests rest r e))
+    refused-first {r} e = gives-refusal (as-one ∙ chain-refuses pictureTests rest r e) refused x
 
     pub past-first : pictureTests ≡ none → answer ≡ answered (firstOf rest) refused x
     past-first e = ap (λ (t : Option Refusal). answered t refused x) (as-one ∙ chain-goes-on pictureTests rest e)

@@ -2,15 +2,15 @@
 -- Assumes nothing.
 use Prim.Native.Nat.{ℕ, _+_, _*_, _-_, _≤_}
 use native.Mathlib.Omega.{arith}
-use mathlib.Core.Path.{_≡_, sym, _∙_, ap, ap₂}
+use mathlib.Core.Path.{_≡_, ap, ap₂}
 use mathlib.Core.List.{List, []}
 use lib.ListN.{length, take, drop}
 use borrow.Author.Needs.{needs}
 use Rattle.scope.specs.Books.{byte, start, partIn}
-use Rattle.scope.specs.Calls.{partTest, partOutcome, patternPart, partPlace}
+use Rattle.scope.specs.Calls.{partOutcome, patternPart, partPlace}
 use Rattle.scope.specs.declared.Outcome.{Outcome}
 use Rattle.scope.specs.declared.Refusal.{Refusal}
-use Rattle.checks.proofs.Chains.{answered-none, answered-some}
+use Rattle.checks.proofs.Chains.{gives-value, gives-refusal}
 use Rattle.book.proofs.PartAnswers.{refused-part, taken-part, refused-place, start-shows, taken-place, taken-bounds}
 use Rattle.book.proofs.part.pattern_part.Statement.{statement}
 use Rattle.book.proofs.part.pattern_part.Tie as tie
@@ -20,7 +20,7 @@ module _ (s : List ℕ) (n : ℕ) {outcome : Outcome} (answer : outcome ≡ part
   module _ {r : Refusal} (refused : outcome ≡ Outcome.Refused r) where
     empty-part : [] ≡ patternPart s n
     unfolding patternPart
-    empty-part = sym (answered-some (partTest s n) (λ r. []) (partIn s n) r (refused-part s n answer refused))
+    empty-part = gives-refusal (refused-part s n answer refused) (λ r. []) (partIn s n)
 
     at-start : (p : ℕ × ℕ) → _≡_ {A = ℕ × ℕ} (p .0, 0 + p .1) (p .0, p .1 + partPlace s n)
     at-start p = ap {B = ℕ × ℕ} (λ k. (p .0, k)) (omega (arith, refused-place s n answer refused))
@@ -32,8 +32,7 @@ module _ (s : List ℕ) (n : ℕ) {outcome : Outcome} (answer : outcome ≡ part
     part-there =
         let size : at + 1 + 2 * byte s at - (at + 1) ≡ 2 * byte s (start s n) = omega (arith, ap (byte s) is) in
         let begin : at + 1 ≡ start s n + 1 = omega (arith, is) in
-        ap₂ (λ k i. take k (drop i s)) size begin
-        ∙ sym (answered-none (partTest s n) (λ r. []) (partIn s n) (taken-part s n answer done))
+        gives-value (taken-part s n answer done) (λ r. []) (ap₂ (λ k i. take k (drop i s)) size begin)
 
     at-first-pixel : (p : ℕ × ℕ) → _≡_ {A = ℕ × ℕ} (p .0, at + 1 + p .1) (p .0, p .1 + partPlace s n)
     at-first-pixel p = ap {B = ℕ × ℕ} (λ k. (p .0, k)) (omega (arith, taken-place s n answer done is))

@@ -12,8 +12,9 @@ use Rattle.scope.specs.Calls.{sum}
 use Rattle.scope.specs.declared.Plan.{Plan}
 use Rattle.scope.specs.declared.Counted.{Counted}
 use Rattle.scope.specs.declared.Refusal.{Refusal}
+use Rattle.checks.proofs.Chains.{gives-value, gives-refusal}
 use Rattle.pictures.specs.Places.{bankDepth}
-use Rattle.pictures.proofs.PictureTests.{bank-refusal-shows, gives-value, gives-refusal}
+use Rattle.pictures.proofs.PictureTests.{bank-refusal-shows}
 use Rattle.pictures.proofs.WholeBanks.{BankIn, bank-in, part-is-bank, part-at-most}
 use Rattle.pictures.proofs.banks.sum.Statement.{statement}
 use Rattle.pictures.proofs.banks.sum.Tie as tie

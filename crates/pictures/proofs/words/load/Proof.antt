@@ -14,8 +14,9 @@ use Rattle.scope.specs.declared.Counted.{Counted}
 use Rattle.scope.specs.declared.Loaded.{Loaded}
 use Rattle.scope.specs.declared.Refusal.{Refusal}
 use Rattle.scope.proofs.PlanFacts.{pixel-handed}
+use Rattle.checks.proofs.Chains.{gives-value, gives-refusal}
 use Rattle.pictures.specs.Places.{wordPlace}
-use Rattle.pictures.proofs.PictureTests.{PlaceIn, place-in, place-refusal-shows, gives-value, gives-refusal}
+use Rattle.pictures.proofs.PictureTests.{PlaceIn, place-in, place-refusal-shows}
 use Rattle.pictures.proofs.words.load.Statement.{statement}
 use Rattle.pictures.proofs.words.load.Tie as tie
 

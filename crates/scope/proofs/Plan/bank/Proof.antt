@@ -1,6 +1,6 @@
 -- `scope::Plan::bank` meets its contract: 11, then the bank.
 -- Assumes nothing.
-use mathlib.Core.Path.{_≡_, sym, _∙_, ap}
+use mathlib.Core.Path.{_≡_, refl, _∙_, ap}
 use mathlib.Core.Bool.{true, false}
 use Rattle.scope.specs.Plans.{Pixel, isPlan}
 use Rattle.scope.specs.Banks.{bankOf}
@@ -9,7 +9,7 @@ use Rattle.scope.specs.Calls.{bank}
 use Rattle.scope.specs.declared.Plan.{Plan}
 use Rattle.scope.specs.declared.Counted.the-variants.{Number, Refused}
 use Rattle.scope.specs.declared.Refusal.the-variants.{NotPlan}
-use Rattle.scope.proofs.Chains.{answered-none, answered-some}
+use Rattle.scope.proofs.Chains.{gives-value, gives-refusal}
 use Rattle.scope.proofs.PlanFacts.{pixel-handed}
 use Rattle.scope.proofs.MethodAnswers.{fails, holds, demand-met, demand-fails}
 use Rattle.scope.proofs.Plan.bank.Statement.{statement}
@@ -18,11 +18,11 @@ use Rattle.scope.proofs.Plan.bank.Tie as tie
 module _ (p : Plan) (v : Pixel) where
   bank-refused : isPlan p ≡ false → Refused NotPlan ≡ bank p v
   unfolding bank planTest
-  bank-refused e = sym (answered-some (planTest p) Refused (Number (bankOf p v)) NotPlan (demand-fails (isPlan p) NotPlan e))
+  bank-refused e = gives-refusal (demand-fails (isPlan p) NotPlan e) Refused (Number (bankOf p v))
 
   bank-given : isPlan p ≡ true → Number (bankOf p v) ≡ bank p v
   unfolding bank planTest
-  bank-given e = sym (answered-none (planTest p) Refused (Number (bankOf p v)) (demand-met (isPlan p) NotPlan e))
+  bank-given e = gives-value (demand-met (isPlan p) NotPlan e) Refused refl
 
 returns : tie.Need-returns
 returns c = bank-refused _ _ (fails (c .before .is-plan .ensures) (c .if1 .taken))

@@ -1,11 +1,10 @@
 -- `scope::Plan::picture_outcome` meets its contract: 11, then 12.
 -- Assumes nothing.
-use mathlib.Core.Path.{_≡_, sym}
+use mathlib.Core.Path.{_≡_, refl}
 use mathlib.Core.Bool.{true}
 use Rattle.scope.specs.Plans.{isPlan}
 use Rattle.scope.specs.declared.Outcome.{Outcome}
-use Rattle.scope.specs.declared.Refusal.the-variants.{NotPlan, Sides}
-use Rattle.scope.proofs.Chains.{answered-none, answered-some}
+use Rattle.scope.proofs.Chains.{gives-value, gives-refusal}
 use Rattle.scope.proofs.MethodAnswers.{fails, holds, no-plan, no-sides, both-pass}
 use Rattle.scope.proofs.Plan.picture_outcome.Statement.{statement}
 use Rattle.scope.proofs.Plan.picture_outcome.Tie as tie
@@ -13,9 +12,7 @@ use Rattle.scope.proofs.Plan.picture_outcome.Tie as tie
 returns : tie.Need-returns
 returns c =
     let v = c .before .before .args in
-    sym
-    (answered-some _ Outcome.Refused Outcome.Done NotPlan
-    (no-plan (v .self) (v .w) (v .h) (fails (c .before .is-plan .ensures) (c .if1 .taken))))
+    gives-refusal (no-plan (v .self) (v .w) (v .h) (fails (c .before .is-plan .ensures) (c .if1 .taken))) Outcome.Refused Outcome.Done
 
 -- the plan's test is passed
 plan : (c : tie.Else1) → isPlan (c .before .before .args .self) ≡ true
@@ -25,17 +22,15 @@ returns-2 : tie.Need-returns-2
 returns-2 c =
     let k = c .before .before in
     let v = k .before .before .args in
-    sym
-    (answered-some _ Outcome.Refused Outcome.Done Sides
-    (no-sides (v .self) (v .w) (v .h) (plan k) (fails (c .before .are-sides .ensures) (c .if2 .taken))))
+    gives-refusal (no-sides (v .self) (v .w) (v .h) (plan k) (fails (c .before .are-sides .ensures) (c .if2 .taken)))
+    Outcome.Refused Outcome.Done
 
 returns-3 : tie.Need-returns-3
 returns-3 c =
     let k = c .before .before in
     let v = k .before .before .args in
-    sym
-    (answered-none _ Outcome.Refused Outcome.Done
-    (both-pass (v .self) (v .w) (v .h) (plan k) (holds (c .before .are-sides .ensures) (c .if2 .left))))
+    gives-value (both-pass (v .self) (v .w) (v .h) (plan k) (holds (c .before .are-sides .ensures) (c .if2 .left)))
+    Outcome.Refused refl
 
 pub picture-outcome-spec : {M : Type 1} → statement M
 picture-outcome-spec = tie.close (tie.spec (λ c κs. tt) returns (λ c κs. tt) returns-2 returns-3)
