@@ -192,7 +192,8 @@ fn shared(t: &mut Tally, e: &Edges) {
 // A list with all numbers of its replies, its outputs and its memory written out.
 fn written_out(t: &mut Tally, e: &Edges) {
     let lent = Lent { plan: plan(2, 0, 1), words: 64, ..e.lent };
-    let numbers = [[0, 3, 2, 8, 0], [2, 3, 2, 0, 0], [3, 3, 2, 1, 3], [3, 3, 2, 0, 5], [2, 65535, 0, 0, 0], [1, 0, 0, 1, 0]].concat();
+    let calls = [[0, 3, 2, 8, 0], [2, 3, 2, 0, 0], [3, 3, 2, 1, 3], [3, 3, 2, 0, 5], [2, 65535, 0, 0, 0], [1, 0, 0, 1, 0]];
+    let numbers = calls.concat();
     let book = record(&[cross(), vec![(0, 0), (1, 0)]]);
     let case = Case { record: &book, lent, numbers: &numbers, outs: 8, replies: 72 };
     let (_, left) = case.ask(t);

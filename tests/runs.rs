@@ -1,6 +1,6 @@
-//! Lists of calls in numbers: run_list and find_and_run beside the single calls, and beside the map of what was stored. All twelve
-//! numbers of the answer and of every reply are compared, and every word of the memory and of the outputs. The edges are in
-//! run_edges.rs.
+//! Lists of calls in numbers: run_list and find_and_run beside the single calls, and beside the map of what was stored. All
+//! twelve numbers of the answer and of every reply are compared, and every word of the memory and of the outputs. The edges are
+//! in run_edges.rs.
 
 use crate::calls::{by_library, guard, wanted, Call, Kind};
 use crate::library::{self, Plan, Record, Told};
@@ -256,7 +256,8 @@ fn random_lists(count: usize) -> Tally {
     for _ in 0..count {
         let Drawn { record, lent, calls } = draw(&mut t, &mut random);
         let mut numbers: Vec<u64> = calls.iter().flat_map(|c| numbers_of(c, random.next())).collect();
-        let outs = calls.iter().map(|c| if c.kind == Kind::Fetch { c.room } else { 0 }).sum::<usize>() + random.one_of(&[0, 0, 5]);
+        let rooms = calls.iter().map(|c| if c.kind == Kind::Fetch { c.room } else { 0 });
+        let outs = rooms.sum::<usize>() + random.one_of(&[0, 0, 5]);
         let replies = 12 * calls.len() + random.one_of(&[0, 0, 7]);
         let (record, limits) = (&record, limits(&record, &mut random));
         let case = Case { record, lent, numbers: &numbers, outs, replies };

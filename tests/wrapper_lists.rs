@@ -2,7 +2,7 @@
 //! force; then the edges, and what is said of a list that was not made.
 
 use crate::calls::{self, Kind};
-use crate::library::bankplan::{numbers_of, replies_of, Book, Call, NotMade, Picture, Refused, Reply};
+use crate::library::bankplan::{numbers_of, replies_of, Book, Call, Clash, NotMade, Picture, Refused, Reply};
 use crate::library::bankplan::{CALL_NUMBERS, CONDITIONS, NOT_CALLS, REPLY_NUMBERS};
 use crate::memory::Lent;
 use crate::pictures::cross;
@@ -37,7 +37,6 @@ fn single(book: &Book, c: &calls::Call, mem: &mut [u16]) -> Reply {
 }
 
 fn refusal(row: &[u64], number: u64) -> Refused {
-    use crate::library::bankplan::Clash;
     let clash = row.get(1).map(|_| Clash { pattern: row[1] as usize, earlier: row[2] as usize, later: row[3] as usize });
     Refused { number, place: row[0] as usize, clash }
 }
@@ -129,6 +128,18 @@ fn texts(t: &mut Tally, book: &Book, picture: Picture) {
     let most = vec![Call::Fetch { pattern: 0, at: (3, 2), room: usize::MAX }; 64];
     let got = picture.run_list(book, &mut [6; 40], &most);
     t.same(|| "large rooms".into(), got, Ok(vec![Reply::Words(vec![6; 5]); 64]));
+    // a fetch of 64 words, with just their room and with more
+    let block: Vec<(i8, i8)> = (0..64).map(|k| (k % 8, k / 8)).collect();
+    let full = Book::new(&[block]).unwrap();
+    for (room, number) in [(63, 16), (64, 0), (65, 0), (usize::MAX, 0)] {
+        let call = Call::Fetch { pattern: 0, at: (0, 0), room };
+        let wanted = match number {
+            0 => Reply::Words(vec![6; 64]),
+            _ => Reply::Refused(Refused { number, place: 0, clash: None }),
+        };
+        let got = full.find_and_run(1024, (8, 8), &mut [6; 512], &[call]).map(|(_, replies)| replies);
+        t.same(|| format!("64 words, room {room}"), got, Ok(vec![wanted]));
+    }
 }
 
 pub fn run() -> Tally {
