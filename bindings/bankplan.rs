@@ -66,6 +66,18 @@ pub mod raw {
             a: u32, b: u32, d: u32, w: u32, h: u32, mem: *const u16, mem_length: usize,
             n: usize, i: i16, j: i16, out: *mut u16, out_length: usize, answer: &mut [u64; 12],
         ) -> u64;
+        pub fn bankplan_run_list(
+            columns: &[i8; 1024], rows: &[i8; 1024], used: &[usize; 16], count: usize,
+            a: u32, b: u32, d: u32, w: u32, h: u32, mem: *mut u16, mem_length: usize,
+            numbers: *const u64, numbers_length: usize, outs: *mut u16, outs_length: usize,
+            replies: *mut u64, replies_length: usize, answer: &mut [u64; 12],
+        ) -> u64;
+        pub fn bankplan_find_and_run(
+            columns: &[i8; 1024], rows: &[i8; 1024], used: &[usize; 16], count: usize,
+            limit: u32, w: u32, h: u32, mem: *mut u16, mem_length: usize,
+            numbers: *const u64, numbers_length: usize, outs: *mut u16, outs_length: usize,
+            replies: *mut u64, replies_length: usize, answer: &mut [u64; 12],
+        ) -> u64;
         pub fn bankplan_fill_records(
             a: u32, b: u32, d: u32, w: u32, h: u32, list: *mut PixelRecord, list_length: usize, answer: &mut [u64; 12],
         ) -> u64;
@@ -123,6 +135,54 @@ pub struct PixelRecord {
     pub address: u32,
 }
 
+/// A call of a list. Any numbers can stand here; a call that they do not suit is refused, and the list goes on.
+#[derive(Clone, Copy, Debug, PartialEq, Eq)]
+pub enum Call {
+    /// Stores a word at a pixel.
+    Store { pixel: (i16, i16), word: u16 },
+    /// Puts 0 in every word of a bank.
+    Clear { bank: u64 },
+    /// The word at a pixel.
+    Load { pixel: (i16, i16) },
+    /// The words of a pattern moved to a position, for an output of so many words.
+    Fetch { pattern: usize, at: (i16, i16), room: usize },
+}
+
+/// What a call of a list gave.
+#[derive(Clone, Debug, PartialEq, Eq)]
+pub enum Reply {
+    /// A store or a clear was done.
+    Done,
+    /// The word that a load gave.
+    Word(u16),
+    /// The words that a fetch gave, in the book's pixel order.
+    Words(Vec<u16>),
+    /// The call was turned down, and changed nothing.
+    Refused(Refused),
+}
+
+/// Why a list was not made. Then nothing was changed, and no call of it was made.
+#[derive(Clone, Copy, Debug, PartialEq, Eq)]
+pub enum NotMade {
+    /// There is no plan: the finder's refusal, 2, 3, 4, 6 or 7.
+    Refused(Refused),
+    /// The five numbers from this place on are no call's, or fewer than five stand there. (255: document 01 has no number)
+    NotCalls { place: usize },
+    /// The outputs have not the room of all fetches, or the replies not twelve numbers to a call. (16)
+    Short,
+}
+
+/// How many numbers a call and a reply have in a list, and the number for a list that is none.
+pub const CALL_NUMBERS: usize = 5;
+pub const REPLY_NUMBERS: usize = 12;
+pub const NOT_CALLS: u64 = 255;
+
+/// The first number of a call in a list.
+pub const KIND_STORE: u64 = 0;
+pub const KIND_CLEAR: u64 = 1;
+pub const KIND_LOAD: u64 = 2;
+pub const KIND_FETCH: u64 = 3;
+
 /// A call turned down: document 01's number, 1 to 18; the place, a byte offset for 1 to 5 where the call was given bytes, else
 /// 0; and the clash of 10.
 #[derive(Clone, Copy, Debug, PartialEq, Eq)]
@@ -175,6 +235,29 @@ impl fmt::Display for Refused {
 
 impl std::error::Error for Refused {}
 
+impl fmt::Display for NotMade {
+    fn fmt(&self, f: &mut fmt::Formatter) -> fmt::Result {
+        match self {
+            NotMade::Refused(refused) => write!(f, "list not made: {refused}"),
+            NotMade::NotCalls { place } => write!(f, "list not made: the numbers from place {place} on are no call's"),
+            NotMade::Short => write!(f, "list not made: outputs or replies too short"),
+        }
+    }
+}
+
+impl std::error::Error for NotMade {}
+
+// What a function that makes a list refused by.
+impl From<Refused> for NotMade {
+    fn from(refused: Refused) -> NotMade {
+        match refused.number {
+            NOT_CALLS => NotMade::NotCalls { place: refused.place },
+            16 => NotMade::Short,
+            _ => NotMade::Refused(refused),
+        }
+    }
+}
+
 // Why each call below is sound: the function takes every value. References and slices are not null, aligned, and as long as
 // they say, and what is lent for writing overlaps nothing else that is lent.
 
@@ -182,12 +265,14 @@ impl std::error::Error for Refused {}
 fn told(call: impl FnOnce(&mut [u64; 12]) -> u64) -> Result<[u64; 12], Refused> {
     let mut answer = [0; 12];
     let number = call(&mut answer);
-    let [place, pattern, earlier, later, ..] = answer.map(|x| x as usize);
-    match number {
-        0 => Ok(answer),
-        10 => Err(Refused { number, place, clash: Some(Clash { pattern, earlier, later }) }),
-        _ => Err(Refused { number, place, clash: None }),
-    }
+    if number == 0 { Ok(answer) } else { Err(refused(number, &answer)) }
+}
+
+// The refusal of this number, with its place and its clash in a row.
+fn refused(number: u64, row: &[u64]) -> Refused {
+    let at = |k: usize| row.get(k).map_or(0, |&x| x as usize);
+    let clash = (number == 10).then(|| Clash { pattern: at(1), earlier: at(2), later: at(3) });
+    Refused { number, place: at(0), clash }
 }
 
 fn plan_of(answer: [u64; 12]) -> Plan {
@@ -349,5 +434,144 @@ impl Picture {
         let Picture { plan: p, width: w, height: h } = self;
         let (list, length) = (list.as_mut_ptr(), list.len());
         told(|t| unsafe { raw::bankplan_fill_records(p.a, p.b, p.d, w, h, list, length, t) }).map(|_| ())
+    }
+}
+
+// ---- lists of calls
+
+// A fetch gives at most so many words.
+const MOST_WORDS: usize = 64;
+
+impl Call {
+    /// The call's five numbers.
+    pub fn numbers(self) -> [u64; CALL_NUMBERS] {
+        let bits = |z: i16| u64::from(z as u16);
+        match self {
+            Call::Store { pixel: (i, j), word } => [KIND_STORE, bits(i), bits(j), word.into(), 0],
+            Call::Clear { bank } => [KIND_CLEAR, 0, 0, bank, 0],
+            Call::Load { pixel: (i, j) } => [KIND_LOAD, bits(i), bits(j), 0, 0],
+            Call::Fetch { pattern, at: (i, j), room } => [KIND_FETCH, bits(i), bits(j), pattern as u64, room as u64],
+        }
+    }
+
+    /// The words of outputs that the call takes up.
+    pub fn room(self) -> usize {
+        if let Call::Fetch { room, .. } = self { room } else { 0 }
+    }
+
+    // The same call with no more room than a fetch can use: every reply is the same.
+    fn within_reach(self) -> Call {
+        match self {
+            Call::Fetch { pattern, at, room } => Call::Fetch { pattern, at, room: room.min(MOST_WORDS) },
+            call => call,
+        }
+    }
+}
+
+/// The numbers of a list of calls.
+pub fn numbers_of(calls: &[Call]) -> Vec<u64> {
+    calls.iter().flat_map(|call| call.numbers()).collect()
+}
+
+impl Reply {
+    /// The reply of a call from its twelve numbers and its output. What is missing in them is taken as 0.
+    pub fn of(call: Call, numbers: &[u64], out: &[u16]) -> Reply {
+        let at = |k: usize| numbers.get(k).copied().unwrap_or(0);
+        match call {
+            _ if at(0) != 0 => Reply::Refused(refused(at(0), numbers.get(1..).unwrap_or_default())),
+            Call::Store { .. } | Call::Clear { .. } => Reply::Done,
+            Call::Load { .. } => Reply::Word(at(1) as u16),
+            Call::Fetch { .. } => Reply::Words(out.iter().copied().take(at(1) as usize).collect()),
+        }
+    }
+}
+
+/// The replies of a list of calls from their numbers and the outputs of all fetches.
+pub fn replies_of(calls: &[Call], numbers: &[u64], outs: &[u16]) -> Vec<Reply> {
+    let mut rest = outs;
+    let mut reply = |(call, numbers): (&Call, &[u64])| {
+        let (out, behind) = rest.split_at(rest.len().min(call.room()));
+        rest = behind;
+        Reply::of(*call, numbers, out)
+    };
+    calls.iter().zip(numbers.chunks(REPLY_NUMBERS)).map(&mut reply).collect()
+}
+
+// Makes a list of calls, given how its numbers are made, with outputs and replies that are long enough.
+fn made<T>(
+    calls: &[Call],
+    make: impl FnOnce(&[u64], &mut [u16], &mut [u64]) -> Result<T, NotMade>,
+) -> Result<(T, Vec<Reply>), NotMade> {
+    let calls: Vec<Call> = calls.iter().map(|call| call.within_reach()).collect();
+    let mut outs = vec![0; calls.iter().map(|call| call.room()).sum()];
+    let mut replies = vec![0; REPLY_NUMBERS * calls.len()];
+    let told = make(&numbers_of(&calls), &mut outs, &mut replies)?;
+    Ok((told, replies_of(&calls, &replies, &outs)))
+}
+
+impl Picture {
+    /// Makes the calls one after the other, each on the memory as the one before left it, and gives their replies. A call that
+    /// is refused is a reply too, and those behind it are made.
+    pub fn run_list(self, book: &Book, mem: &mut [u16], calls: &[Call]) -> Result<Vec<Reply>, NotMade> {
+        made(calls, |numbers, outs, replies| self.run_numbers(book, mem, numbers, outs, replies)).map(|((), replies)| replies)
+    }
+
+    /// The same of a list in numbers, five to a call. Each fetch has the next `room` words of the outputs, each call the next
+    /// twelve numbers of the replies; `include/bankplan.h` has the layout.
+    pub fn run_numbers(
+        self,
+        book: &Book,
+        mem: &mut [u16],
+        numbers: &[u64],
+        outs: &mut [u16],
+        replies: &mut [u64],
+    ) -> Result<(), NotMade> {
+        let Picture { plan: Plan { a, b, d }, width: w, height: h } = self;
+        let Book { columns, rows, used, count } = book;
+        let (mem, words, list, length) = (mem.as_mut_ptr(), mem.len(), numbers.as_ptr(), numbers.len());
+        let (outs, room, replies, places) = (outs.as_mut_ptr(), outs.len(), replies.as_mut_ptr(), replies.len());
+        let call = |t: &mut _| unsafe {
+            raw::bankplan_run_list(
+                columns, rows, used, *count, a, b, d, w, h, mem, words, list, length, outs, room, replies, places, t,
+            )
+        };
+        told(call)?;
+        Ok(())
+    }
+}
+
+impl Book {
+    /// Finds the plan with the fewest banks within the limit and makes the calls under it, as `Picture::run_list` does. Gives
+    /// the plan and the replies. The memory needs N × depth words under that plan, or each call is refused by 13; (width + limit)
+    /// × (height + limit) words are always enough.
+    pub fn find_and_run(
+        &self,
+        limit: u32,
+        (width, height): (u32, u32),
+        mem: &mut [u16],
+        calls: &[Call],
+    ) -> Result<(Plan, Vec<Reply>), NotMade> {
+        made(calls, |numbers, outs, replies| self.find_and_run_numbers(limit, (width, height), mem, numbers, outs, replies))
+    }
+
+    /// The same of a list in numbers, as for `Picture::run_numbers`. Gives the plan.
+    pub fn find_and_run_numbers(
+        &self,
+        limit: u32,
+        (w, h): (u32, u32),
+        mem: &mut [u16],
+        numbers: &[u64],
+        outs: &mut [u16],
+        replies: &mut [u64],
+    ) -> Result<Plan, NotMade> {
+        let Book { columns, rows, used, count } = self;
+        let (mem, words, list, length) = (mem.as_mut_ptr(), mem.len(), numbers.as_ptr(), numbers.len());
+        let (outs, room, replies, places) = (outs.as_mut_ptr(), outs.len(), replies.as_mut_ptr(), replies.len());
+        let call = |t: &mut _| unsafe {
+            raw::bankplan_find_and_run(
+                columns, rows, used, *count, limit, w, h, mem, words, list, length, outs, room, replies, places, t,
+            )
+        };
+        Ok(plan_of(told(call)?))
     }
 }

@@ -1,6 +1,6 @@
 /*
  * A camera's buffer, from C: a filter of five pixels in a cross, the plan with the fewest banks for it, a picture of 7 by 4 under
- * that plan, and what suppliers and wrong positions get. camera.rs does the same in Rust.
+ * that plan, what suppliers and wrong positions get, and a list of calls made at once. camera.rs does the same in Rust.
  *
  *   cc -std=c11 -o target/camera-c examples/camera.c target/staticlib/libcapi.a
  */
@@ -19,6 +19,22 @@ static uint64_t said(const char *call, uint64_t number, const uint64_t answer[12
     else if (number != 0)
         printf("%s: refused %d\n", call, (int)number);
     return number;
+}
+
+/* The replies of four calls; the words are those of the fetch. */
+static void show(const uint64_t *numbers, const uint64_t *replies, const uint16_t *words) {
+    for (int k = 0; k < 4; k++) {
+        const uint64_t *reply = replies + k * BANKPLAN_REPLY_NUMBERS;
+        uint64_t kind = numbers[k * BANKPLAN_CALL_NUMBERS];
+        if (said("list", reply[0], reply + 1) != 0)
+            continue;
+        printf(kind == BANKPLAN_KIND_LOAD ? "list: word" : kind == BANKPLAN_KIND_FETCH ? "list: words" : "list: done");
+        if (kind == BANKPLAN_KIND_LOAD)
+            printf(" %02d", (int)reply[1]);
+        for (uint64_t e = 0; kind == BANKPLAN_KIND_FETCH && e < reply[1]; e++)
+            printf(" %02d", words[e]);
+        printf("\n");
+    }
 }
 
 int main(void) {
@@ -90,6 +106,32 @@ int main(void) {
             printf("bank 0: sum %d\n", (int)answer[0]);
         said("clear", bankplan_clear(a, b, d, WIDTH, HEIGHT, mem, length, 0, answer), answer);
     }
+
+    /* four calls in one list: five numbers each, replies of twelve; the fetch has an output of five words */
+    static const uint64_t numbers[] = {
+        BANKPLAN_KIND_STORE, 4, 2, 99, 0, /* word 99 at (4, 2) */
+        BANKPLAN_KIND_LOAD, (uint16_t)-1, 2, 0, 0, /* the word at (-1, 2) */
+        BANKPLAN_KIND_CLEAR, 0, 0, 3, 0, /* bank 3 */
+        BANKPLAN_KIND_FETCH, 3, 2, 0, 5, /* pattern 0 at (3, 2) */
+    };
+    uint64_t replies[4 * BANKPLAN_REPLY_NUMBERS];
+    if (said("list",
+             bankplan_run_list(columns, rows, used, count, a, b, d, WIDTH, HEIGHT, mem, length, numbers,
+                               4 * BANKPLAN_CALL_NUMBERS, words, 5, replies, 4 * BANKPLAN_REPLY_NUMBERS, answer),
+             answer) != 0)
+        return 1;
+    show(numbers, replies, words);
+
+    /* the finder too, and the same list on a memory of 0 */
+    for (size_t k = 0; k < length; k++)
+        mem[k] = 0;
+    if (said("find and run",
+             bankplan_find_and_run(columns, rows, used, count, 1024, WIDTH, HEIGHT, mem, length, numbers,
+                                   4 * BANKPLAN_CALL_NUMBERS, words, 5, replies, 4 * BANKPLAN_REPLY_NUMBERS, answer),
+             answer) != 0)
+        return 1;
+    printf("list under plan %d %d %d\n", (int)answer[0], (int)answer[1], (int)answer[2]);
+    show(numbers, replies, words);
     free(mem);
     return 0;
 }

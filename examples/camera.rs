@@ -1,10 +1,11 @@
 //! A camera's buffer, from Rust: a filter of five pixels in a cross, the plan with the fewest banks for it, a picture of 7 by 4
-//! under that plan, and what suppliers and wrong positions get. camera.c does the same in C.
+//! under that plan, what suppliers and wrong positions get, and a list of calls made at once. camera.c does the same in C.
 //!
 //!     rustc --edition 2021 -O --crate-type rlib --out-dir target -L native=target/staticlib -l static=capi bindings/bankplan.rs
 //!     rustc --edition 2021 -O --out-dir target --extern bankplan=target/libbankplan.rlib examples/camera.rs
 
-use bankplan::{read_book, Picture, PixelRecord, Refused};
+use bankplan::{read_book, Call, Picture, PixelRecord, Refused, Reply};
+use std::error::Error;
 
 // One pattern of five pixels, column then row: (0,0), (-1,0), (1,0), (0,-1), (0,1).
 const BYTES: [u8; 12] = [1, 5, 0, 0, 0xff, 0, 1, 0, 0, 0xff, 0, 1];
@@ -20,7 +21,21 @@ fn say(call: &str, refused: Refused) {
     }
 }
 
-fn main() -> Result<(), Refused> {
+// Shows the replies of a list.
+fn show(replies: Vec<Reply>) {
+    for reply in replies {
+        match reply {
+            Reply::Done => println!("list: done"),
+            Reply::Word(word) => println!("list: word {word:02}"),
+            Reply::Words(words) => {
+                println!("list: words {}", words.iter().map(|word| format!("{word:02}")).collect::<Vec<_>>().join(" "))
+            }
+            Reply::Refused(refused) => say("list", refused),
+        }
+    }
+}
+
+fn main() -> Result<(), Box<dyn Error>> {
     // the book, as a record
     let book = read_book(&BYTES)?;
     let cross: Vec<(i8, i8)> = book.pattern(0).into_iter().flatten().collect();
@@ -76,5 +91,20 @@ fn main() -> Result<(), Refused> {
         println!("bank 0: sum {}", picture.sum(&mem, 0)?);
         picture.clear(&mut mem, 0)?;
     }
+
+    // four calls in one list
+    let calls = [
+        Call::Store { pixel: (4, 2), word: 99 },
+        Call::Load { pixel: (-1, 2) },
+        Call::Clear { bank: 3 },
+        Call::Fetch { pattern: 0, at: (3, 2), room: 5 },
+    ];
+    show(picture.run_list(&book, &mut mem, &calls)?);
+
+    // the finder too, and the same list on a memory of 0
+    mem.fill(0);
+    let (plan, replies) = book.find_and_run(1024, (7, 4), &mut mem, &calls)?;
+    println!("list under plan {} {} {}", plan.a, plan.b, plan.d);
+    show(replies);
     Ok(())
 }

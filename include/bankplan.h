@@ -2,15 +2,16 @@
  * Bank plans for image buffers: the functions of the static library `capi`. For C99 and later, and for C++.
  *
  * What a call answers. Every function returns a number: 0 where the call was not refused, else the number of the refusal, 1 to
- * 18 (enum bankplan_refusal). It puts a row of numbers at the start of the lent array `answer` of 12, and leaves the rest of
- * the 12 as they were:
+ * 18 (enum bankplan_refusal), or 255 for a list of calls that is none (BANKPLAN_NOT_CALLS). It puts a row of numbers at the
+ * start of the lent array `answer` of 12, and leaves the rest of the 12 as they were:
  *   not refused        the values that stand behind "tells" below, from answer[0] on
  *   refused            answer[0]: the place
  *   refused by 10      answer[0]: the place; answer[1], answer[2], answer[3]: the clash, that is the pattern's number, the
  *                      earlier and the later position, counted from 0
- * The place is a byte offset for 1 to 5 where the call was given a book's bytes, and 0 elsewhere. A refused call leaves all that
- * it was lent as it was, but for the answer's row. "Refused by" below has the numbers in the order of the checks; the first
- * that holds is told. Every value of the parameters' types is taken and tested; no call relies on one made before.
+ * The place is a byte offset for 1 to 5 where the call was given a book's bytes, a place in the list for 255, and 0 elsewhere. A
+ * refused call leaves all that it was lent as it was, but for the answer's row. "Refused by" below has the numbers in the order
+ * of the checks; the first that holds is told. Every value of the parameters' types is taken and tested; no call relies on one
+ * made before.
  *
  * A plan is a, b, d; a picture has width w and height h; a pixel is (i, j), column and row.
  *
@@ -144,6 +145,75 @@ uint64_t bankplan_ring_fetch(const int8_t columns[1024], const int8_t rows[1024]
                              uint32_t a, uint32_t b, uint32_t d, uint32_t w, uint32_t h, const uint16_t *mem,
                              size_t mem_length, size_t n, int16_t i, int16_t j, uint16_t *out, size_t out_length,
                              uint64_t answer[12]);
+
+/* ---- lists of calls */
+
+/*
+ * A list of stores, clears, loads and fetches is made by one function, each call on the memory as the one before left it. The
+ * list is numbers, five to a call:
+ *
+ *   number       store    clear         load     fetch
+ *   0: kind      0        1             2        3
+ *   1: column    column   below 65536   column   column of the position
+ *   2: row       row      below 65536   row      row of the position
+ *   3: what      word     bank          any      pattern number
+ *   4: room      any      any           any      words of its output
+ *
+ * A column or a row is 16 bits in two's complement, in a number below 65536: (uint16_t)-1 is 65535, which is -1. A word is below
+ * 65536 too. Banks, pattern numbers and rooms may be any numbers. "Any" is not looked at; a clear's column and row must only be
+ * below 65536.
+ *
+ * The fetches' outputs stand in `outs`, in the list's order: the first fetch has the first `room` words, the next one the words
+ * behind them, and so on. Each puts its words at the start of its own; the rest of outs stays.
+ *
+ * The replies stand in `replies` in the list's order, twelve numbers to a call. The first is the number that the single call
+ * returns, the others are what it puts into its answer, and 0 for what it leaves there:
+ *
+ *   store or clear, not refused    0, then 0
+ *   load, not refused              0, the word, then 0
+ *   fetch, not refused             0, the count of words, then 0
+ *   refused                        the refusal's number, its place (0), then 0
+ *   refused by 10                  10, 0, the pattern's number, the earlier and the later position, then 0
+ *
+ * A refused call is no fault of the list: the calls behind it are made. What stands in replies behind the last reply stays.
+ */
+
+/* The kinds of calls. */
+enum bankplan_kind {
+    BANKPLAN_KIND_STORE = 0,
+    BANKPLAN_KIND_CLEAR = 1,
+    BANKPLAN_KIND_LOAD = 2,
+    BANKPLAN_KIND_FETCH = 3
+};
+
+/* How many numbers a call and a reply have; and what a function returns for numbers that are no list of calls. Document 01 has
+   no number for that. */
+enum bankplan_list {
+    BANKPLAN_CALL_NUMBERS = 5,
+    BANKPLAN_REPLY_NUMBERS = 12,
+    BANKPLAN_NOT_CALLS = 255
+};
+
+/* Makes a list of calls under one plan, with one book and one picture. Returns 0 where the list was made, whatever its replies.
+   Returns 255 where some numbers are no call's: the place of the first of these five is told, or of what is left where the last
+   are fewer than five. Returns 16, place 0, where outs has not the room of all fetches, or replies not twelve numbers to a call.
+   The list is tested from its start on, the five numbers of a call before its room; then what is left at the end, then the
+   replies' length. Tells nothing.
+   Lent: mem, outs and replies as said above; where the list was not made all of them stay. */
+uint64_t bankplan_run_list(const int8_t columns[1024], const int8_t rows[1024], const size_t used[16], size_t count,
+                           uint32_t a, uint32_t b, uint32_t d, uint32_t w, uint32_t h, uint16_t *mem, size_t mem_length,
+                           const uint64_t *numbers, size_t numbers_length, uint16_t *outs, size_t outs_length,
+                           uint64_t *replies, size_t replies_length, uint64_t answer[12]);
+
+/* Finds the plan with the fewest banks, at most limit, for a book, and makes a list of calls under it. Refused by 2, 3, 4 in
+   book order, 6, 7 where there is no plan; then 255 and 16 as above. Tells a, b, d.
+   The memory is to have N * depth words under the plan that is found, or each call is refused by 13; (w + limit) * (h + limit)
+   words are always enough. If these N * depth words are 0, demand 3 holds of the whole list.
+   Lent: as above; where there is no plan or the list was not made all of it stays. */
+uint64_t bankplan_find_and_run(const int8_t columns[1024], const int8_t rows[1024], const size_t used[16], size_t count,
+                               uint32_t limit, uint32_t w, uint32_t h, uint16_t *mem, size_t mem_length,
+                               const uint64_t *numbers, size_t numbers_length, uint16_t *outs, size_t outs_length,
+                               uint64_t *replies, size_t replies_length, uint64_t answer[12]);
 
 /* ---- record lists */
 

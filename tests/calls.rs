@@ -69,8 +69,23 @@ pub fn by_library(book: &Record, c: &Call, mem: &mut [u16], out: &mut [u16]) -> 
     }
 }
 
-// What stands behind the banks of a memory and in an output before a call; no two neighbours are the same.
-fn guard(n: usize) -> Vec<u16> {
+/// The values that the call must tell, by the map of what was stored; a fetch's words are put at the start of the output.
+pub fn wanted(s: &mut Stored, book: &Record, c: &Call, out: &mut [u16]) -> Result<Vec<u64>, Told> {
+    match c.kind {
+        Kind::Store => s.store(&c.lent, c.v, c.x).map(|()| vec![]),
+        Kind::Clear => s.clear(&c.lent, c.k).map(|()| vec![]),
+        Kind::Sum => s.sum(&c.lent, c.k).map(|sum| vec![sum]),
+        Kind::Load => s.load(&c.lent, c.v).map(|x| vec![x.into()]),
+        Kind::Fetch | Kind::Ring => {
+            let words = s.fetch(book, &c.lent, c.n, c.v, c.room, c.kind == Kind::Ring)?;
+            out[..words.len()].copy_from_slice(&words);
+            Ok(vec![words.len() as u64])
+        }
+    }
+}
+
+/// What stands behind the banks of a memory and in an output before a call; no two neighbours are the same.
+pub fn guard(n: usize) -> Vec<u16> {
     (0..n).map(|k| 0xc90f ^ (k as u16).wrapping_mul(0x1235)).collect()
 }
 
@@ -141,23 +156,17 @@ impl Picture {
         number
     }
 
-    // The values that the call must tell; a fetch's words are put at the start of the output.
+    // The same of this picture; it counts the reads.
     fn wanted(&mut self, book: &Record, c: &Call, out: &mut [u16]) -> Result<Vec<u64>, Told> {
-        let s = &mut self.stored;
-        let words = match c.kind {
-            Kind::Store => return s.store(&c.lent, c.v, c.x).map(|()| vec![]),
-            Kind::Clear => return s.clear(&c.lent, c.k).map(|()| vec![]),
-            Kind::Sum => return s.sum(&c.lent, c.k).map(|sum| vec![sum]),
-            Kind::Load => vec![s.load(&c.lent, c.v)?],
-            Kind::Fetch | Kind::Ring => s.fetch(book, &c.lent, c.n, c.v, c.room, c.kind == Kind::Ring)?,
+        let row = wanted(&mut self.stored, book, c, out)?;
+        let met = match c.kind {
+            Kind::Load => row[0] != 0,
+            Kind::Fetch | Kind::Ring => out[..row[0] as usize].iter().any(|&x| x != 0),
+            _ => return Ok(row),
         };
         self.reads += 1;
-        self.met += u64::from(words.iter().any(|&x| x != 0));
-        if c.kind == Kind::Load {
-            return Ok(vec![words[0].into()]);
-        }
-        out[..words.len()].copy_from_slice(&words);
-        Ok(vec![words.len() as u64])
+        self.met += u64::from(met);
+        Ok(row)
     }
 
     /// The memory's first word that is not as the map has it.

@@ -45,6 +45,8 @@ static void lend_all(const struct call *c, const struct input *x) {
         [ROWS] = {x->rows, sizeof x->rows},       [USED] = {x->used, sizeof x->used},
         [MEMORY] = {memory_words, 2 * x->words},  [OUTPUT] = {before, room},
         [LIST] = {x->list, x->list_length * sizeof *x->list},
+        [NUMBERS] = {x->numbers, x->numbers_length * sizeof *x->numbers},
+        [REPLIES] = {before, x->replies_length * sizeof(uint64_t)},
         [ANSWER] = {untouched, sizeof untouched},
     };
     for (int s = 0; s < SLOTS; s++)
@@ -55,6 +57,7 @@ static void lend_all(const struct call *c, const struct input *x) {
 static void make_unknown(const struct call *c, const struct input *x) {
     lent_unknown(ANSWER, 0, ANSWER_LENGTH * sizeof(uint64_t));
     if (c->writes & BIT(OUTPUT)) lent_unknown(OUTPUT, 0, output_size((enum which)(c - calls), x));
+    if (c->writes & BIT(REPLIES)) lent_unknown(REPLIES, 0, x->replies_length * sizeof(uint64_t));
     if (c->writes & RECORD)
         for (int s = COLUMNS; s <= USED; s++) lent_unknown(s, 0, s == USED ? sizeof x->used : 1024);
     if (c->reads & RECORD && x->count <= 16) lent_unknown(USED, x->count * sizeof(size_t), sizeof x->used);
@@ -65,8 +68,9 @@ static void make_unknown(const struct call *c, const struct input *x) {
     }
     for (size_t k = 0; c->writes & BIT(LIST) && k < x->list_length; k++)
         lent_unknown(LIST, k * sizeof *x->list + offsetof(bankplan_pixel_record, bank), (k + 1) * sizeof *x->list);
-    uint64_t needed = words_needed(x);
-    if ((c->reads | c->writes) & BIT(MEMORY) && is_picture(x)) lent_unknown(MEMORY, 2 * needed, 2 * x->words);
+    if (!((c->reads | c->writes) & BIT(MEMORY))) return;
+    x = under_plan((enum which)(c - calls), x);
+    if (is_picture(x)) lent_unknown(MEMORY, 2 * words_needed(x), 2 * x->words);
 }
 
 // The answer: what a refusal or the call tells at its start, the rest untouched.
@@ -79,7 +83,8 @@ static void judge_answer(const struct call *c, const struct input *x, uint64_t n
         if ((answer[k] == UNTOUCHED) != (k >= values)) say_wrong("the answer's row", number);
     if (!lent_same(ANSWER, 0, values * sizeof *answer)) say_wrong("the answer's rest", number);
     bool placed = number >= 1 && number <= 5 && c->reads & BIT(BOOK);
-    if (number && answer[0] > (placed ? x->book_length : 0)) say_wrong("the place", number);
+    uint64_t most = placed ? x->book_length : number == BANKPLAN_NOT_CALLS ? x->numbers_length : 0;
+    if (number && answer[0] > most) say_wrong("the place", number);
 }
 
 static void judge_lent(const struct call *c, const struct input *x, uint64_t number) {
@@ -93,6 +98,9 @@ static void judge_lent(const struct call *c, const struct input *x, uint64_t num
     }
 }
 
+// The bit of a number that some call can give; of another none that any has.
+static unsigned bit_of(uint64_t number) { return number == BANKPLAN_NOT_CALLS ? NO_LIST : BIT(number <= 18 ? number : 31); }
+
 // One call: what it was given stays, and what it says and leaves goes into the digest.
 static uint64_t make_once(const struct call *c, const struct input *x) {
     uint64_t of_this = 0xcbf29ce484222325;
@@ -101,8 +109,8 @@ static uint64_t make_once(const struct call *c, const struct input *x) {
     alarm(60);
     uint64_t number = c->make(x);
     alarm(0);
-    if (number > 18 || !(c->numbers & BIT(number))) say_wrong("not a number of this call", number);
-    else given[c - calls] |= BIT(number);
+    if (!(c->numbers & bit_of(number))) say_wrong("not a number of this call", number);
+    else given[c - calls] |= bit_of(number);
     judge_answer(c, x, number);
     judge_lent(c, x, number);
     for (int s = 0; s < SLOTS; s++)

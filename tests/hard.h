@@ -8,12 +8,13 @@
 #include "../include/bankplan.h"
 
 // Everything that a call can be lent.
-enum slot { BOOK, COLUMNS, ROWS, USED, MEMORY, OUTPUT, LIST, ANSWER, SLOTS };
+enum slot { BOOK, COLUMNS, ROWS, USED, MEMORY, OUTPUT, LIST, NUMBERS, REPLIES, ANSWER, SLOTS };
 
 // Where a lent buffer stands: up to a page that nobody may touch, from such a page on, or in a heap block of its size.
 enum way { END, BEGIN, HEAP };
 
 enum { ANSWER_LENGTH = 12 }; // numbers of an answer
+enum { MOST_CALLS = 40 };   // calls of a list, at most
 enum { SMALL = 8192, MOST_WORDS = 22 << 20 }; // bytes of a small slot; words of the largest picture's memory, and some
 
 // hard_lend.c
@@ -43,13 +44,15 @@ struct input {
     size_t words, write_room, fetch_room;
     bankplan_pixel_record list[100];
     size_t list_length;
+    uint64_t numbers[(MOST_CALLS + 1) * BANKPLAN_CALL_NUMBERS]; // a list of calls, the words of its outputs, its replies
+    size_t numbers_length, outs_room, replies_length;
 };
 
 struct range {
     size_t from, to;
 };
 
-// One exported function: the numbers that it can give, how many values it tells, what it is lent, and which bytes of what it
+// One exported function: the numbers that it can give (255 as bit 19), how many values it tells, what it is lent, and which bytes of what it
 // is lent for writing may change where it was not refused.
 struct call {
     const char *name;
@@ -62,13 +65,16 @@ struct call {
 
 // hard_calls.c
 #define BIT(n) (1u << (n))
+#define NO_LIST BIT(19) // 255
 enum which {
     NORMAL_FORM, BANK, DEPTH, ADDRESS, LOCATE, READ_BOOK, PATTERN_PART, WRITE_BOOK, TEST_RECORD,
-    FIND, CHECK, STORE, LOAD, CLEAR, SUM, FETCH, RING_FETCH, FILL_RECORDS, CALLS
+    FIND, CHECK, STORE, LOAD, CLEAR, SUM, FETCH, RING_FETCH, FILL_RECORDS,
+    RUN_LIST, FIND_AND_RUN, CALLS
 };
 enum { RECORD = BIT(COLUMNS) | BIT(ROWS) | BIT(USED) };
 extern const struct call calls[CALLS];
 size_t output_size(enum which c, const struct input *x);
+const struct input *under_plan(enum which c, const struct input *x); // with the plan that the call goes by
 
 // hard.c
 void try_call(enum which c, const struct input *x);

@@ -1,4 +1,7 @@
 // The exported functions: how each is called, and what it may say and change.
+#include <stdlib.h>
+#include <string.h>
+
 #include "hard.h"
 
 #define RECORD_ARGUMENTS lent(COLUMNS), lent(ROWS), lent(USED), x->count
@@ -69,6 +72,97 @@ static uint64_t fill_records(const struct input *x) {
     return number;
 }
 
+const struct input *under_plan(enum which c, const struct input *x) {
+    static struct input found;
+    uint64_t answer[ANSWER_LENGTH] = {0}; // no plan is 0, 0, 0
+    if (c != FIND_AND_RUN) return x;
+    found = *x;
+    if (bankplan_find(x->columns, x->rows, x->used, x->count, x->limit, answer) != 0) answer[0] = 0;
+    found.a = (uint32_t)answer[0], found.b = (uint32_t)answer[1], found.d = (uint32_t)answer[2];
+    return &found;
+}
+
+static size_t calls_in(const struct input *x) { return x->numbers_length / BANKPLAN_CALL_NUMBERS; }
+static uint64_t room_of(const uint64_t *call) { return call[0] == BANKPLAN_KIND_FETCH ? call[4] : 0; }
+
+// The call of five numbers by its own function, and its reply.
+static void single_call(const struct input *x, const uint64_t *call, uint16_t *mem, uint16_t *out, uint64_t *reply) {
+    int16_t i = (int16_t)(uint16_t)call[1], j = (int16_t)(uint16_t)call[2];
+    memset(reply, 0, BANKPLAN_REPLY_NUMBERS * sizeof *reply);
+    uint64_t answer[ANSWER_LENGTH] = {0}, number = 0;
+    switch (call[0]) {
+    case BANKPLAN_KIND_STORE:
+        number = bankplan_store(PLAN_ARGUMENTS, SIDES, mem, x->words, i, j, (uint16_t)call[3], answer);
+        break;
+    case BANKPLAN_KIND_CLEAR: number = bankplan_clear(PLAN_ARGUMENTS, SIDES, mem, x->words, call[3], answer); break;
+    case BANKPLAN_KIND_LOAD: number = bankplan_load(PLAN_ARGUMENTS, SIDES, mem, x->words, i, j, answer); break;
+    default:
+        number = bankplan_fetch(x->columns, x->rows, x->used, x->count, PLAN_ARGUMENTS, SIDES, mem, x->words, call[3], i, j,
+                                out, call[4], answer);
+    }
+    reply[0] = number;
+    memcpy(reply + 1, answer, (BANKPLAN_REPLY_NUMBERS - 1) * sizeof *reply);
+}
+
+// Whether a list left what its single calls leave: replies, outputs, and the picture's words.
+static bool as_single_calls(const struct input *x) {
+    static uint16_t outs[SMALL / 2];
+    const uint64_t *replies = lent(REPLIES);
+    uint64_t reply[BANKPLAN_REPLY_NUMBERS];
+    uint16_t *mem = malloc(2 * x->words + 2);
+    size_t at = 0, needed = words_needed(x);
+    bool same = mem != NULL;
+    memcpy(mem, memory_words, 2 * x->words);
+    memset(outs, 0xee, sizeof outs);
+    for (size_t k = 0; k < calls_in(x); k++) {
+        const uint64_t *call = x->numbers + k * BANKPLAN_CALL_NUMBERS;
+        single_call(x, call, mem, outs + at, reply);
+        if (reply[0] == 0 && room_of(call)) same &= lent_known(OUTPUT, 2 * at, 2 * (at + reply[1]));
+        same &= memcmp(replies + k * BANKPLAN_REPLY_NUMBERS, reply, sizeof reply) == 0;
+        at += room_of(call);
+    }
+    lent_known_again(OUTPUT);
+    same &= memcmp(lent(OUTPUT), outs, 2 * x->outs_room) == 0;
+    same &= needed > x->words || memcmp(lent(MEMORY), mem, 2 * needed) == 0;
+    free(mem);
+    return same;
+}
+
+#define LIST_ARGUMENTS \
+    lent(NUMBERS), x->numbers_length, lent(OUTPUT), x->outs_room, lent(REPLIES), x->replies_length, lent(ANSWER)
+// 99, which no call gives, if the single calls leave something else or a fault is not told at the start of a call.
+static uint64_t judged_list(enum which c, const struct input *x, uint64_t number) {
+    const uint64_t *answer = lent(ANSWER);
+    if (number == BANKPLAN_NOT_CALLS && answer[0] % BANKPLAN_CALL_NUMBERS != 0) return 99;
+    return number == 0 && !as_single_calls(under_plan(c, x)) ? 99 : number;
+}
+static uint64_t run_list(const struct input *x) {
+    return judged_list(
+        RUN_LIST, x, bankplan_run_list(RECORD_ARGUMENTS, PLAN_ARGUMENTS, SIDES, MEMORY_ARGUMENTS, LIST_ARGUMENTS));
+}
+static uint64_t find_and_run(const struct input *x) {
+    return judged_list(
+        FIND_AND_RUN, x, bankplan_find_and_run(RECORD_ARGUMENTS, x->limit, SIDES, MEMORY_ARGUMENTS, LIST_ARGUMENTS));
+}
+
+// The whole picture, the rooms of all fetches, the replies of all calls.
+static struct range by_list(enum which c, enum slot s, const struct input *x) {
+    const struct input *own = under_plan(c, x);
+    uint64_t rooms = 0, needed = words_needed(own);
+    for (size_t k = 0; k < calls_in(x); k++) rooms += room_of(x->numbers + k * BANKPLAN_CALL_NUMBERS);
+    if (s == MEMORY) return (struct range){0, needed <= x->words ? 2 * needed : 0};
+    if (s == OUTPUT) return (struct range){0, 2 * rooms};
+    return (struct range){0, calls_in(x) * BANKPLAN_REPLY_NUMBERS * sizeof(uint64_t)};
+}
+static struct range under_given(enum slot s, const struct input *x, const uint64_t *answer) {
+    (void)answer;
+    return by_list(RUN_LIST, s, x);
+}
+static struct range under_found(enum slot s, const struct input *x, const uint64_t *answer) {
+    (void)answer;
+    return by_list(FIND_AND_RUN, s, x);
+}
+
 static struct range arrays(enum slot s, const struct input *x, const uint64_t *answer) {
     (void)answer;
     return (struct range){0, s == USED ? sizeof x->used : 1024};
@@ -102,6 +196,8 @@ enum {
     IN_RECORD = BIT(2) | BIT(3) | BIT(4),
     IN_PICTURE = BIT(11) | BIT(12) | BIT(13),
     IN_FETCH = IN_RECORD | IN_PICTURE | BIT(17) | BIT(10) | BIT(16),
+    IN_LIST = BIT(16) | NO_LIST,
+    BY_LIST = BIT(MEMORY) | BIT(OUTPUT) | BIT(REPLIES),
 };
 
 const struct call calls[CALLS] = {
@@ -123,6 +219,12 @@ const struct call calls[CALLS] = {
     [FETCH] = {"fetch", BIT(0) | IN_FETCH | BIT(14), 1, RECORD | BIT(MEMORY), BIT(OUTPUT), fetch, fetched},
     [RING_FETCH] = {"ring_fetch", BIT(0) | IN_FETCH | BIT(18), 1, RECORD | BIT(MEMORY), BIT(OUTPUT), ring_fetch, fetched},
     [FILL_RECORDS] = {"fill_records", BIT(0) | BIT(11) | BIT(12) | BIT(14), 0, 0, BIT(LIST), fill_records, records},
+    [RUN_LIST] = {"run_list", BIT(0) | IN_LIST, 0, RECORD | BIT(NUMBERS), BY_LIST, run_list, under_given},
+    [FIND_AND_RUN] = {"find_and_run", BIT(0) | IN_RECORD | BIT(6) | BIT(7) | IN_LIST, 3, RECORD | BIT(NUMBERS), BY_LIST,
+                      find_and_run, under_found},
 };
 
-size_t output_size(enum which c, const struct input *x) { return c == WRITE_BOOK ? x->write_room : 2 * x->fetch_room; }
+size_t output_size(enum which c, const struct input *x) {
+    if (c == RUN_LIST || c == FIND_AND_RUN) return 2 * x->outs_room;
+    return c == WRITE_BOOK ? x->write_room : 2 * x->fetch_room;
+}

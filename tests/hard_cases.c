@@ -147,6 +147,45 @@ static void every_list(struct input *x) {
     }
 }
 
+static void both_lists(struct input *x) {
+    try_call(RUN_LIST, x);
+    try_call(FIND_AND_RUN, x);
+}
+
+// Store, load, fetch and clear at these pixels, with just the room that they need.
+static void four_calls(struct input *x, uint64_t i, uint64_t j) {
+    const uint64_t numbers[] = {BANKPLAN_KIND_STORE, i, j, 77, 0, BANKPLAN_KIND_LOAD,  i, j, 0,    0,
+                                BANKPLAN_KIND_FETCH, 3, 2, 0,  5, BANKPLAN_KIND_CLEAR, 0, 0, 0, 0};
+    memcpy(x->numbers, numbers, sizeof numbers);
+    x->numbers_length = 20, x->outs_room = 5, x->replies_length = 4 * BANKPLAN_REPLY_NUMBERS;
+}
+
+// Lists of calls with every length, room and count of replies, and with edge values at every place.
+static void every_run(struct input *x, bool all) {
+    const uint64_t edges[] = {0, 1, 2, 3, 4, 5, 6, 7, 32768, 65535, 65536, 1ull << 32, 1ull << 63, UINT64_MAX - 4, UINT64_MAX};
+    const uint32_t limits[] = {5, 1024, 4, 0, 1025};
+    cross(x);
+    x->a = 5, x->b = 2, x->d = 1, x->w = 7, x->h = 4, x->limit = 5;
+    for (x->words = 38; x->words <= 42; x->words++) {
+        four_calls(x, 6, 3);
+        both_lists(x);
+    }
+    x->words = words_needed(x);
+    for (x->numbers_length = 0; x->numbers_length <= 20; x->numbers_length++)
+        for (x->outs_room = 0; x->outs_room <= 6; x->outs_room += all ? 1 : 3)
+            for (x->replies_length = 0; x->replies_length <= 50; x->replies_length += all ? 1 : 6) both_lists(x);
+    for (int k = 0; k < 20 * 15; k++) {
+        four_calls(x, 0, 0);
+        x->numbers[k / 15] = edges[k % 15];
+        both_lists(x);
+    }
+    for (int k = 0; k < 5; k++) {
+        four_calls(x, 0, 0);
+        x->limit = limits[k];
+        both_lists(x);
+    }
+}
+
 // Pictures of 4096 by 4096; the last has the largest memory that there is.
 static void large_pictures(struct input *x) {
     const uint32_t plans[][3] = {{1, 0, 1}, {1024, 341, 1}, {1, 0, 1024}, {32, 7, 32}, {1023, 5, 1}};
@@ -156,6 +195,8 @@ static void large_pictures(struct input *x) {
     for (int k = 0; k < 5; k++) {
         x->a = plans[k][0], x->b = plans[k][1], x->d = plans[k][2];
         every_memory_call(x, false);
+        four_calls(x, 4095, 4095);
+        try_call(RUN_LIST, x);
     }
 }
 
@@ -175,6 +216,7 @@ void all_cases(uint64_t how_many, bool large) {
     every_shape(&x, large);
     every_fetch(&x);
     every_list(&x);
+    every_run(&x, large);
     if (large) large_pictures(&x);
     for (uint64_t k = 0; k < how_many; k++) {
         any_input(&x);

@@ -183,6 +183,37 @@ static void any_list(struct input *x) {
     }
 }
 
+// One call of a list, mostly one that it can be; its room.
+static uint64_t any_call(const struct input *x, uint64_t *call) {
+    uint64_t pattern = below(4) ? below(3) : any_number(), banks = x->a * x->d;
+    size_t needed = pattern < 16 && x->used[pattern] <= 64 ? x->used[pattern] : 0;
+    call[0] = below(60) ? below(4) : any_number();
+    for (int k = 1; k < 3; k++) call[k] = below(60) ? (uint16_t)any_coordinate() : any_number();
+    call[3] = any_number();
+    call[4] = any_number();
+    if (call[0] == BANKPLAN_KIND_STORE) call[3] = below(60) ? (uint16_t)next() : any_number();
+    if (call[0] == BANKPLAN_KIND_CLEAR && below(3)) call[3] = below(banks ? banks : 1);
+    if (call[0] != BANKPLAN_KIND_FETCH) return 0;
+    call[3] = pattern;
+    call[4] = below(60) ? needed + (below(4) ? 0 : below(20)) - (needed && below(4) == 0) : any_number();
+    return call[4];
+}
+
+// A list, with outputs and replies of just the size, or some more or less.
+static void any_calls(struct input *x) {
+    size_t calls = below(4) ? below(6) : below(MOST_CALLS + 1), left = below(12) ? 0 : below(5);
+    uint64_t rooms = 0;
+    for (size_t k = 0; k < calls; k++) rooms += any_call(x, x->numbers + k * BANKPLAN_CALL_NUMBERS);
+    for (size_t k = 0; k < left; k++) x->numbers[calls * BANKPLAN_CALL_NUMBERS + k] = any_number();
+    x->numbers_length = calls * BANKPLAN_CALL_NUMBERS + left;
+    x->outs_room = rooms > SMALL / 2 - 2 ? SMALL / 2 - 2 : rooms;
+    x->replies_length = calls * BANKPLAN_REPLY_NUMBERS;
+    if (below(12) == 0) x->outs_room -= x->outs_room > 0;
+    else if (below(4) == 0) x->outs_room += 1 + below(2);
+    if (below(12) == 0) x->replies_length -= x->replies_length > 0;
+    else if (below(4) == 0) x->replies_length += 1 + below(14);
+}
+
 // About as much room as is needed; less or more too.
 static size_t any_room(size_t needed, size_t most) {
     size_t room = below(4) == 0 ? below(most) : needed + below(4) - 1;
@@ -205,4 +236,5 @@ void any_input(struct input *x) {
     x->word = (uint16_t)next();
     x->n = below(4) ? below(3) : any_number();
     x->fetch_room = any_room(x->n < 16 && x->used[x->n] <= 64 ? x->used[x->n] : 0, 100);
+    any_calls(x);
 }

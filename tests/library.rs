@@ -109,6 +109,34 @@ pub fn ring_fetch(r: &Record, p: Plan, w: u32, h: u32, mem: &[u16], n: usize, o:
     })
 }
 
+/// Makes a list of calls in numbers under a plan.
+#[rustfmt::skip]
+pub fn run_list(
+    r: &Record, p: Plan, w: u32, h: u32, mem: &mut [u16], numbers: &[u64], outs: &mut [u16], replies: &mut [u64],
+) -> Told {
+    let Record { columns, rows, used, count } = r;
+    told(|t| unsafe {
+        bankplan_run_list(
+            columns, rows, used, *count, p.a, p.b, p.d, w, h, mem.as_mut_ptr(), mem.len(), numbers.as_ptr(), numbers.len(),
+            outs.as_mut_ptr(), outs.len(), replies.as_mut_ptr(), replies.len(), t,
+        )
+    })
+}
+
+/// Finds a plan within the limit and makes a list of calls under it; the plan is told.
+#[rustfmt::skip]
+pub fn find_and_run(
+    r: &Record, limit: u32, w: u32, h: u32, mem: &mut [u16], numbers: &[u64], outs: &mut [u16], replies: &mut [u64],
+) -> Told {
+    let Record { columns, rows, used, count } = r;
+    told(|t| unsafe {
+        bankplan_find_and_run(
+            columns, rows, used, *count, limit, w, h, mem.as_mut_ptr(), mem.len(), numbers.as_ptr(), numbers.len(),
+            outs.as_mut_ptr(), outs.len(), replies.as_mut_ptr(), replies.len(), t,
+        )
+    })
+}
+
 /// Fills in a record list.
 pub fn fill_records(p: Plan, w: u32, h: u32, list: &mut [PixelRecord]) -> Told {
     told(|t| unsafe { bankplan_fill_records(p.a, p.b, p.d, w, h, list.as_mut_ptr(), list.len(), t) })

@@ -72,17 +72,17 @@ fn sides(random: &mut Random, p: Plan) -> (u32, u32) {
 
 // A list's book and picture, the pixels at which it stored, one about which it stores most, whether ring fetches are allowed,
 // and what is counted of it: whose plan it has, and whether a side is no multiple of a or d.
-struct List {
+pub struct List {
     book: Vec<Pattern>,
-    record: Record,
+    pub record: Record,
     picture: Picture,
-    stored: Vec<(i16, i16)>,
+    pub stored: Vec<(i16, i16)>,
     home: (i64, i64),
     rings: bool,
     counted: [bool; 4],
 }
 
-fn new_list(t: &mut Tally, random: &mut Random) -> List {
+pub fn new_list(t: &mut Tally, random: &mut Random) -> List {
     let book = any_book(random);
     let mut record = oracle::record_of(&book);
     fill_unused(&mut record, random);
@@ -111,7 +111,7 @@ impl List {
         (self.picture.lent.w.into(), self.picture.lent.h.into())
     }
 
-    fn kind(&self, step: usize, random: &mut Random) -> Kind {
+    pub fn kind(&self, step: usize, random: &mut Random) -> Kind {
         let first = step < CALLS / 4;
         match random.from_to(0, 39) {
             0..=9 => Kind::Store,
@@ -186,7 +186,7 @@ impl List {
     }
 
     // A call that is legal, as far as the picture and the plan allow it.
-    fn legal(&self, kind: Kind, random: &mut Random) -> Call {
+    pub fn legal(&self, kind: Kind, random: &mut Random) -> Call {
         let mut c = Call::new(kind, self.picture.lent);
         c.lent.words += random.one_of(&[0, 0, 1, 5, GUARD - 8]);
         c.v = self.pixel(random);
@@ -205,7 +205,7 @@ impl List {
     }
 
     // One of the call's refusals is brought about, if the picture and the plan allow it.
-    fn break_one(&self, c: &mut Call, record: &mut Record, random: &mut Random) {
+    pub fn break_one(&self, c: &mut Call, record: &mut Record, random: &mut Random) {
         let any = [0, 1, 2, 33, 1024, 1025, 65536, u32::MAX];
         match random.one_of(c.kind.refusals()) {
             2 | 3 | 4 if *record == self.record => damage_record(record, random),

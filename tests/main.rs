@@ -13,8 +13,11 @@ mod pictures;
 mod plans;
 mod program;
 mod records;
+mod run_edges;
+mod runs;
 mod search;
 mod wrapper;
+mod wrapper_lists;
 
 /// Cases of one subject, and the first few mismatches.
 pub struct Tally {
@@ -91,6 +94,7 @@ fn main() {
     tallies.extend(books::run());
     tallies.extend(finds::run());
     tallies.extend(pictures::run());
+    tallies.extend(runs::run());
     tallies.push(records::run());
     tallies.extend(wrapper::run());
     tallies.extend(program::run_all());

@@ -1,5 +1,6 @@
 //! The safe functions of bindings/bankplan.rs against the brute force, on legal inputs and refused ones. What a function gives is
-//! put as number and row, as the library tells it. The calls on a memory go through lists.rs.
+//! put as number and row, as the library tells it. The calls on a memory go through lists.rs; lists of calls as types are in
+//! wrapper_lists.rs.
 
 use crate::books::{bytes_of, damage, damaged_record, legal_book, legal_record};
 use crate::calls::{Call, Kind};
@@ -9,7 +10,7 @@ use crate::library::Told;
 use crate::oracle::{self, Pattern};
 use crate::plans::{any_coordinate, any_plan, legal_plan, SIDES};
 use crate::search::{self, first_plan, suits};
-use crate::{as_told, lists, wide, Random, Tally};
+use crate::{as_told, lists, wide, wrapper_lists, Random, Tally};
 use std::collections::HashMap;
 
 // Each function, and the numbers that can refuse it.
@@ -219,7 +220,8 @@ fn plans(a: &mut Asked) {
 
 // ---- the calls on a memory, and the text of a refusal
 
-fn by_wrapper(book: &Book, c: &Call, mem: &mut [u16], out: &mut [u16]) -> Told {
+/// By the wrapper's safe function.
+pub fn by_wrapper(book: &Book, c: &Call, mem: &mut [u16], out: &mut [u16]) -> Told {
     let p = Picture { plan: c.lent.plan, width: c.lent.w, height: c.lent.h };
     match c.kind {
         Kind::Store => told(p.store(mem, c.v, c.x), |()| vec![]),
@@ -254,5 +256,6 @@ pub fn run() -> Vec<Tally> {
     plans(&mut a);
     a.reached();
     texts(&mut a.tally);
-    vec![a.tally, lists::lists("the wrapper: 300 random lists of 200 calls on a picture", 24, 300, by_wrapper)]
+    let on_pictures = lists::lists("the wrapper: 300 random lists of 200 calls on a picture", 24, 300, by_wrapper);
+    vec![a.tally, on_pictures, wrapper_lists::run()]
 }

@@ -1,0 +1,91 @@
+// What the lists of calls go by.
+#include "game.h"
+
+enum { MOST = 1 << 16 }; // words of a memory, at most
+
+static uint64_t up(uint64_t n, uint64_t m) { return (n + m - 1) / m; }
+
+bool inside(const struct game *g, int i, int j) {
+    return i >= 0 && j >= 0 && (uint32_t)i < g->w && (uint32_t)j < g->h;
+}
+
+uint16_t *pixel(const struct game *g, int i, int j) { return g->shadow + (size_t)j * g->w + i; }
+
+uint64_t plain_address(const struct game *g, int i, int j) {
+    return (uint64_t)j / g->p.d * up(g->w, g->p.a) + (uint64_t)i / g->p.a;
+}
+
+// A number of 16 bits: small, one at an edge, or any.
+int16_t coordinate(struct feed *f) {
+    static const int16_t edges[8] = {-32768, -1, 1023, 1024, 4095, 4096, 32752, 32767};
+    unsigned x = byte(f);
+    return x < 200 ? (int)x - 20 : x < 208 ? edges[x - 200] : (int16_t)two(f);
+}
+
+// The same without a sign, up to 64 bits.
+uint64_t number(struct feed *f) {
+    static const uint64_t edges[12] = {1023,  1024,  1025,       4095,       4096,       4097,
+                                       65535, 65536, UINT32_MAX, 1ull << 32, 1ull << 63, UINT64_MAX};
+    unsigned x = byte(f);
+    return x < 240 ? x : x < 252 ? edges[x - 240] : x < 254 ? two(f) : eight(f);
+}
+
+void choose_plan(struct game *g, struct feed *f, unsigned how) {
+    if (how & 1) {
+        g->p.a = 1 + byte(f) % 40;
+        g->p.d = 1 + byte(f) % 25;
+        g->p.b = byte(f) % g->p.a;
+    } else if (how & 2) {
+        g->p.a = (uint32_t)number(f);
+        g->p.b = (uint32_t)number(f);
+        g->p.d = (uint32_t)number(f);
+    } else {
+        TOLD(t, bankplan_find(RECORD(&g->r), 1024, answer));
+        MUST(t.number == g->record_refused);
+        if (t.number == 0) g->p = (struct plan){(uint32_t)t.row[0], (uint32_t)t.row[1], (uint32_t)t.row[2]};
+    }
+}
+
+void choose_sides(struct game *g, struct feed *f, unsigned how) {
+    g->w = 1 + byte(f) % 80;
+    g->h = 1 + byte(f) % 80;
+    if (how & 4 && is_plan(g->p)) { // sides of a ring
+        g->w = g->p.a * g->p.d * (1 + g->w % 2);
+        g->h = g->p.a * g->p.d * (1 + g->h % 2);
+    }
+    if (how & 8) g->w = (uint32_t)number(f);
+    if (how & 16) g->h = (uint32_t)number(f);
+}
+
+// The memory: as many words as the picture needs, and some more or one less.
+void choose_memory(struct game *g, struct feed *f) {
+    unsigned more = byte(f);
+    bool sides = g->w >= 1 && g->w <= 4096 && g->h >= 1 && g->h <= 4096;
+    g->refused = !is_plan(g->p) ? 11 : !sides ? 12 : 0;
+    if (!g->refused) {
+        g->banks = g->p.a * g->p.d;
+        g->depth = up(g->w, g->p.a) * up(g->h, g->p.d);
+    }
+    uint64_t needed = g->banks * g->depth;
+    g->words = needed > MOST ? MOST : more == 255 && needed ? needed - 1 : needed + more % 4;
+    if (!g->refused && g->words < needed) g->refused = 13;
+    g->memory = lent(g->words * sizeof *g->memory);
+    for (size_t k = 0; k < g->words; k++) g->memory[k] = k < needed ? 0 : PAST;
+    g->shadow = g->refused ? NULL : calloc((size_t)g->w * g->h, sizeof *g->shadow);
+}
+
+unsigned outcome(const struct game *g, unsigned condition, bool holds) {
+    return g->refused ? g->refused : holds ? condition : 0;
+}
+
+// The number that a fetch is refused by, in document 01's order; of a clash, where.
+unsigned fetch_number(const struct game *g, size_t n, int i, int j, size_t room, bool ring, size_t clash[2]) {
+    if (g->record_refused) return g->record_refused;
+    if (g->refused) return g->refused;
+    if (n >= g->r.count) return 17;
+    if (plain_clash(&g->r, n, g->p, clash, clash + 1)) return 10;
+    if (ring && (g->w % g->banks || g->h % g->banks)) return 18;
+    for (size_t m = 0; !ring && m < g->r.used[n]; m++)
+        if (!inside(g, i + g->r.columns[64 * n + m], j + g->r.rows[64 * n + m])) return 14;
+    return room < g->r.used[n] ? 16 : 0;
+}

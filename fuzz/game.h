@@ -1,0 +1,43 @@
+// What the lists of calls go by: a record, a plan, a picture with its memory, and a plain array from pixel to word.
+#ifndef GAME_H
+#define GAME_H
+#include "common.h"
+
+#define RECORD(r) (r)->columns, (r)->rows, (r)->used, (r)->count
+#define PLAN(g) (g)->p.a, (g)->p.b, (g)->p.d
+#define PICTURE(g) PLAN(g), (g)->w, (g)->h, (g)->memory, (g)->words
+enum { PAST = 0xbeef }; // what stands in the words past the picture's
+
+struct game {
+    struct record r;
+    unsigned record_refused; // the number that the record is refused by, or 0
+    struct plan p;
+    uint32_t w, h;
+    uint64_t banks, depth; // 0 where there are none
+    unsigned refused;      // 11, 12, 13 or 0
+    uint16_t *memory;
+    size_t words;
+    uint16_t *shadow; // the word last stored at each pixel
+};
+
+// Taken from the input, in this order; `how` has a bit for each way.
+void choose_plan(struct game *g, struct feed *f, unsigned how);
+void choose_sides(struct game *g, struct feed *f, unsigned how);
+void choose_memory(struct game *g, struct feed *f);
+
+// Numbers from the input: of 16 bits, and up to 64 without a sign; small ones, ones at an edge, or any.
+int16_t coordinate(struct feed *f);
+uint64_t number(struct feed *f);
+
+bool inside(const struct game *g, int i, int j);
+uint16_t *pixel(const struct game *g, int i, int j);
+uint64_t plain_address(const struct game *g, int i, int j);
+
+// The number that a call on the picture is refused by, where its own condition holds or not, or 0.
+unsigned outcome(const struct game *g, unsigned condition, bool holds);
+// That of a fetch, in document 01's order; of a clash, where.
+unsigned fetch_number(const struct game *g, size_t n, int i, int j, size_t room, bool ring, size_t clash[2]);
+
+// runs.c: some calls made as one list
+void run(struct game *g, struct feed *f);
+#endif

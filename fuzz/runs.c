@@ -1,0 +1,159 @@
+// Some calls made as one list: its answer, replies and outputs by the plain array from pixel to word. The memory is looked at when
+// all calls of the input are made.
+#include "game.h"
+
+enum { MOST_CALLS = 12, MOST_NUMBERS = (MOST_CALLS + 1) * BANKPLAN_CALL_NUMBERS };
+static const uint64_t NO_REPLY = 0x5eed5eed5eed5eed; // what stands in the replies before
+
+// A list, and its buffers in exactly sized blocks.
+struct list {
+    uint64_t *numbers, *replies;
+    uint16_t *outs;
+    size_t length, room, places;
+};
+
+// A call's numbers, some of them any.
+static uint64_t draw_call(struct feed *f, uint64_t *call) {
+    unsigned how = byte(f);
+    call[0] = how & 3;
+    call[1] = (uint16_t)coordinate(f);
+    call[2] = (uint16_t)coordinate(f);
+    call[3] = call[0] == BANKPLAN_KIND_STORE ? two(f) : number(f);
+    call[4] = call[0] == BANKPLAN_KIND_FETCH ? byte(f) % 67 : UINT64_MAX;
+    if ((how >> 2 & 7) == 7) call[(how >> 5) % 5] = number(f);
+    return call[0] == BANKPLAN_KIND_FETCH ? call[4] : 0;
+}
+
+// The room is what the fetches need, where that is little; then some more or less, for outputs and replies.
+static struct list draw(struct feed *f) {
+    uint64_t numbers[MOST_NUMBERS], rooms = 0;
+    unsigned how = byte(f);
+    size_t calls = byte(f) % (MOST_CALLS + 1);
+    for (size_t k = 0; k < calls; k++) rooms += draw_call(f, numbers + k * BANKPLAN_CALL_NUMBERS) % 4096;
+    struct list x = {.length = calls * BANKPLAN_CALL_NUMBERS, .room = rooms, .places = calls * BANKPLAN_REPLY_NUMBERS};
+    if (how & 1)
+        for (unsigned left = byte(f) % 5; left > 0; left--) numbers[x.length++] = number(f);
+    if (how & 2) x.room += byte(f) % 3;
+    if (how & 4) x.places += byte(f) % 3;
+    if (how & 8) x.room -= x.room > 0;
+    if (how & 16) x.places -= x.places > 0;
+    x.numbers = lent_copy(numbers, x.length * sizeof *numbers);
+    x.outs = lent(x.room * sizeof *x.outs);
+    x.replies = lent(x.places * sizeof *x.replies);
+    for (size_t k = 0; k < x.room; k++) x.outs[k] = PAST;
+    for (size_t k = 0; k < x.places; k++) x.replies[k] = NO_REPLY;
+    return x;
+}
+
+// 0, or 255 or 16 with the place.
+static unsigned plain_fault(const struct list *x, uint64_t *place) {
+    size_t room = x->room, at = 0;
+    *place = 0;
+    for (; x->length - at >= BANKPLAN_CALL_NUMBERS; at += BANKPLAN_CALL_NUMBERS) {
+        const uint64_t *call = x->numbers + at;
+        *place = at;
+        if (call[0] > 3 || call[1] > 65535 || call[2] > 65535 || (call[0] == 0 && call[3] > 65535)) return BANKPLAN_NOT_CALLS;
+        *place = 0;
+        if (call[0] != BANKPLAN_KIND_FETCH) continue;
+        if (call[4] > room) return BANKPLAN_OUTPUT;
+        room -= call[4];
+    }
+    *place = x->length > at ? at : 0;
+    if (x->length > at) return BANKPLAN_NOT_CALLS;
+    return x->places / BANKPLAN_REPLY_NUMBERS < x->length / BANKPLAN_CALL_NUMBERS ? BANKPLAN_OUTPUT : 0;
+}
+
+static void clear_pixels(struct game *g, uint64_t bank) {
+    for (uint32_t j = 0; j < g->h; j++)
+        for (uint32_t i = 0; i < g->w; i++)
+            if (plain_bank(g->p, i, j) == bank) *pixel(g, i, j) = 0;
+}
+
+// A call on the plain array: its reply and, of a fetch, its words; how many there are.
+static size_t plain_call(struct game *g, const uint64_t *call, uint64_t reply[BANKPLAN_REPLY_NUMBERS], uint16_t words[64]) {
+    int i = (int16_t)(uint16_t)call[1], j = (int16_t)(uint16_t)call[2];
+    size_t n = call[3], clash[2] = {0, 0};
+    bool outside = !inside(g, i, j);
+    memset(reply, 0, BANKPLAN_REPLY_NUMBERS * sizeof *reply);
+    if (call[0] == BANKPLAN_KIND_CLEAR) {
+        reply[0] = outcome(g, 15, n >= g->banks);
+        if (!reply[0]) clear_pixels(g, n);
+    } else if (call[0] != BANKPLAN_KIND_FETCH) {
+        reply[0] = outcome(g, 14, outside);
+        if (!reply[0] && call[0] == BANKPLAN_KIND_STORE) *pixel(g, i, j) = (uint16_t)n;
+        if (!reply[0] && call[0] == BANKPLAN_KIND_LOAD) reply[1] = *pixel(g, i, j);
+    } else {
+        reply[0] = fetch_number(g, n, i, j, call[4], false, clash);
+        if (reply[0] == 10) reply[2] = n, reply[3] = clash[0], reply[4] = clash[1];
+        if (reply[0]) return 0;
+        reply[1] = g->r.used[n];
+        for (size_t m = 0; m < reply[1]; m++)
+            words[m] = *pixel(g, i + g->r.columns[64 * n + m], j + g->r.rows[64 * n + m]);
+        return reply[1];
+    }
+    return 0;
+}
+
+// The list was made: its replies one after the other, each fetch's words at the start of its room, the rest as it was.
+static void must_be_made(struct game *g, const struct list *x) {
+    size_t calls = x->length / BANKPLAN_CALL_NUMBERS, at = 0;
+    for (size_t k = 0; k < calls; k++) {
+        const uint64_t *call = x->numbers + k * BANKPLAN_CALL_NUMBERS;
+        uint64_t reply[BANKPLAN_REPLY_NUMBERS];
+        uint16_t words[64];
+        size_t count = plain_call(g, call, reply, words), room = call[0] == BANKPLAN_KIND_FETCH ? call[4] : 0;
+        MUST(memcmp(x->replies + k * BANKPLAN_REPLY_NUMBERS, reply, sizeof reply) == 0);
+        for (size_t m = 0; m < room; m++) MUST(x->outs[at + m] == (m < count ? words[m] : PAST));
+        at += room;
+    }
+    for (; at < x->room; at++) MUST(x->outs[at] == PAST);
+    for (size_t k = calls * BANKPLAN_REPLY_NUMBERS; k < x->places; k++) MUST(x->replies[k] == NO_REPLY);
+}
+
+static void must_not_be_made(const struct list *x) {
+    for (size_t k = 0; k < x->room; k++) MUST(x->outs[k] == PAST);
+    for (size_t k = 0; k < x->places; k++) MUST(x->replies[k] == NO_REPLY);
+}
+
+#define LIST(x) (x)->numbers, (x)->length, (x)->outs, (x)->room, (x)->replies, (x)->places
+// By the finder first, if its plan is the one that the picture has or it gives none; else under the plan.
+static struct told make(const struct game *g, const struct list *x, unsigned limit, struct told *found) {
+    TOLD(f, bankplan_find(RECORD(&g->r), limit, answer));
+    *found = f;
+    if (f.number != 0 || (f.row[0] == g->p.a && f.row[1] == g->p.b && f.row[2] == g->p.d)) {
+        TOLD(t, bankplan_find_and_run(RECORD(&g->r), limit, g->w, g->h, g->memory, g->words, LIST(x), answer));
+        return t;
+    }
+    *found = (struct told){0};
+    TOLD(t, bankplan_run_list(RECORD(&g->r), PICTURE(g), LIST(x), answer));
+    return t;
+}
+
+void run(struct game *g, struct feed *f) {
+    unsigned limit = byte(f) % 4 ? 1024 : (unsigned)number(f);
+    bool finder = byte(f) % 2;
+    struct list x = draw(f);
+    struct told t, found = {0};
+    uint64_t place;
+    unsigned no = plain_fault(&x, &place);
+    if (finder) {
+        t = make(g, &x, limit, &found);
+    } else {
+        TOLD(u, bankplan_run_list(RECORD(&g->r), PICTURE(g), LIST(&x), answer));
+        t = u;
+    }
+    if (found.number) { // the finder's refusal before all that is wrong with the list
+        must_refuse(t, found.number);
+        must_not_be_made(&x);
+    } else if (no) {
+        MUST(t.number == no && t.values == 1 && t.row[0] == place);
+        must_not_be_made(&x);
+    } else {
+        MUST(t.number == 0 && t.values == found.values);
+        for (int k = 0; k < found.values; k++) MUST(t.row[k] == found.row[k]);
+        must_be_made(g, &x);
+    }
+    give_back(x.numbers, x.length * sizeof *x.numbers);
+    give_back(x.outs, x.room * sizeof *x.outs);
+    give_back(x.replies, x.places * sizeof *x.replies);
+}
