@@ -12,7 +12,15 @@ struct list {
     size_t length, room, places;
 };
 
-// A call's numbers, some of them any.
+// A number at an edge of what a call can have, or any.
+static uint64_t edge(struct feed *f) {
+    static const uint64_t edges[15] = {0,     1,     2,     3,          4,          5,          64,            65, 32767,
+                                       32768, 65535, 65536, 1ull << 32, 1ull << 63, UINT64_MAX};
+    unsigned x = byte(f) % 16;
+    return x < 15 ? edges[x] : number(f);
+}
+
+// A call's numbers; now and then one of them is at an edge.
 static uint64_t draw_call(struct feed *f, uint64_t *call) {
     unsigned how = byte(f);
     call[0] = how & 3;
@@ -20,7 +28,7 @@ static uint64_t draw_call(struct feed *f, uint64_t *call) {
     call[2] = (uint16_t)coordinate(f);
     call[3] = call[0] == BANKPLAN_KIND_STORE ? two(f) : number(f);
     call[4] = call[0] == BANKPLAN_KIND_FETCH ? byte(f) % 67 : UINT64_MAX;
-    if ((how >> 2 & 7) == 7) call[(how >> 5) % 5] = number(f);
+    if ((how >> 2 & 7) == 7) call[(how >> 5) % 5] = edge(f);
     return call[0] == BANKPLAN_KIND_FETCH ? call[4] : 0;
 }
 
@@ -32,7 +40,7 @@ static struct list draw(struct feed *f) {
     for (size_t k = 0; k < calls; k++) rooms += draw_call(f, numbers + k * BANKPLAN_CALL_NUMBERS) % 4096;
     struct list x = {.length = calls * BANKPLAN_CALL_NUMBERS, .room = rooms, .places = calls * BANKPLAN_REPLY_NUMBERS};
     if (how & 1)
-        for (unsigned left = byte(f) % 5; left > 0; left--) numbers[x.length++] = number(f);
+        for (unsigned left = byte(f) % 5; left > 0; left--) numbers[x.length++] = edge(f);
     if (how & 2) x.room += byte(f) % 3;
     if (how & 4) x.places += byte(f) % 3;
     if (how & 8) x.room -= x.room > 0;
