@@ -91,7 +91,7 @@ impl Case<'_> {
         let size = if is_plan(g.plan) && sides && g.size() <= g.words { g.size() } else { 0 };
         let mut memory = guard(g.words + BEHIND);
         memory[..size].fill(0);
-        let replies = (0..(self.replies + BEHIND) as u64).map(|k| k * 0x9e37_79b9_7f4a_7c15 | 1).collect();
+        let replies = (0..(self.replies + BEHIND) as u64).map(|k| k.wrapping_mul(0x9e37_79b9_7f4a_7c15) | 1).collect();
         Buffers { memory, outs: guard(self.outs + BEHIND), replies }
     }
 
@@ -145,8 +145,10 @@ impl Case<'_> {
     pub fn ask(&self, t: &mut Tally) -> (Told, Buffers) {
         let (told, left) = self.wanted();
         let Lent { plan, w, h, .. } = self.lent;
-        let got = self.by(|mem, numbers, outs, replies| library::run_list(self.record, plan, w, h, mem, numbers, outs, replies));
-        self.same(t, "run_list", got, (told.clone(), &left));
+        let make = |mem: &mut [u16], numbers: &[u64], outs: &mut [u16], replies: &mut [u64]| {
+            library::run_list(self.record, plan, w, h, mem, numbers, outs, replies)
+        };
+        self.same(t, "run_list", self.by(make), (told.clone(), &left));
         if told.number == 0 {
             t.same(|| format!("single calls: {self:?}"), self.by_calls().difference(&left), None);
         }

@@ -1,5 +1,5 @@
-//! The wrapper's lists of calls as types: random lists beside the wrapper's single calls, which lists.rs compares with the brute
-//! force; then the edges, and what is said of a list that was not made.
+//! The wrapper's lists of calls as types: random lists beside the wrapper's single calls, which lists.rs compares with the
+//! brute force; then the edges, and what is said of a list that was not made.
 
 use crate::calls::{self, Kind};
 use crate::library::bankplan::{numbers_of, replies_of, Book, Call, Clash, NotMade, Picture, Refused, Reply};
