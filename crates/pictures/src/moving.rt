@@ -1,20 +1,20 @@
 // A pattern's pixels moved to a position, and their words.
-use crate::words::load;
+use crate::places::word_place;
 use integers::raised8;
 use integers::raised16;
 use integers::remainder;
-use scope::Loaded;
+use scope::Counted;
 use scope::Pattern;
 use scope::Plan;
 ghost use mathlib.Core.Path.{_≡_};
 ghost use mathlib.Core.Option.{none};
-ghost use Prim.Native.Nat.{_≤_};
+ghost use Prim.Native.Nat.{ℕ, _≤_, _<_};
 ghost use lib.IntN.{pos, _+ℤ_};
-ghost use lib.ListN.{length};
+ghost use lib.ListN.{length, getD};
 ghost use Rattle.integers.specs.Division.{floorMod};
 ghost use Rattle.scope.specs.Search.{every};
-ghost use Rattle.scope.specs.Plans.{at};
-ghost use Rattle.scope.specs.Banks.{within, inside, wordIn, overStart};
+ghost use Rattle.scope.specs.Plans.{at, plus, pixelAt};
+ghost use Rattle.scope.specs.Banks.{within, inside, wordOf, wrapped, overStart};
 ghost use Rattle.scope.specs.Calls.{pictureTest, wordTest, moved};
 ghost use Rattle.pictures.specs.Fetching.{wordsAt};
 
@@ -46,15 +46,12 @@ pub(crate) fn all_inside(t: Pattern, w: u32, h: u32, i: i16, j: i16) -> bool
     requires { ⌜ t .used ≤ 64 ⌝ }
     ensures { λ r. ⌜ r ≡ every (inside w h) (moved t (at i j)) ⌝ }
 {
-    let columns = t.columns;
-    let rows = t.rows;
-    let used = t.used;
     let mut e = 0;
-    while e < used {
-        if !is_within(i, columns[e], w) {
+    while e < t.used {
+        if !is_within(i, t.columns[e], w) {
             return false;
         }
-        if !is_within(j, rows[e], h) {
+        if !is_within(j, t.rows[e], h) {
             return false;
         }
         e += 1;
@@ -62,19 +59,36 @@ pub(crate) fn all_inside(t: Pattern, w: u32, h: u32, i: i16, j: i16) -> bool
     true
 }
 
-// The word of a pixel of the picture.
-fn word_at(p: Plan, w: u32, h: u32, mem: &[u16], i: i16, j: i16) -> u16
-    requires { ⌜ wordTest p w h (length (now mem)) (at i j) ≡ none ⌝ }
-    ensures { λ r. ⌜ r ≡ wordIn p w h (now (mem .entry)) (at i j) ⌝ }
+// The place of the word of a pixel of the picture.
+fn place_at(p: Plan, w: u32, h: u32, words: usize, i: i16, j: i16) -> usize
+    requires { ⌜ wordTest p w h words (at i j) ≡ none ⌝ }
+    ensures { λ r. ⌜ r ≡ wordOf p w h (at i j) ⌝ }
 {
-    let word = load(p, w, h, mem, i, j);
-    match word {
-        Loaded::Word(x) => x,
-        Loaded::Refused(_) => 0,
+    let place = word_place(p, w, h, words, i, j);
+    match place {
+        Counted::Number(k) => k as usize,
+        Counted::Refused(_) => 0,
     }
 }
 
-// Puts the words of a pattern's pixels, moved to (i, j) and wrapped, at the start of the output.
+// The places of the words of a pattern's pixels, moved to (i, j) and wrapped.
+fn places_of(t: Pattern, p: Plan, w: u32, h: u32, words: usize, i: i16, j: i16) -> [usize; 64]
+    requires { ⌜ (pictureTest p w h words ≡ none) × (t .used ≤ 64) ⌝ }
+    ensures { λ r. ⌜ ((e : ℕ) → e < t .used → getD r e 0 ≡ wordOf p w h (wrapped w h (plus (at i j) (pixelAt t e)))) ⌝ }
+{
+    let mut places = [0usize; 64];
+    let mut e = 0;
+    while e < t.used {
+        let x = wrapped_to(i, t.columns[e], w);
+        let y = wrapped_to(j, t.rows[e], h);
+        places[e] = place_at(p, w, h, words, x, y);
+        e += 1;
+    }
+    places
+}
+
+// Puts the words of a pattern's pixels, moved to (i, j) and wrapped, at the start of the output. All places are found before
+// a word is read, so that no read waits for the divisions of the next place.
 pub(crate) fn put_words(
     t: Pattern,
     p: Plan,
@@ -88,14 +102,12 @@ pub(crate) fn put_words(
     requires { ⌜ (pictureTest p w h (length (now mem)) ≡ none) × (t .used ≤ 64) × (t .used ≤ length (now out)) ⌝ }
     ensures { λ r. ⌜ now (out .exit) ≡ overStart (wordsAt p w h (now (mem .entry)) (moved t (at i j))) (now (out .entry)) ⌝ }
 {
-    let columns = t.columns;
-    let rows = t.rows;
     let used = t.used;
+    let places = places_of(t, p, w, h, mem.len(), i, j);
     let mut e = 0;
     while e < used {
-        let x = wrapped_to(i, columns[e], w);
-        let y = wrapped_to(j, rows[e], h);
-        out[e] = word_at(p, w, h, mem, x, y);
+        let k = places[e];
+        out[e] = mem[k];
         e += 1;
     }
 }

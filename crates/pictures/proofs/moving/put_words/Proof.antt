@@ -1,93 +1,72 @@
--- `pictures::moving::put_words` meets its contract. The loop's invariant: the words of the first e pixels were put.
+-- `pictures::moving::put_words` meets its contract. The loop's invariant: the words at the first e places were put.
 -- Assumes nothing.
-use Prim.Native.Nat.{_-_, _≤_, _<_}
+use Prim.Native.Nat.{ℕ, _-_, _≤_, _<_}
 use native.Mathlib.Omega.{arith}
-use mathlib.Core.Path.{_≡_}
-use lib.ListN.{length}
-use mir.Syntax.{w16}
-use mir.Val.{toZ, ofZ}
+use mathlib.Core.Path.{_≡_, _∙_, ap}
+use mathlib.Core.List.{List}
+use lib.ListN.{length, getD}
 use borrow.Author.Needs.{needs}
-use Rattle.scope.specs.Plans.{at, plus}
-use Rattle.scope.specs.Banks.{wrapped}
-use Rattle.scope.specs.promises.Meaning.{IsPicture}
+use Rattle.scope.specs.Plans.{Pixel, at}
+use Rattle.scope.specs.Banks.{overStart}
+use Rattle.scope.proofs.PlanFacts.{pixel-handed}
 use Rattle.checks.proofs.Outputs.{Put}
-use Rattle.pictures.proofs.Moved.{position, position-handed}
 use Rattle.pictures.proofs.CallTests.{picture-test-iff}
-use Rattle.pictures.proofs.Wrapped.{wrapped-has-word, wrapped-handed, pixel}
-use Rattle.pictures.proofs.Wrapped.{wordsBefore, no-words, one-more-word}
+use Rattle.pictures.proofs.PictureTests.{word-in-memory}
+use Rattle.pictures.proofs.Wrapped.{wrapped-has-word, placeFor, wordsFrom, no-words, one-more-word, words-at-places}
 use Rattle.pictures.proofs.moving.put_words.Statement.{statement}
 use Rattle.pictures.proofs.moving.put_words.Tie as tie
 
 abbrev Inv-loop : tie.InvT-loop
-Inv-loop p w h mem i j out₀ columns rows used e₀ out e =
-    (e ≤ used) × Put (wordsBefore p w h mem columns rows (position i j) e) out₀ out
+Inv-loop w h mem i j out₀ used places e₀ out e = (e ≤ used) × Put (wordsFrom mem places e) out₀ out
 
 abbrev μ-loop : tie.MeasureT-loop
-μ-loop p w h mem i j out₀ columns rows used e₀ out e = used - e
+μ-loop w h mem i j out₀ used places e₀ out e = used - e
 
--- at the loop's head
-module _ (c : tie.At-loop Inv-loop μ-loop) where
+-- where the places are known
+module _ (c : tie.After-places-of Inv-loop μ-loop) where
   abbrev start : tie.Start Inv-loop μ-loop
-  start = c .before .before .before .before .before
+  start = c .before .before .before
 
-  picture : let u = start .args in IsPicture (u .p) (u .w) (u .h) (length (u .mem .now))
-  picture = picture-test-iff _ _ _ _ .0 (start .pre .0)
+  place-is : (e : ℕ) → e < start .args .t .used →
+      let u = start .args in
+      getD (c .places-of .result) e 0 ≡ placeFor (u .p) (u .w) (u .h) (u .t) (at (u .i) (u .j)) e
+  place-is e h =
+      let u = start .args in
+      let f = start .fits in
+      c .places-of .ensures e h ∙ ap (λ (o : Pixel). placeFor (u .p) (u .w) (u .h) (u .t) o e) (pixel-handed (f .i) (f .j))
 
--- in a turn
-room : (c : tie.In-loop Inv-loop μ-loop) → c .before .loop .e < length (c .before .loop .out)
-room c = omega (arith, c .before .loop .inv .1 .same-length, start (c .before) .pre .2)
+  -- each place is one of the memory's
+  in-memory : (e : ℕ) → e < start .args .t .used → getD (c .places-of .result) e 0 < length (start .args .mem .now)
+  in-memory e h =
+      rw (place-is e h)
+      (word-in-memory _ _ _ _ _ (wrapped-has-word _ _ _ _ (picture-test-iff _ _ _ _ .0 (start .pre .0)) _))
 
-loop-holds : tie.Need-loop-holds Inv-loop μ-loop
-loop-holds c = (omega arith, no-words _ _ _ _ _ _ _ _)
+-- the place of a turn
+turn-in-memory :
+    (c : tie.In-loop Inv-loop μ-loop)
+    → let f = c .before .before in getD (f .places-of .result) (c .before .loop .e) 0 < length (start f .args .mem .now)
+turn-in-memory c = in-memory (c .before .before) (c .before .loop .e) (c .loop-test .taken)
 
-array-copy-out-wrapped-to : tie.Need-array-copy-out-wrapped-to Inv-loop μ-loop
-array-copy-out-wrapped-to c = omega (arith, start (c .before) .pre .1)
-
--- where the wrapped coordinates are known
-module _ (c : tie.After-wrapped-to2 Inv-loop μ-loop) where
-  abbrev column : tie.After-wrapped-to Inv-loop μ-loop
-  column = c .before .before
-
-  abbrev turn : tie.In-loop Inv-loop μ-loop
-  turn = column .before .before
-
-  pixel-is :
-      let u = start (turn .before) .args in
-      let e = turn .before .loop .e in
-      at (toZ w16 (ofZ w16 (column .wrapped-to .result))) (toZ w16 (ofZ w16 (c .wrapped-to2 .result)))
-      ≡ wrapped (u .w) (u .h)
-      (plus (position (ofZ w16 (u .i)) (ofZ w16 (u .j))) (pixel (u .t .columns) (u .t .rows) e))
-  pixel-is =
-      let u = start (turn .before) .args in
-      wrapped-handed (u .w) (u .h) (position (ofZ w16 (u .i)) (ofZ w16 (u .j)))
-      (record { sfits = column .before .wrapped-to-arg .given }) (record { sfits = c .before .wrapped-to-arg2 .given })
-      (record { sfits = column .wrapped-to .ok }) (record { sfits = c .wrapped-to2 .ok }) (column .wrapped-to .ensures)
-      (c .wrapped-to2 .ensures)
-
-word-at-requires : tie.Need-word-at-requires Inv-loop μ-loop
-word-at-requires c κs = rw (pixel-is c) (wrapped-has-word _ _ _ _ (picture (turn c .before)) _)
+mul-out : tie.Need-mul-out Inv-loop μ-loop
+mul-out c = omega (arith, turn-in-memory c)
 
 slice-write-out : tie.Need-slice-write-out Inv-loop μ-loop
-slice-write-out c = omega (arith, room (turn (c .before)))
+slice-write-out c =
+    let l = c .before .before in
+    omega (arith, l .loop .inv .1 .same-length, start (l .before) .pre .2)
 
 loop-again : tie.Need-loop-again Inv-loop μ-loop
 loop-again c =
-    let t = turn (c .before) in
-    let l = t .before .loop in (
-      omega arith,
-      one-more-word _ _ _ _ _ _ _ (l .e) _ (l .inv .1) (omega (arith, room t, l .inv .1 .same-length)) (c .word-at .ensures)
-          (pixel-is (c .before)),
-    )
-
-same-length : tie.Need-same-length Inv-loop μ-loop
-same-length c = c .before .loop .inv .1 .same-length
+    let l = c .before .before in
+    (omega arith, one-more-word (start (l .before) .args .mem .now) (l .before .places-of .result) (l .loop .e) (l .loop .inv .1) (omega (arith, start (l .before) .pre .2)))
 
 returns : tie.Need-returns Inv-loop μ-loop
 returns c =
     let l = c .before in
-    let f = start l .fits in
-    let done : l .loop .e ≡ start l .args .t .used = omega arith in
-    rw (position-handed (f .i) (f .j)) at (rw done at (l .loop .inv .1 .is))
+    let u = start (l .before) .args in
+    let done : l .loop .e ≡ u .t .used = omega arith in
+    rw done at (l .loop .inv .1 .is)
+    ∙ ap (λ (xs : List ℕ). overStart xs (u .out .now)) (words-at-places (u .mem .now) (l .before .places-of .result) _ _ _ _ _ (place-is (l .before)))
 
 pub put-words-spec : {M : Type 1} → statement M
 put-words-spec =
@@ -95,15 +74,15 @@ put-words-spec =
     (tie.spec
     Inv-loop
     μ-loop
-    loop-holds
-    array-copy-out-wrapped-to
-    (λ c κs. omega (arith, picture (c .before .before)))
-    (λ c. array-copy-out-wrapped-to (c .before .before))
-    (λ c κs. let w = c .before .before in omega (arith, picture (w .before .before)))
-    word-at-requires
+    (λ c κs. let s = c .before .before in (s .pre .0, s .pre .1))
+    (λ c. (omega arith, no-words (start c .args .mem .now) (c .places-of .result) _))
+    (λ c. search needs)
+    (λ c. omega (arith, start (c .before .before) .pre .1))
+    mul-out
+    (λ c. turn-in-memory (c .before))
     (λ c. search needs)
     slice-write-out
     (λ c. search needs) (λ c. search needs)
     loop-again
-    same-length
+    (λ c. c .before .loop .inv .1 .same-length)
     returns)

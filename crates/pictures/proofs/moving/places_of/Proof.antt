@@ -1,0 +1,90 @@
+-- `pictures::moving::places_of` meets its contract. The loop's invariant: the first e places are those of the pixels.
+-- Assumes nothing.
+use Prim.Native.Nat.{_-_, _≤_}
+use native.Mathlib.Omega.{arith}
+use mathlib.Core.Path.{_≡_, _∙_, ap}
+use mir.Syntax.{w16}
+use mir.Val.{toZ, ofZ}
+use borrow.Author.Needs.{needs}
+use Rattle.scope.specs.Plans.{Pixel, at, plus, pixelAt}
+use Rattle.scope.specs.Banks.{wordOf, wrapped}
+use Rattle.scope.specs.promises.Meaning.{IsPicture}
+use Rattle.checks.proofs.FilledArrays.{Filled, filled-none, filled-more}
+use Rattle.pictures.proofs.Moved.{position, position-handed}
+use Rattle.pictures.proofs.CallTests.{picture-test-iff}
+use Rattle.pictures.proofs.Wrapped.{wrapped-has-word, wrapped-handed, placeFor}
+use Rattle.pictures.proofs.moving.places_of.Statement.{statement}
+use Rattle.pictures.proofs.moving.places_of.Tie as tie
+
+abbrev Inv-loop : tie.InvT-loop
+Inv-loop p w h words i j t places₀ e₀ places e = (e ≤ t .used) × Filled 0 (placeFor p w h t (position i j)) e places₀ places
+
+abbrev μ-loop : tie.MeasureT-loop
+μ-loop p w h words i j t places₀ e₀ places e = t .used - e
+
+-- where the function starts
+picture : (c : tie.Start Inv-loop μ-loop) → let u = c .args in IsPicture (u .p) (u .w) (u .h) (u .words)
+picture c = picture-test-iff _ _ _ _ .0 (c .pre .0)
+
+element-copy-out-wrapped-to : tie.Need-element-copy-out-wrapped-to Inv-loop μ-loop
+element-copy-out-wrapped-to c = omega (arith, c .before .before .pre .1)
+
+-- where the wrapped coordinates are known
+module _ (c : tie.After-wrapped-to2 Inv-loop μ-loop) where
+  abbrev column : tie.After-wrapped-to Inv-loop μ-loop
+  column = c .before .before
+
+  abbrev turn : tie.In-loop Inv-loop μ-loop
+  turn = column .before .before
+
+  abbrev start : tie.Start Inv-loop μ-loop
+  start = turn .before .before
+
+  abbrev o : Pixel
+  o = position (ofZ w16 (start .args .i)) (ofZ w16 (start .args .j))
+
+  pixel-is :
+      let u = start .args in
+      at (toZ w16 (ofZ w16 (column .wrapped-to .result))) (toZ w16 (ofZ w16 (c .wrapped-to2 .result)))
+      ≡ wrapped (u .w) (u .h) (plus o (pixelAt (u .t1) (turn .before .loop .e)))
+  unfolding pixelAt
+  pixel-is =
+      wrapped-handed (start .args .w) (start .args .h) o
+      (record { sfits = column .before .wrapped-to-arg .given }) (record { sfits = c .before .wrapped-to-arg2 .given })
+      (record { sfits = column .wrapped-to .ok }) (record { sfits = c .wrapped-to2 .ok }) (column .wrapped-to .ensures)
+      (c .wrapped-to2 .ensures)
+
+place-at-requires : tie.Need-place-at-requires Inv-loop μ-loop
+place-at-requires c κs = rw (pixel-is c) (wrapped-has-word _ _ _ _ (picture (start c)) _)
+
+loop-again : tie.Need-loop-again Inv-loop μ-loop
+loop-again c =
+    let u = start (c .before) .args in (
+      omega arith,
+      filled-more (turn (c .before) .before .loop .inv .1)
+          (c .place-at .ensures ∙ ap (wordOf (u .p) (u .w) (u .h)) (pixel-is (c .before))),
+    )
+
+returns : tie.Need-returns Inv-loop μ-loop
+returns c e h =
+    let l = c .before in
+    let f = l .before .fits in
+    rw (position-handed (f .i) (f .j)) at (l .loop .inv .1 .new e (omega arith) (omega (arith, l .loop .inv .1 .size, l .before .pre .1)))
+
+pub places-of-spec : {M : Type 1} → statement M
+places-of-spec =
+    tie.close
+    (tie.spec
+    Inv-loop
+    μ-loop
+    (λ c. (omega arith, filled-none _))
+    element-copy-out-wrapped-to
+    (λ c κs. omega (arith, picture (c .before .before .before)))
+    (λ c. element-copy-out-wrapped-to (c .before .before))
+    (λ c κs. omega (arith, picture (c .before .before .before .before .before)))
+    place-at-requires
+    (λ c. search needs)
+    (λ c. search needs)
+    (λ c. search needs) (λ c. search needs)
+    loop-again
+    returns)
