@@ -4,7 +4,7 @@ use scope::Book;
 use scope::Pattern;
 use scope::Plan;
 ghost use mathlib.Core.Path.{_≡_};
-ghost use Prim.Native.Nat.{_<_};
+ghost use Prim.Native.Nat.{_<_, min};
 ghost use Rattle.scope.specs.Plans.{plan};
 ghost use Rattle.capi.specs.Flat.{entries, flatPattern, flatBook, flatColumns, flatRows, flatUsed};
 
@@ -45,6 +45,13 @@ fn pattern_of(columns: &[i8; 1024], rows: &[i8; 1024], used: &[usize; 16], n: us
     }
 }
 
+// How many patterns of a record have an entry.
+fn entries_used(count: usize) -> usize
+    ensures { λ r. ⌜ r ≡ min count 16 ⌝ }
+{
+    if count < 16 { count } else { 16 }
+}
+
 // The record of the first `count` patterns of flat arrays, the others empty.
 pub(crate) fn book_of(
     columns: &[i8; 1024],
@@ -54,15 +61,12 @@ pub(crate) fn book_of(
 ) -> Book
     ensures { λ r. ⌜ r ≡ flatBook (now (columns .entry)) (now (rows .entry)) (now (used .entry)) count ⌝ }
 {
+    let end = entries_used(count);
     let empty = empty_pattern();
     let mut patterns = [empty; 16];
     let mut n = 0;
-    while n < 16 {
-        if count <= n {
-            return Book { patterns, count };
-        }
-        let t = pattern_of(columns, rows, used, n);
-        patterns[n] = t;
+    while n < end {
+        patterns[n] = pattern_of(columns, rows, used, n);
         n += 1;
     }
     Book { patterns, count }

@@ -1,6 +1,6 @@
 -- `capi::flat::book_of` meets its contract. The loop's invariant: the first n patterns are those of the arrays, the others empty.
 -- Assumes nothing.
-use Prim.Native.Nat.{ℕ, _-_, _≤_, _<_}
+use Prim.Native.Nat.{ℕ, _-_, _≤_, _<_, min}
 use native.Mathlib.Omega.{arith}
 use mathlib.Core.Path.{_≡_, _∙_}
 use mathlib.Core.List.{List, []}
@@ -20,36 +20,40 @@ FilledTo columns rows used n patterns =
     Filled (patternOf []) (flatPattern columns rows used) n (replicate 16 (patternOf [])) patterns
 
 abbrev Inv-loop : tie.InvT-loop
-Inv-loop columns rows used count patterns₀ n₀ patterns n =
-    (n ≤ 16) × (n ≤ count) × FilledTo columns rows used n patterns
+Inv-loop columns rows used count end patterns₀ n₀ patterns n = (n ≤ end) × FilledTo columns rows used n patterns
 
 abbrev μ-loop : tie.MeasureT-loop
-μ-loop columns rows used count patterns₀ n₀ patterns n = 16 - n
+μ-loop columns rows used count end patterns₀ n₀ patterns n = end - n
 
 -- all patterns that count and have a place are there
 book-filled :
-    (columns rows : List ℤ) (used : List ℕ) (count n : ℕ) {patterns : List Pattern} → FilledTo columns rows used n patterns
-    → n ≤ count → ((m : ℕ) → m < 16 → m < count → m < n)
+    (columns rows : List ℤ) (used : List ℕ) (count : ℕ) {patterns : List Pattern}
+    → FilledTo columns rows used (min count 16) patterns
     → record { patterns = patterns; count = count } ≡ flatBook columns rows used count
-book-filled columns rows used count n t low all =
+book-filled columns rows used count t =
     let size = t .size ∙ length-replicate 16 (patternOf []) in
-    is-flat-book columns rows used count (patternOf []) size (λ m b h. t .new m (all m b h) (omega (arith, size)))
+    is-flat-book columns rows used count (patternOf []) size (λ m b h. t .new m (omega arith) (omega (arith, size)))
     (λ m b h. t .old m (omega arith) ∙ getD-replicate 16 m (patternOf []) (patternOf []) b)
 
+-- the loop's end
+module _ (c : tie.At-loop Inv-loop μ-loop) where
+  end-is : c .before .before .entries-used .result ≡ min (c .before .before .before .args .count) 16
+  end-is = c .before .before .entries-used .ensures
+
 loop-holds : tie.Need-loop-holds Inv-loop μ-loop
-loop-holds c = (omega arith, omega arith, rw (c .empty-pattern .ensures) (filled-none _))
+loop-holds c = (omega arith, rw (c .empty-pattern .ensures) (filled-none _))
+
+below-16 : (c : tie.In-loop Inv-loop μ-loop) → c .before .loop .n < 16
+below-16 c = omega (arith, end-is (c .before))
+
+loop-again : tie.Need-loop-again Inv-loop μ-loop
+loop-again c = (omega arith, filled-more (c .before .before .loop .inv .1) (c .pattern-of .ensures))
 
 returns : tie.Need-returns Inv-loop μ-loop
 returns c =
-    let t = c .before .before .loop .inv in book-filled _ _ _ _ _ (t .2) (t .1) (λ m b h. omega arith)
-
-loop-again : tie.Need-loop-again Inv-loop μ-loop
-loop-again c =
-    let t = c .before .before .before .loop .inv in (omega arith, omega arith, filled-more (t .2) (c .pattern-of .ensures))
-
-returns-2 : tie.Need-returns-2 Inv-loop μ-loop
-returns-2 c =
-    let t = c .before .loop .inv in book-filled _ _ _ _ _ (t .2) (t .1) (λ m b h. omega arith)
+    let l = c .before in
+    let all : l .loop .n ≡ min (l .before .before .before .args .count) 16 = omega (arith, end-is l) in
+    book-filled _ _ _ _ (rw all at (l .loop .inv .1))
 
 pub book-of-spec : {M : Type 1} → statement M
 book-of-spec =
@@ -57,9 +61,11 @@ book-of-spec =
     (tie.spec
     Inv-loop
     μ-loop
-    (λ c κs. search needs)
+    (λ c κs. search needs) (λ c κs. search needs)
     loop-holds
-    returns
-    (λ c κs. omega arith) (λ c. search needs) (λ c. search needs) (λ c. search needs) (λ c. search needs)
+    (λ c κs. below-16 c)
+    (λ c. record { fits = omega (arith, below-16 (c .before)) })
+    (λ c. below-16 (c .before))
+    (λ c. search needs) (λ c. search needs)
     loop-again
-    returns-2)
+    returns)
