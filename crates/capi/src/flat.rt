@@ -63,13 +63,16 @@ pub(crate) fn book_of(
 {
     let end = entries_used(count);
     let empty = empty_pattern();
-    let mut patterns = [empty; 16];
+    let mut book = Book {
+        patterns: [empty; 16],
+        count,
+    };
     let mut n = 0;
     while n < end {
-        patterns[n] = pattern_of(columns, rows, used, n);
+        book.patterns[n] = pattern_of(columns, rows, used, n);
         n += 1;
     }
-    Book { patterns, count }
+    book
 }
 
 // Puts a record's columns and rows into two arrays.
