@@ -88,10 +88,6 @@ module _ (d : ℕ) (h : 0 < d) where
   remainder-of-shift z q =
       remainder-is (z +ℤ q *ℤ pos d) (floorDiv z d +ℤ q) (floorMod z d) (remainder-below z d h) (shifted-division z q)
 
-  pub quotient-of-shift : (z q : ℤ) → floorDiv (z +ℤ q *ℤ pos d) d ≡ floorDiv z d +ℤ q
-  quotient-of-shift z q =
-      quotient-is (z +ℤ q *ℤ pos d) (floorDiv z d +ℤ q) (floorMod z d) (remainder-below z d h) (shifted-division z q)
-
   -- the remainder of a sum
   pub remainder-of-sum : (x y : ℤ) → floorMod (x +ℤ y) d ≡ (floorMod x d + floorMod y d) % d
   remainder-of-sum x y =

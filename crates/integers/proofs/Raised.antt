@@ -1,21 +1,17 @@
 -- A signed number of w bits raised by 2^(w - 1), so that it is not negative: what the machine computes at 64 bits, one
--- law over the width, and what the raised number says of the number's size, quotient and remainder.
+-- law over the width, and what the raised number says of the number's sign and size.
 -- Assumes nothing.
-use Prim.Native.Nat.{ℕ, suc, _+_, _*_, _-_, _/_, _%_, _^_, _≤_, _<_}
+use Prim.Native.Nat.{ℕ, suc, _+_, _-_, _^_, _≤_, _<_}
 use mathlib.Core.Path.{_≡_, refl, sym, ap, subst, _∙_}
-use mathlib.Core.List.{[], _∷_}
 use native.Mathlib.Omega.{arith}
 use lib.Dec.{T, leb, leb→le}
-use lib.IntN.{ℤ, pos, negsuc, natAbs, _+ℤ_, _*ℤ_}
+use lib.IntN.{ℤ, pos, negsuc, natAbs, _+ℤ_}
 use lib.Signed.{nonNeg, mag}
 use mir.Syntax.{Width, w64}
 use mir.Val.{Fits, SFits, toZ, ofZ, hbits}
 use mir.Facts.{toZ-ofZ, sfits-widen}
-use Rattle.integers.specs.Division.{floorDiv, floorMod}
 use Rattle.integers.proofs.Integers.{above, below, own-parts, same-integer, same-difference, parts-add}
-use Rattle.integers.proofs.Ring.{ring, linear, _·_, reify}
 use Rattle.integers.proofs.Sizes.{small-fits, size-of-sum, fitting-size}
-use Rattle.integers.proofs.Divisions.{remainder-of-pos, quotient-of-pos, remainder-of-shift, quotient-of-shift}
 
 half : Width → ℕ
 half w = 2 ^ hbits w
@@ -111,21 +107,3 @@ module _ (h n : ℕ) (z : ℤ) (e : pos n ≡ z +ℤ pos h) where
       below-size : (y : ℤ) → n + below y ≡ above y + h → natAbs y ≡ h - n
       below-size (pos m) a = absurd (omega arith)
       below-size (negsuc m) a = omega arith
-
-  -- n + h × k is z + h × (k + 1)
-  shifted : (k : ℕ) → pos (n + h * k) ≡ z +ℤ pos h *ℤ pos (k + 1)
-  shifted k =
-      linear ((pos 1 · e) ∷ [])
-      (ring (pos n ∷ pos h ∷ pos k ∷ z ∷ []) (search reify depth 40 fits 9000) refl)
-
-  pub raised-remainder : (k : ℕ) → (n + h * k) % (k + 1) ≡ floorMod z (k + 1)
-  raised-remainder k =
-      sym (remainder-of-pos (n + h * k) (k + 1))
-      ∙ ap (λ (y : ℤ). floorMod y (k + 1)) (shifted k)
-      ∙ remainder-of-shift (k + 1) (omega arith) z (pos h)
-
-  pub raised-quotient : (k : ℕ) → pos ((n + h * k) / (k + 1)) ≡ floorDiv z (k + 1) +ℤ pos h
-  raised-quotient k =
-      sym (quotient-of-pos (n + h * k) (k + 1))
-      ∙ ap (λ (y : ℤ). floorDiv y (k + 1)) (shifted k)
-      ∙ quotient-of-shift (k + 1) (omega arith) z (pos h)

@@ -2,6 +2,7 @@
 ghost use mathlib.Core.Path.{_≡_};
 ghost use Prim.Native.Nat.{_+_, _<_};
 ghost use lib.IntN.{pos, natAbs, _+ℤ_};
+ghost use lib.Signed.{mag};
 ghost use Rattle.integers.specs.Division.{floorDiv, floorMod};
 ghost use Rattle.integers.specs.Gcd.{gcd};
 
@@ -29,27 +30,28 @@ pub fn raised16(z: i16) -> u64
     (z as i64 + 32768) as u64
 }
 
-// z + 2^31, so that every 32-bit number is one from 0 to 2^32 - 1.
-pub fn raised32(z: i32) -> u64
-    ensures { λ r. ⌜ (pos r ≡ z +ℤ pos 2147483648) × (r < 4294967296) ⌝ }
+// The number behind z's sign: z, and -1 - z of a negative z.
+fn behind_sign(z: i32) -> u32
+    ensures { λ r. ⌜ r ≡ mag z ⌝ }
 {
-    (z as i64 + 2147483648) as u64
+    if z < 0 { (-1 - z) as u32 } else { z as u32 }
 }
 
 // z mod (top + 1), the remainder from 0 to top. A divisor is given as the one less, so it is never 0.
-pub fn remainder(z: i32, top: u32) -> u64
+pub fn remainder(z: i32, top: u16) -> u32
     ensures { λ r. ⌜ r ≡ floorMod z (top + 1) ⌝ }
 {
-    let k = top as u64;
-    (raised32(z) + 2147483648 * k) % (k + 1)
+    let most = top as u32;
+    let r = behind_sign(z) % (most + 1);
+    if z < 0 { most - r } else { r }
 }
 
 // z/(top + 1) rounded down.
-pub fn quotient(z: i32, top: u32) -> i64
+pub fn quotient(z: i32, top: u16) -> i32
     ensures { λ r. ⌜ r ≡ floorDiv z (top + 1) ⌝ }
 {
-    let k = top as u64;
-    ((raised32(z) + 2147483648 * k) / (k + 1)) as i64 - 2147483648
+    let q = (behind_sign(z) / (top as u32 + 1)) as i32;
+    if z < 0 { -1 - q } else { q }
 }
 
 // The amount of z without its sign.

@@ -35,11 +35,11 @@ fn upright_column(a: u64, x1: i16, x2: i16) -> u64
     requires { ⌜ (0 < a) × (a ≤ 1024) ⌝ }
     ensures { λ r. ⌜ r ≡ floorMod (upright (at x1 x2) .column) a ⌝ }
 {
-    let top = (a - 1) as u32;
+    let top = (a - 1) as u16;
     if raised16(x2) < 32768 {
-        remainder(-(x1 as i32), top)
+        remainder(-(x1 as i32), top) as u64
     } else {
-        remainder(x1 as i32, top)
+        remainder(x1 as i32, top) as u64
     }
 }
 

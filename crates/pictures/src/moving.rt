@@ -38,7 +38,7 @@ fn wrapped_to(z: i16, c: i8, side: u32) -> i16
     if is_within(z, c, side) {
         return x as i16;
     }
-    remainder(x, side - 1) as i16
+    remainder(x, (side - 1) as u16) as i16
 }
 
 // Whether all pixels of a pattern, moved to (i, j), are inside.

@@ -72,10 +72,10 @@ pub(crate) fn bank_number(p: Plan, i: i16, j: i16) -> u64
     let a = p.a;
     let b = p.b;
     let d = p.d;
-    let q = quotient(j as i32, d - 1);
-    let r = remainder(j as i32, d - 1);
-    let c = remainder((i as i64 - b as i64 * q) as i32, a - 1);
-    r * a as u64 + c
+    let q = quotient(j as i32, (d - 1) as u16);
+    let r = remainder(j as i32, (d - 1) as u16);
+    let c = remainder(i as i32 - b as i32 * q, (a - 1) as u16);
+    (r * a + c) as u64
 }
 
 // The words of a bank of a picture of width w and height h.

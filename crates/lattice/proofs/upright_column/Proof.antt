@@ -70,8 +70,8 @@ upright-column-spec =
     (λ c. search needs) (λ c. search needs) (λ c κs. search needs)
     (λ c. widened-fits w16 w32 tt _ (c .before .before .fits .x1))
     sub-remainder
-    (λ c κs. search needs)
+    (λ c κs. search needs) (λ c. search needs)
     (λ c. widened-fits w16 w32 tt _ (c .before .before .fits .x1))
-    (λ c κs. search needs)
+    (λ c κs. search needs) (λ c. search needs)
     returns
     returns-2)

@@ -3,12 +3,12 @@
 -- Assumes nothing.
 use Prim.Native.Nat.{ℕ}
 use mathlib.Core.Path.{refl}
-use mathlib.Core.List.{List, [], _∷_, map}
+use mathlib.Core.List.{List, [], _∷_, _++_, map, flatMap}
 use lib.IntN.{ℤ, pos}
 use Rattle.scope.specs.Search.{gather}
 use Rattle.scope.specs.Plans.{Pixel, at, plan}
 use Rattle.scope.specs.Books.{bookOf}
-use Rattle.scope.specs.Numbers.{Answer}
+use Rattle.scope.specs.Numbers.{Answer, value, refusal}
 use Rattle.scope.specs.Calls.{bank, depth, address, locate, lent, store, load, clear, sum, fetch, ringFetch, fillRecords}
 use Rattle.scope.specs.promises.Demand as Demand
 use Rattle.scope.specs.values.Rows.{Row, Hold, row, is, refused, clashes, counted, loaded, located, done, records, neg, px, one, two, finds, checks}
@@ -55,6 +55,22 @@ unfolding px
 calls =
     Demand.write (Demand.store (px 1 0) 5) ∷ Demand.write (Demand.store (px 1 1) 6) ∷ Demand.write (Demand.store (px 2 0) 7) ∷ Demand.write (Demand.clear 2) ∷ Demand.write (Demand.store (px 0 1) 8)
     ∷ Demand.read (Demand.fetch 0 (px 0 1) []) ∷ Demand.write (Demand.clear 1) ∷ Demand.write (Demand.store (px 1 1) 9) ∷ []
+
+-- and two reads to make after them
+reads : List Demand.Call
+unfolding px
+reads = Demand.read (Demand.load (px 0 1)) ∷ Demand.read (Demand.fetch 0 (px 0 1) (3 ∷ 3 ∷ 3 ∷ [])) ∷ []
+
+-- an answer in numbers: 0 and its values, or the refusal's number; and a reply, a fetch's with its output
+numbers : {A : Type 0} → (A → List ℕ) → Answer A → List ℕ
+numbers f (value x) = 0 ∷ f x
+numbers f (refusal n i c) = n ∷ []
+
+replied : Demand.Reply → List ℕ
+unfolding numbers
+replied (Demand.wrote x) = numbers (λ u. []) x
+replied (Demand.loaded x) = numbers (λ n. n ∷ []) x
+replied (Demand.fetched x out) = numbers (λ n. n ∷ out) x
 
 -- Store, load, clear and sum.
 storing : List Row
@@ -126,11 +142,12 @@ filling-hold : Hold filling
 unfolding filling
 filling-hold = refl
 
--- Demand 3's list: what the memory holds after the calls, and the words last stored.
+-- Demand 3's list: what the memory holds after the calls, what they and the reads reply, and the words last stored.
 lists : List Row
-unfolding row is px setting calls Demand.run Demand.lastStored
+unfolding row is px setting calls reads replied flatMap Demand.run Demand.replies Demand.lastStored
 lists =
     row (is (Demand.run setting (0 ∷ 0 ∷ 0 ∷ 0 ∷ 4 ∷ []) calls)) (is (0 ∷ 8 ∷ 0 ∷ 9 ∷ 4 ∷ []))
+    ∷ row (is (flatMap replied (Demand.replies setting (0 ∷ 0 ∷ 0 ∷ 0 ∷ 4 ∷ []) (calls ++ reads)))) (is (0 ∷ 0 ∷ 14 ∷ 15 ∷ 0 ∷ 16 ∷ 0 ∷ 0 ∷ 0 ∷ 8 ∷ 0 ∷ 2 ∷ 8 ∷ 9 ∷ 3 ∷ []))
     ∷ row (is (map (Demand.lastStored setting 5 calls) (px 1 0 ∷ px 0 1 ∷ px 1 1 ∷ px 2 0 ∷ []))) (is (0 ∷ 8 ∷ 9 ∷ 0 ∷ []))
     ∷ []
 

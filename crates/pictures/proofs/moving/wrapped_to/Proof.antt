@@ -97,6 +97,6 @@ wrapped-to-spec =
     (λ c κs. search needs)
     cast-result
     returns
-    (λ c. search needs) (λ c κs. search needs)
+    (λ c. search needs) (λ c. search needs) (λ c κs. search needs)
     cast-result-2
     returns-2)
