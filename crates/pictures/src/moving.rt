@@ -71,12 +71,20 @@ fn place_at(p: Plan, w: u32, h: u32, words: usize, i: i16, j: i16) -> usize
     }
 }
 
-// The places of the words of a pattern's pixels, moved to (i, j) and wrapped.
-fn places_of(t: Pattern, p: Plan, w: u32, h: u32, words: usize, i: i16, j: i16) -> [usize; 64]
-    requires { ⌜ (pictureTest p w h words ≡ none) × (t .used ≤ 64) ⌝ }
-    ensures { λ r. ⌜ ((e : ℕ) → e < t .used → getD r e 0 ≡ wordOf p w h (wrapped w h (plus (at i j) (pixelAt t e)))) ⌝ }
+// Finds the places of the words of a pattern's pixels, moved to (i, j) and wrapped.
+fn find_places(
+    t: Pattern,
+    p: Plan,
+    w: u32,
+    h: u32,
+    words: usize,
+    i: i16,
+    j: i16,
+    places: &mut [usize; 64],
+)
+    requires { ⌜ (pictureTest p w h words ≡ none) × (t .used ≤ 64) × (length (now places) ≡ 64) ⌝ }
+    ensures { λ r. ⌜ ((e : ℕ) → e < t .used → getD (now (places .exit)) e 0 ≡ wordOf p w h (wrapped w h (plus (at i j) (pixelAt t e)))) ⌝ }
 {
-    let mut places = [0usize; 64];
     let mut e = 0;
     while e < t.used {
         let x = wrapped_to(i, t.columns[e], w);
@@ -84,7 +92,6 @@ fn places_of(t: Pattern, p: Plan, w: u32, h: u32, words: usize, i: i16, j: i16) 
         places[e] = place_at(p, w, h, words, x, y);
         e += 1;
     }
-    places
 }
 
 // Puts the words of a pattern's pixels, moved to (i, j) and wrapped, at the start of the output. All places are found before
@@ -103,7 +110,8 @@ pub(crate) fn put_words(
     ensures { λ r. ⌜ now (out .exit) ≡ overStart (wordsAt p w h (now (mem .entry)) (moved t (at i j))) (now (out .entry)) ⌝ }
 {
     let used = t.used;
-    let places = places_of(t, p, w, h, mem.len(), i, j);
+    let mut places = [0usize; 64];
+    find_places(t, p, w, h, mem.len(), i, j, &mut places);
     let mut e = 0;
     while e < used {
         let k = places[e];

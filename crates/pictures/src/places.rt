@@ -37,18 +37,10 @@ pub(crate) fn picture_outcome(p: Plan, w: u32, h: u32, words: usize) -> Outcome
 pub(crate) fn word_place(p: Plan, w: u32, h: u32, words: usize, i: i16, j: i16) -> Counted
     ensures { λ r. ⌜ r ≡ wordPlace p w h words (at i j) ⌝ }
 {
-    let answer = picture_depth(p, w, h, words);
-    if let Counted::Number(depth) = answer {
-        let address = p.address(w, h, i, j);
-        if let Counted::Number(u) = address {
-            let bank = p.bank(i, j);
-            if let Counted::Number(k) = bank {
-                return Counted::Number(k * depth + u);
-            }
-        }
-        return address;
+    if let Outcome::Refused(r) = picture_outcome(p, w, h, words) {
+        return Counted::Refused(r);
     }
-    answer
+    p.word(w, h, i, j)
 }
 
 // How many words bank k has, which begins at k times as many, or 11, 12, 13, 15.

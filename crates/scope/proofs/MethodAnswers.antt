@@ -10,12 +10,13 @@ use Rattle.scope.specs.Search.{whenever, firstOf, every}
 use Rattle.scope.specs.Plans.{Pixel, isPlan}
 use Rattle.scope.specs.Banks.{inside}
 use Rattle.scope.specs.Numbers.{isSide, planTest, sidesTest, outsideTest}
-use Rattle.scope.specs.Calls.{answered}
+use Rattle.scope.specs.Calls.{answered, addressTest}
 use Rattle.scope.specs.declared.Plan.{Plan}
 use Rattle.scope.specs.declared.Refusal.{Refusal}
+use Rattle.scope.specs.declared.Outcome.{Outcome}
 use Rattle.scope.specs.declared.Refusal.the-variants.{NotPlan, Sides, Outside}
 use Rattle.scope.proofs.Chains.{whenever-none, none-whenever, some-whenever, chain-none-iff, chain-refuses, chain-goes-on, chain-of-one}
-use Rattle.scope.proofs.Chains.{tests-as-one, gives-refusal}
+use Rattle.scope.proofs.Chains.{tests-as-one, gives-refusal, done-found-nothing, refused-found}
 
 -- the code asks `!r` for a test t whose value r a callee gave
 pub fails : {r t : Bool} → r ≡ t → not r ≡ true → t ≡ false
@@ -91,3 +92,41 @@ every-one f x = by-value (f x)
 pub outside-one : (W H : ℕ) (v : Pixel) → outsideTest W H (v ∷ []) ≡ whenever (not (inside W H v)) Outside
 unfolding outsideTest
 outside-one W H v = ap (λ (b : Bool). whenever (not b) Outside) (every-one (inside W H) v)
+
+-- 11, 12 and 14
+module _ (p : Plan) (W H : ℕ) (v : Pixel) where
+  as-two : addressTest p W H v ≡ firstOf (pictureTests p W H ∷ outsideTest W H (v ∷ []) ∷ [])
+  as-two = tests-as-one [] (planTest p ∷ sidesTest W H ∷ []) (outsideTest W H (v ∷ []) ∷ [])
+
+  one-left : firstOf (outsideTest W H (v ∷ []) ∷ []) ≡ whenever (not (inside W H v)) Outside
+  one-left = chain-of-one (outsideTest W H (v ∷ [])) ∙ outside-one W H v
+
+  pub pixel-refused-first : {r : Refusal} → pictureTests p W H ≡ some r → addressTest p W H v ≡ some r
+  pixel-refused-first {r} e = as-two ∙ chain-refuses (pictureTests p W H) (outsideTest W H (v ∷ []) ∷ []) r e
+
+  module _ (passed : pictureTests p W H ≡ none) where
+    past-picture : addressTest p W H v ≡ whenever (not (inside W H v)) Outside
+    past-picture = as-two ∙ chain-goes-on (pictureTests p W H) (outsideTest W H (v ∷ []) ∷ []) passed ∙ one-left
+
+    pub pixel-outside : inside W H v ≡ false → addressTest p W H v ≡ some Outside
+    pixel-outside e = past-picture ∙ demand-fails (inside W H v) Outside e
+
+    pub pixel-passes : inside W H v ≡ true → addressTest p W H v ≡ none
+    pixel-passes e = past-picture ∙ demand-met (inside W H v) Outside e
+
+  pub pixel-passed : addressTest p W H v ≡ none → (isPlan p ≡ true) × (isSide W && isSide H ≡ true) × (inside W H v ≡ true)
+  pixel-passed e =
+      let (picture, pixel) = chain-none-iff (pictureTests p W H) (outsideTest W H (v ∷ []) ∷ []) .0 (sym as-two ∙ e) in
+      let (plan, sides) = both-passed p W H picture in
+      (plan, sides, demanded (inside W H v) Outside (sym one-left ∙ pixel))
+
+  -- what the outcome of the three tells
+  abbrev pub pixelOutcome : Outcome
+  pixelOutcome = answered (addressTest p W H v) Outcome.Refused Outcome.Done
+
+  module _ {o : Outcome} (is : o ≡ pixelOutcome) where
+    pub pixel-found : {r : Refusal} → o ≡ Outcome.Refused r → addressTest p W H v ≡ some r
+    pixel-found = refused-found (addressTest p W H v) is
+
+    pub pixel-found-nothing : o ≡ Outcome.Done → addressTest p W H v ≡ none
+    pixel-found-nothing = done-found-nothing (addressTest p W H v) is

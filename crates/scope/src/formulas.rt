@@ -7,10 +7,11 @@ use integers::raised16;
 use integers::remainder;
 ghost use mathlib.Core.Path.{_≡_};
 ghost use mathlib.Core.Bool.{true, _&&_};
-ghost use Prim.Native.Nat.{_/_, _≤_};
-ghost use Rattle.integers.specs.Division.{ceilDiv};
+ghost use Prim.Native.Nat.{_+_, _*_, _/_, _≤_, _<_};
+ghost use lib.IntN.{pos, natAbs, _-ℤ_, _*ℤ_};
+ghost use Rattle.integers.specs.Division.{floorMod, ceilDiv};
 ghost use Rattle.scope.specs.Plans.{at, isPlan};
-ghost use Rattle.scope.specs.Banks.{bankOf, inside, depthOf, addressOf};
+ghost use Rattle.scope.specs.Banks.{bankOf, inside, across, depthOf, addressOf, wordOf};
 ghost use Rattle.scope.specs.Numbers.{isSide};
 ghost use Rattle.scope.specs.Calls.{locate};
 
@@ -64,18 +65,24 @@ fn rounded_up(n: u32, k: u32) -> u32
     divided(n + (k - 1), k)
 }
 
-// The bank of the pixel in column i and row j. b × q is at most 1023 × 2^15 either way, so i - b × q fits 32 bits.
+// The bank of column i in row r of the strip q. b × q is at most 1023 × 2^15 either way, so i - b × q fits 32 bits.
+fn bank_in(p: Plan, i: i16, q: i32, r: u32) -> u64
+    requires { ⌜ (isPlan p ≡ true) × (natAbs q ≤ 32768) × (r < p .d) ⌝ }
+    ensures { λ k. ⌜ k ≡ r * p .a + floorMod (i -ℤ pos (p .b) *ℤ q) (p .a) ⌝ }
+{
+    let c = remainder(i as i32 - p.b as i32 * q, (p.a - 1) as u16);
+    (r * p.a + c) as u64
+}
+
+// The bank of the pixel in column i and row j.
 pub(crate) fn bank_number(p: Plan, i: i16, j: i16) -> u64
     requires { ⌜ isPlan p ≡ true ⌝ }
     ensures { λ r. ⌜ r ≡ bankOf p (at i j) ⌝ }
 {
-    let a = p.a;
-    let b = p.b;
-    let d = p.d;
-    let q = quotient(j as i32, (d - 1) as u16);
-    let r = remainder(j as i32, (d - 1) as u16);
-    let c = remainder(i as i32 - b as i32 * q, (a - 1) as u16);
-    (r * a + c) as u64
+    let top = (p.d - 1) as u16;
+    let q = quotient(j as i32, top);
+    let r = remainder(j as i32, top);
+    bank_in(p, i, q, r)
 }
 
 // The words of a bank of a picture of width w and height h.
@@ -86,12 +93,32 @@ pub(crate) fn depth_number(p: Plan, w: u32, h: u32) -> u64
     (rounded_up(w, p.a) * rounded_up(h, p.d)) as u64
 }
 
+// The address of column i in the strip q of a picture of width w and height h.
+fn address_in(p: Plan, w: u32, h: u32, i: u32, q: u32) -> u64
+    requires { ⌜ (isPlan p ≡ true) × (isSide w && isSide h ≡ true) × (i < 4096) × (q < 4096) ⌝ }
+    ensures { λ r. ⌜ r ≡ q * across p w + i / p .a ⌝ }
+{
+    (q * rounded_up(w, p.a) + divided(i, p.a)) as u64
+}
+
 // The address of the pixel in column i and row j of a picture of width w and height h.
 pub(crate) fn address_number(p: Plan, w: u32, h: u32, i: i16, j: i16) -> u64
     requires { ⌜ (isPlan p ≡ true) × (isSide w && isSide h ≡ true) × (inside w h (at i j) ≡ true) ⌝ }
     ensures { λ r. ⌜ r ≡ addressOf p w h (at i j) ⌝ }
 {
-    (divided(j as u32, p.d) * rounded_up(w, p.a) + divided(i as u32, p.a)) as u64
+    address_in(p, w, h, i as u32, divided(j as u32, p.d))
+}
+
+// The word of the pixel in column i and row j of a picture of width w and height h: its bank and address, with one division of
+// the row for both.
+pub(crate) fn word_number(p: Plan, w: u32, h: u32, i: i16, j: i16) -> u64
+    requires { ⌜ (isPlan p ≡ true) × (isSide w && isSide h ≡ true) × (inside w h (at i j) ≡ true) ⌝ }
+    ensures { λ r. ⌜ r ≡ wordOf p w h (at i j) ⌝ }
+{
+    let y = j as u32;
+    let q = divided(y, p.d);
+    let bank = bank_in(p, i, q as i32, y - q * p.d);
+    bank * depth_number(p, w, h) + address_in(p, w, h, i as u32, q)
 }
 
 // The pixel of bank k and address i in a picture of width w and height h, or 15. Before the last test its column and row

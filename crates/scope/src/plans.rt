@@ -1,4 +1,4 @@
-// A plan's methods: whether it is one, its bank count, and the calls bank, depth, address and reverse map, each of which
+// A plan's methods: whether it is one, its bank count, and the calls bank, depth, address, word and reverse map, each of which
 // tests the plan and the sides itself.
 use crate::Counted;
 use crate::Located;
@@ -11,12 +11,13 @@ use crate::formulas::bank_number;
 use crate::formulas::depth_number;
 use crate::formulas::is_inside;
 use crate::formulas::reverse_map;
+use crate::formulas::word_number;
 ghost use mathlib.Core.Path.{_≡_};
 ghost use mathlib.Core.List.{[], _∷_};
 ghost use Rattle.scope.specs.Search.{firstOf};
 ghost use Rattle.scope.specs.Plans.{at, isPlan, banks};
 ghost use Rattle.scope.specs.Numbers.{planTest, sidesTest};
-ghost use Rattle.scope.specs.Calls.{answered, bank, depth, address, locate};
+ghost use Rattle.scope.specs.Calls.{answered, bank, depth, addressTest, address, word, locate};
 
 impl Plan {
     // Whether it is a plan as defined.
@@ -72,17 +73,37 @@ impl Plan {
         Counted::Number(depth_number(self, w, h))
     }
 
+    // The tests of a pixel of a picture of width w and height h: 11, 12, 14.
+    fn pixel_outcome(self, w: u32, h: u32, i: i16, j: i16) -> Outcome
+        ensures { λ r. ⌜ r ≡ answered (addressTest self w h (at i j)) Outcome.Refused Outcome.Done ⌝ }
+    {
+        if let Outcome::Refused(r) = self.picture_outcome(w, h) {
+            return Outcome::Refused(r);
+        }
+        if !is_inside(w, h, i, j) {
+            return Outcome::Refused(Refusal::Outside);
+        }
+        Outcome::Done
+    }
+
     // The address of a pixel in a picture of width w and height h, or 11, 12, 14.
     pub fn address(self, w: u32, h: u32, i: i16, j: i16) -> Counted
         ensures { λ r. ⌜ r ≡ address self w h (at i j) ⌝ }
     {
-        if let Outcome::Refused(r) = self.picture_outcome(w, h) {
+        if let Outcome::Refused(r) = self.pixel_outcome(w, h, i, j) {
             return Counted::Refused(r);
         }
-        if !is_inside(w, h, i, j) {
-            return Counted::Refused(Refusal::Outside);
-        }
         Counted::Number(address_number(self, w, h, i, j))
+    }
+
+    // The word of a pixel in the memory of a picture of width w and height h, or 11, 12, 14.
+    pub fn word(self, w: u32, h: u32, i: i16, j: i16) -> Counted
+        ensures { λ r. ⌜ r ≡ word self w h (at i j) ⌝ }
+    {
+        if let Outcome::Refused(r) = self.pixel_outcome(w, h, i, j) {
+            return Counted::Refused(r);
+        }
+        Counted::Number(word_number(self, w, h, i, j))
     }
 
     // The pixel of bank k and address i, or 11, 12, 15.

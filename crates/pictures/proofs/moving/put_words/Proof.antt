@@ -2,7 +2,7 @@
 -- Assumes nothing.
 use Prim.Native.Nat.{ℕ, _-_, _≤_, _<_}
 use native.Mathlib.Omega.{arith}
-use mathlib.Core.Path.{_≡_, _∙_, ap}
+use mathlib.Core.Path.{_≡_, refl, _∙_, ap}
 use mathlib.Core.List.{List}
 use lib.ListN.{length, getD}
 use borrow.Author.Needs.{needs}
@@ -23,20 +23,23 @@ abbrev μ-loop : tie.MeasureT-loop
 μ-loop w h mem i j out₀ used places e₀ out e = used - e
 
 -- where the places are known
-module _ (c : tie.After-places-of Inv-loop μ-loop) where
+module _ (c : tie.After-find-places Inv-loop μ-loop) where
   abbrev start : tie.Start Inv-loop μ-loop
-  start = c .before .before .before
+  start = c .before .before .before .before
+
+  abbrev places : List ℕ
+  places = c .find-places .last .1 .1 .1 .1 .1 .1 .1 .0
 
   place-is : (e : ℕ) → e < start .args .t .used →
       let u = start .args in
-      getD (c .places-of .result) e 0 ≡ placeFor (u .p) (u .w) (u .h) (u .t) (at (u .i) (u .j)) e
+      getD places e 0 ≡ placeFor (u .p) (u .w) (u .h) (u .t) (at (u .i) (u .j)) e
   place-is e h =
       let u = start .args in
       let f = start .fits in
-      c .places-of .ensures e h ∙ ap (λ (o : Pixel). placeFor (u .p) (u .w) (u .h) (u .t) o e) (pixel-handed (f .i) (f .j))
+      c .find-places .ensures e h ∙ ap (λ (o : Pixel). placeFor (u .p) (u .w) (u .h) (u .t) o e) (pixel-handed (f .i) (f .j))
 
   -- each place is one of the memory's
-  in-memory : (e : ℕ) → e < start .args .t .used → getD (c .places-of .result) e 0 < length (start .args .mem .now)
+  in-memory : (e : ℕ) → e < start .args .t .used → getD places e 0 < length (start .args .mem .now)
   in-memory e h =
       rw (place-is e h)
       (word-in-memory _ _ _ _ _ (wrapped-has-word _ _ _ _ (picture-test-iff _ _ _ _ .0 (start .pre .0)) _))
@@ -44,7 +47,7 @@ module _ (c : tie.After-places-of Inv-loop μ-loop) where
 -- the place of a turn
 turn-in-memory :
     (c : tie.In-loop Inv-loop μ-loop)
-    → let f = c .before .before in getD (f .places-of .result) (c .before .loop .e) 0 < length (start f .args .mem .now)
+    → let f = c .before .before in getD (places f) (c .before .loop .e) 0 < length (start f .args .mem .now)
 turn-in-memory c = in-memory (c .before .before) (c .before .loop .e) (c .loop-test .taken)
 
 mul-out : tie.Need-mul-out Inv-loop μ-loop
@@ -58,7 +61,7 @@ slice-write-out c =
 loop-again : tie.Need-loop-again Inv-loop μ-loop
 loop-again c =
     let l = c .before .before in
-    (omega arith, one-more-word (start (l .before) .args .mem .now) (l .before .places-of .result) (l .loop .e) (l .loop .inv .1) (omega (arith, start (l .before) .pre .2)))
+    (omega arith, one-more-word (start (l .before) .args .mem .now) (places (l .before)) (l .loop .e) (l .loop .inv .1) (omega (arith, start (l .before) .pre .2)))
 
 returns : tie.Need-returns Inv-loop μ-loop
 returns c =
@@ -66,7 +69,7 @@ returns c =
     let u = start (l .before) .args in
     let done : l .loop .e ≡ u .t .used = omega arith in
     rw done at (l .loop .inv .1 .is)
-    ∙ ap (λ (xs : List ℕ). overStart xs (u .out .now)) (words-at-places (u .mem .now) (l .before .places-of .result) _ _ _ _ _ (place-is (l .before)))
+    ∙ ap (λ (xs : List ℕ). overStart xs (u .out .now)) (words-at-places (u .mem .now) (places (l .before)) _ _ _ _ _ (place-is (l .before)))
 
 pub put-words-spec : {M : Type 1} → statement M
 put-words-spec =
@@ -74,8 +77,8 @@ put-words-spec =
     (tie.spec
     Inv-loop
     μ-loop
-    (λ c κs. let s = c .before .before in (s .pre .0, s .pre .1))
-    (λ c. (omega arith, no-words (start c .args .mem .now) (c .places-of .result) _))
+    (λ c κs. let s = c .before .before .before in (s .pre .0, s .pre .1, refl))
+    (λ c. (omega arith, no-words (start c .args .mem .now) (places c) _))
     (λ c. search needs)
     (λ c. omega (arith, start (c .before .before) .pre .1))
     mul-out

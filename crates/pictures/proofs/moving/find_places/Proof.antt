@@ -1,4 +1,4 @@
--- `pictures::moving::places_of` meets its contract. The loop's invariant: the first e places are those of the pixels.
+-- `pictures::moving::find_places` meets its contract. The loop's invariant: the first e places are those of the pixels.
 -- Assumes nothing.
 use Prim.Native.Nat.{_-_, _≤_}
 use native.Mathlib.Omega.{arith}
@@ -13,14 +13,14 @@ use Rattle.checks.proofs.FilledArrays.{Filled, filled-none, filled-more}
 use Rattle.pictures.proofs.Moved.{position, position-handed}
 use Rattle.pictures.proofs.CallTests.{picture-test-iff}
 use Rattle.pictures.proofs.Wrapped.{wrapped-has-word, wrapped-handed, placeFor}
-use Rattle.pictures.proofs.moving.places_of.Statement.{statement}
-use Rattle.pictures.proofs.moving.places_of.Tie as tie
+use Rattle.pictures.proofs.moving.find_places.Statement.{statement}
+use Rattle.pictures.proofs.moving.find_places.Tie as tie
 
 abbrev Inv-loop : tie.InvT-loop
-Inv-loop p w h words i j t places₀ e₀ places e = (e ≤ t .used) × Filled 0 (placeFor p w h t (position i j)) e places₀ places
+Inv-loop p w h words i j places₀ t e₀ places e = (e ≤ t .used) × Filled 0 (placeFor p w h t (position i j)) e places₀ places
 
 abbrev μ-loop : tie.MeasureT-loop
-μ-loop p w h words i j t places₀ e₀ places e = t .used - e
+μ-loop p w h words i j places₀ t e₀ places e = t .used - e
 
 -- where the function starts
 picture : (c : tie.Start Inv-loop μ-loop) → let u = c .args in IsPicture (u .p) (u .w) (u .h) (u .words)
@@ -69,10 +69,10 @@ returns : tie.Need-returns Inv-loop μ-loop
 returns c e h =
     let l = c .before in
     let f = l .before .fits in
-    rw (position-handed (f .i) (f .j)) at (l .loop .inv .1 .new e (omega arith) (omega (arith, l .loop .inv .1 .size, l .before .pre .1)))
+    rw (position-handed (f .i) (f .j)) at (l .loop .inv .1 .new e (omega arith) (omega (arith, l .loop .inv .1 .size, l .before .pre)))
 
-pub places-of-spec : {M : Type 1} → statement M
-places-of-spec =
+pub find-places-spec : {M : Type 1} → statement M
+find-places-spec =
     tie.close
     (tie.spec
     Inv-loop
