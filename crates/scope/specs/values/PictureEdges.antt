@@ -9,7 +9,7 @@ use Rattle.scope.specs.Search.{gather}
 use Rattle.scope.specs.Plans.{Pixel, at, plan}
 use Rattle.scope.specs.Books.{bookOf}
 use Rattle.scope.specs.Numbers.{Answer, value, refusal}
-use Rattle.scope.specs.Calls.{bank, depth, address, locate, lent, store, load, clear, sum, fetch, ringFetch, fillRecords}
+use Rattle.scope.specs.Calls.{bank, depth, address, word, locate, lent, store, load, clear, sum, fetch, ringFetch, fillRecords}
 use Rattle.scope.specs.promises.Demand as Demand
 use Rattle.scope.specs.values.Rows.{Row, Hold, row, is, refused, clashes, counted, loaded, located, done, records, neg, px, one, two, finds, checks}
 use Rattle.scope.specs.declared.Plan.{Plan}
@@ -72,11 +72,13 @@ replied (Demand.wrote x) = numbers (λ u. []) x
 replied (Demand.loaded x) = numbers (λ n. n ∷ []) x
 replied (Demand.fetched x out) = numbers (λ n. n ∷ out) x
 
--- Store, load, clear and sum.
+-- The word of a pixel; store, load, clear and sum.
 storing : List Row
-unfolding row is refused done counted loaded store load clear sum plan px upTo
+unfolding row is refused done counted loaded word store load clear sum plan px upTo
 storing =
-    row (is (store (plan 2 0 1) 2 2 (lent (upTo 5)) (px 1 0) 9 .content .memory)) (is (1 ∷ 2 ∷ 9 ∷ 4 ∷ 5 ∷ []))
+    row (counted (word (plan 5 2 1) 7 4 (px 2 3))) (is (14 ∷ []))
+    ∷ row (counted (word (plan 5 2 1) 7 4 (px 7 3))) (refused 14 0)
+    ∷ row (is (store (plan 2 0 1) 2 2 (lent (upTo 5)) (px 1 0) 9 .content .memory)) (is (1 ∷ 2 ∷ 9 ∷ 4 ∷ 5 ∷ []))
     ∷ row (done (store (plan 2 0 1) 2 2 (lent (upTo 5)) (px 1 0) 9 .answer)) (is [])
     ∷ row (is (store (plan 2 0 1) 2 2 (lent (upTo 5)) (px 2 0) 9 .content .memory)) (is (1 ∷ 2 ∷ 3 ∷ 4 ∷ 5 ∷ []))
     ∷ row (loaded (load (plan 2 0 1) 2 2 (upTo 4) (px 1 0))) (is (3 ∷ []))
@@ -157,11 +159,13 @@ lists-hold = refl
 
 -- Two conditions at once: the one that document 01 tests first is given. 5000 is no side, and needs more memory than there is.
 orders : List Row
-unfolding row refused finds checks done counted loaded located depth address locate load clear fillRecords plan px upTo recordAt store sum
+unfolding row refused finds checks done counted loaded located depth address word locate load clear fillRecords plan px upTo recordAt store sum
 orders =
     row (counted (depth (plan 0 0 1) 0 0)) (refused 11 0)
     ∷ row (counted (address (plan 0 0 1) 0 0 (px 0 0))) (refused 11 0)
     ∷ row (counted (address (plan 5 2 1) 0 4 (px 9 9))) (refused 12 0)
+    ∷ row (counted (word (plan 0 0 1) 0 0 (px 0 0))) (refused 11 0)
+    ∷ row (counted (word (plan 5 2 1) 0 4 (px 9 9))) (refused 12 0)
     ∷ row (located (locate (plan 0 0 1) 0 0 0 0)) (refused 11 0)
     ∷ row (located (locate (plan 5 2 1) 0 4 9 9)) (refused 12 0)
     ∷ row (loaded (load (plan 0 0 1) 0 0 [] (px 0 0))) (refused 11 0)
