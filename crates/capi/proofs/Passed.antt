@@ -16,11 +16,11 @@ use Rattle.scope.specs.declared.Outcome.{Outcome}
 use Rattle.scope.specs.declared.Outcome.the-variants.{Done, Refused}
 use Rattle.scope.specs.declared.Reading.{Reading}
 use Rattle.checks.proofs.Chains.{Gives}
-use Rattle.capi.specs.Told.{Tells, numberTold, clashRow, rowIn, planRow, noRow, putFrom, ofListed, ofFoundRun}
+use Rattle.capi.specs.Told.{Tells, numberTold, rowIn, planRow, noRow, putFrom, ofListed, ofFoundRun}
 use Rattle.pictures.specs.declared.lists.Listed.{Listed}
 use Rattle.claims.specs.declared.FoundRun.{FoundRun}
 use Rattle.claims.specs.Demanded.{findAndRun, Demanded}
-use Rattle.pictures.specs.Lists.{Buffers}
+use Rattle.pictures.specs.Lists.{clashNumbers, Buffers}
 use Rattle.capi.specs.Flat.{ofReading, whenRead}
 
 pub told-of :
@@ -60,7 +60,7 @@ told-value {row} {before} e put =
 
 pub told-refusal :
     {A : Type 0} {row : A → List ℕ} {x : Answer A} {m place : ℕ} {clash : Option Clash} {before after : List ℕ} {n : ℕ}
-    → x ≡ refusal m place clash → (n ≡ m) × (after ≡ putFrom 0 (place ∷ clashRow clash) before) → Tells row x before after n
+    → x ≡ refusal m place clash → (n ≡ m) × (after ≡ putFrom 0 (place ∷ clashNumbers clash) before) → Tells row x before after n
 told-refusal {row} {before} e (number, put) =
     record {
       number = number ∙ sym (ap numberTold e);

@@ -3,15 +3,15 @@
 -- Assumes nothing.
 use Prim.Native.Nat.{ℕ, suc}
 use mathlib.Core.Path.{_≡_}
-use mathlib.Core.Option.{Option, none, some}
+use mathlib.Core.Option.{none}
 use mathlib.Core.List.{List, [], _∷_, _++_}
 use lib.IntN.{natAbs}
 use lib.ListN.{set}
 use Rattle.scope.specs.Plans.{Pixel}
 use Rattle.scope.specs.Numbers.{Answer, value, refusal, turnedDown}
-use Rattle.scope.specs.declared.Clash.{Clash}
 use Rattle.scope.specs.declared.Plan.{Plan}
 use Rattle.scope.specs.declared.Checked.{Checked}
+use Rattle.pictures.specs.Lists.{clashNumbers}
 use Rattle.pictures.specs.declared.lists.Listed.{Listed}
 use Rattle.claims.specs.declared.FoundRun.{FoundRun}
 
@@ -20,14 +20,10 @@ abbrev pub numberTold : {A : Type 0} → Answer A → ℕ
 numberTold (value x) = 0
 numberTold (refusal n place clash) = n
 
-abbrev pub clashRow : Option Clash → List ℕ
-clashRow none = []
-clashRow (some c) = c .pattern ∷ c .earlier ∷ c .later ∷ []
-
 -- the answer's values, or the refusal's place and, of 10, the clash's pattern and its earlier and later position
 abbrev pub rowIn : {A : Type 0} → (A → List ℕ) → Answer A → List ℕ
 rowIn f (value x) = f x
-rowIn f (refusal n place clash) = place ∷ clashRow clash
+rowIn f (refusal n place clash) = place ∷ clashNumbers clash
 
 -- the values of a plan, a checked plan, a number, a pixel of a picture, and of a call that has nothing to tell
 abbrev pub planRow : Plan → List ℕ

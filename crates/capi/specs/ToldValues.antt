@@ -11,7 +11,9 @@ use Rattle.scope.specs.Numbers.{Answer, value, turnedDown, ofVerdict}
 use Rattle.scope.specs.declared.Book.{Book}
 use Rattle.scope.specs.declared.Refusal.{Refusal}
 use Rattle.scope.specs.declared.Verdict.{Verdict}
-use Rattle.capi.specs.Told.{numberTold, rowIn, planRow, checkedRow, numberRow, pixelRow, putFrom}
+use Rattle.pictures.specs.declared.lists.Listed.{Listed}
+use Rattle.claims.specs.declared.FoundRun.{FoundRun}
+use Rattle.capi.specs.Told.{numberTold, rowIn, planRow, checkedRow, numberRow, pixelRow, noRow, putFrom, ofListed, ofFoundRun}
 use Rattle.capi.specs.Flat.{flatBook, flatColumns, flatRows, flatUsed}
 
 -- the number that an answer is told by, and an array of twelve nines after it
@@ -45,6 +47,23 @@ answers =
 answers-hold : map (λ r. r .computed) answers ≡ map (λ r. r .stated) answers
 unfolding answers
 answers-hold = refl
+
+-- what came of a list of calls, and of one that begins with the finder
+lists : List (Row (List ℕ))
+unfolding row told plan
+lists =
+    row (told noRow (ofListed Listed.Made)) (0 ∷ replicate 12 9)
+    ∷ row (told noRow (ofListed (Listed.NotCalls 10))) (255 ∷ 10 ∷ replicate 11 9)
+    ∷ row (told noRow (ofListed Listed.Short)) (16 ∷ 0 ∷ replicate 11 9)
+    ∷ row (told planRow (ofFoundRun (FoundRun.Ran (plan 5 2 1) Listed.Made))) (0 ∷ 5 ∷ 2 ∷ 1 ∷ replicate 9 9)
+    ∷ row (told planRow (ofFoundRun (FoundRun.Ran (plan 5 2 1) (Listed.NotCalls 10)))) (255 ∷ 10 ∷ replicate 11 9)
+    ∷ row (told planRow (ofFoundRun (FoundRun.Ran (plan 5 2 1) Listed.Short))) (16 ∷ 0 ∷ replicate 11 9)
+    ∷ row (told planRow (ofFoundRun (FoundRun.Refused (Refusal.Repeat 4)))) (4 ∷ 4 ∷ replicate 11 9)
+    ∷ []
+
+lists-hold : map (λ r. r .computed) lists ≡ map (λ r. r .stated) lists
+unfolding lists
+lists-hold = refl
 
 -- flat arrays of two patterns, the pixel (1, 2) and the pixels (3, 4) and (5, 6); the entries left out are 0
 unflattened : ℕ → Book

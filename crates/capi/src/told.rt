@@ -15,11 +15,12 @@ use scope::row_of;
 ghost use mathlib.Core.Path.{_≡_};
 ghost use mathlib.Core.List.{_∷_};
 ghost use Rattle.scope.specs.Numbers.{numberOf, placeOf, clashOf, ofPlanned, ofCounted, ofLoaded, ofLocated, ofOutcome, ofVerdict};
-ghost use Rattle.capi.specs.Told.{Tells, clashRow, planRow, checkedRow, numberRow, pixelRow, noRow, putFrom, ofListed, ofFoundRun};
+ghost use Rattle.pictures.specs.Lists.{clashNumbers};
+ghost use Rattle.capi.specs.Told.{Tells, planRow, checkedRow, numberRow, pixelRow, noRow, putFrom, ofListed, ofFoundRun};
 
 // A refusal's number; its place and its clash go to the array.
 pub(crate) fn tell_refusal(r: Refusal, answer: &mut [u64; 12]) -> u64
-    ensures { λ n. ⌜ (n ≡ numberOf r) × (now (answer .exit) ≡ putFrom 0 (placeOf r ∷ clashRow (clashOf r)) (now (answer .entry))) ⌝ }
+    ensures { λ n. ⌜ (n ≡ numberOf r) × (now (answer .exit) ≡ putFrom 0 (placeOf r ∷ clashNumbers (clashOf r)) (now (answer .entry))) ⌝ }
 {
     let Row(number, place, c) = row_of(r);
     answer[0] = place;

@@ -2,7 +2,7 @@
 -- Assumes nothing.
 use Prim.Native.Nat.{ℕ}
 use native.Mathlib.Omega.{arith}
-use mathlib.Core.Path.{_≡_, refl, sym, _∙_, ap, ap₂}
+use mathlib.Core.Path.{_≡_, refl, sym, _∙_, ap, ap₂, subst}
 use mathlib.Core.Option.{Option, none, some}
 use mathlib.Core.List.{List, [], _∷_, _++_, flatMap, append-assoc}
 use lib.ListN.{length, getD, drop}
@@ -22,6 +22,7 @@ use Rattle.pictures.specs.declared.lists.Listed.{Listed}
 use Rattle.pictures.proofs.DemandHolds.{demand-3}
 use Rattle.pictures.proofs.ListFaults.{made-passes}
 use Rattle.claims.specs.Demanded.{ranFor, findAndRun, repliesDue, DemandMet, Demanded}
+use Rattle.claims.specs.DemandedExample.{Contract}
 use Rattle.claims.specs.declared.FoundRun.{FoundRun}
 
 -- Each reply is the one that is due.
@@ -109,3 +110,23 @@ module _ (book : Book) (limit W H : ℕ) (numbers : List ℕ) (b : Buffers) {pla
     ap (λ (r : Result FoundRun Buffers). r .answer) (sym (by-answer found)),
     (ap (λ (r : Result FoundRun Buffers). r .content) (sym (by-answer found)), λ q ran enough zeros. absurd (refused-not-ran ran)),
   )
+
+-- So the third clause of the contract holds of all that meets the first two.
+module _ (book : Book) (limit W H : ℕ) (numbers : List ℕ) (b : Buffers) (r : FoundRun) (left : Buffers) where
+  abbrev KeptOf : FoundRun → Buffers → Type 0
+  KeptOf = Kept book limit W H numbers b {planned = find book limit} refl
+
+  same-kept :
+      {s : FoundRun} {x : Buffers} → r ≡ findAndRun book limit W H numbers b .answer
+      → left ≡ findAndRun book limit W H numbers b .content → KeptOf s x → Demanded r book W H numbers b left
+  same-kept {s} answer content (a, (c, demand)) =
+      subst (λ (s : FoundRun). Demanded s book W H numbers b left) (a ∙ sym answer)
+      (subst (λ (x : Buffers). Demanded s book W H numbers b x) (c ∙ sym content) demand)
+
+  by-found : (q : Planned) → find book limit ≡ q → (s : FoundRun) × (x : Buffers) × KeptOf s x
+  by-found (Planned.Plan p) found = (_, _, plan-kept book limit W H numbers b refl found (refl, refl))
+  by-found (Planned.Refused f) found = (_, _, refusal-kept book limit W H numbers b refl found)
+
+pub contract-holds : Contract
+contract-holds book limit W H numbers b r left answer content =
+    same-kept book limit W H numbers b r left answer content (by-found book limit W H numbers b r left (find book limit) refl .2)

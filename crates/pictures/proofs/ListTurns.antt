@@ -24,7 +24,7 @@ use Rattle.scope.specs.declared.Outcome.{Outcome}
 use Rattle.scope.specs.declared.Plan.{Plan}
 use Rattle.pictures.proofs.ReplyRows.{length-reply}
 use Rattle.pictures.proofs.ListFaults.{room-at, fault-goes-on}
-use Rattle.pictures.proofs.Stretches.{putFrom, nothing-put, put-after, after-stretch, stretch-length}
+use Rattle.pictures.proofs.Stretches.{overFrom, nothing-put, put-after, after-stretch, stretch-length}
 use Rattle.pictures.proofs.MadeCalls.{output-own}
 
 -- n calls are one and n - 1 more
@@ -54,8 +54,8 @@ record Midway
     (rest : List Call) (q at : ℕ) (mem outs rows : List ℕ) : Type 0
   where
     memory : run g mem rest ≡ run g mem₀ calls
-    outputs : putFrom at (flatMap outputOf (replies g mem rest)) outs ≡ overStart (flatMap outputOf (replies g mem₀ calls)) outs₀
-    answers : putFrom q (flatMap replyNumbers (replies g mem rest)) rows ≡ overStart (flatMap replyNumbers (replies g mem₀ calls)) rows₀
+    outputs : overFrom at (flatMap outputOf (replies g mem rest)) outs ≡ overStart (flatMap outputOf (replies g mem₀ calls)) outs₀
+    answers : overFrom q (flatMap replyNumbers (replies g mem rest)) rows ≡ overStart (flatMap replyNumbers (replies g mem₀ calls)) rows₀
 
 module _ (g : Setting) (calls : List Call) (mem₀ outs₀ rows₀ : List ℕ) where
   abbrev Mid : List Call → ℕ → ℕ → List ℕ → List ℕ → List ℕ → Type 0

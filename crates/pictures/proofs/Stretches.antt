@@ -9,10 +9,10 @@ use lib.Seq.{take-at, drop-at, drop-drop, length-take-le}
 use Rattle.scope.specs.Banks.{overStart}
 
 -- `new` over the start of what stands in `all` from place i on
-abbrev pub putFrom : ℕ → List ℕ → List ℕ → List ℕ
-putFrom i new all = take i all ++ overStart new (drop i all)
+abbrev pub overFrom : ℕ → List ℕ → List ℕ → List ℕ
+overFrom i new all = take i all ++ overStart new (drop i all)
 
-pub nothing-put : (i : ℕ) (all : List ℕ) → putFrom i [] all ≡ all
+pub nothing-put : (i : ℕ) (all : List ℕ) → overFrom i [] all ≡ all
 unfolding overStart
 nothing-put i all = take-append-drop i all
 
@@ -43,7 +43,7 @@ module _ (all part : List ℕ) (i r : ℕ) (bound : i + r ≤ length all) (size 
       ∙ length-append before (drop r (drop i all))
       ∙ omega (arith, ends, length-drop r (drop i all), length-drop i all)
 
-  pub put-after : (rest : List ℕ) → putFrom (i + r) rest put ≡ putFrom i (part ++ rest) all
+  pub put-after : (rest : List ℕ) → overFrom (i + r) rest put ≡ overFrom i (part ++ rest) all
   put-after rest =
       ap₂ (λ (xs ys : List ℕ). xs ++ overStart rest ys)
       (ap (take (i + r)) joined ∙ take-at before (drop r (drop i all)) (i + r) ends)

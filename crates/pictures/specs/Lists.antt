@@ -97,12 +97,11 @@ listedBy none = Listed.Made
 listedBy (some fault) = fault
 
 -- an answer in numbers: 0 and its values, or the refusal's number, its place and, of 10, the clash
-unfoldable pub clashNumbers : Option Clash → List ℕ
+abbrev pub clashNumbers : Option Clash → List ℕ
 clashNumbers none = []
 clashNumbers (some c) = c .pattern ∷ c .earlier ∷ c .later ∷ []
 
 unfoldable pub answerNumbers : {A : Type 0} → (A → List ℕ) → Answer A → List ℕ
-unfolding clashNumbers
 answerNumbers values (value x) = 0 ∷ values x
 answerNumbers values (refusal n place clash) = n ∷ place ∷ clashNumbers clash
 

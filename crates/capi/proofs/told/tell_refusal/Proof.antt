@@ -11,15 +11,16 @@ use borrow.Author.Tests.{eq-eqb, ne-eqb}
 use borrow.Author.Needs.{needs}
 use Rattle.scope.specs.declared.Clash.{Clash}
 use Rattle.scope.specs.code.RefusalRows.{clashIf}
-use Rattle.capi.specs.Told.{clashRow, putFrom}
+use Rattle.pictures.specs.Lists.{clashNumbers}
+use Rattle.capi.specs.Told.{putFrom}
 use Rattle.capi.proofs.told.tell_refusal.Statement.{statement}
 use Rattle.capi.proofs.told.tell_refusal.Tie as tie
 
 -- the row's place stands at 0, and what was put from 1 on is the clash that its number asks for
 row-told :
     {s : ℕ × ℕ × Option Clash} {n i : ℕ} (k : Clash) (xs : List ℕ) {b : Bool} → s ≡ (n, i, clashIf n k) → eqb n 10 ≡ b
-    → (n ≡ s .0) × (putFrom 1 (clashRow (cond b (some k) none)) (set xs 0 i) ≡ putFrom 0 (s .1 ∷ clashRow (s .2)) xs)
-row-told k xs e q = (ap (λ t. t .0) (sym e), rw (← q) (sym (ap (λ t. putFrom 0 (t .1 ∷ clashRow (t .2)) xs) e)))
+    → (n ≡ s .0) × (putFrom 1 (clashNumbers (cond b (some k) none)) (set xs 0 i) ≡ putFrom 0 (s .1 ∷ clashNumbers (s .2)) xs)
+row-told k xs e q = (ap (λ t. t .0) (sym e), rw (← q) (sym (ap (λ t. putFrom 0 (t .1 ∷ clashNumbers (t .2)) xs) e)))
 
 returns : tie.Need-returns
 returns c =
