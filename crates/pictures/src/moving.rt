@@ -95,7 +95,7 @@ fn find_places(
 }
 
 // Puts the words of a pattern's pixels, moved to (i, j) and wrapped, at the start of the output. All places are found before
-// a word is read, so that no read waits for the divisions of the next place.
+// a word is read, which is faster than one loop.
 pub(crate) fn put_words(
     t: Pattern,
     p: Plan,
