@@ -13,10 +13,11 @@ use Rattle.scope.specs.Numbers.{isSide, planTest, sidesTest, outsideTest
 use Rattle.scope.specs.Calls.{answered, addressTest}
 use Rattle.scope.specs.declared.Plan.{Plan}
 use Rattle.scope.specs.declared.Refusal.{Refusal}
+use Rattle.scope.specs.declared.Counted.{Counted}
 use Rattle.scope.specs.declared.Outcome.{Outcome}
 use Rattle.scope.specs.declared.Refusal.the-variants.{NotPlan, Sides, Outside}
 use Rattle.scope.proofs.Chains.{whenever-none, none-whenever, some-whenever, chain-none-iff, chain-refuses, chain-goes-on, chain-of-one}
-use Rattle.scope.proofs.Chains.{tests-as-one, gives-refusal, done-found-nothing, refused-found}
+use Rattle.scope.proofs.Chains.{tests-as-one, gives-value, gives-refusal, done-found-nothing, refused-found}
 
 -- the code asks `!r` for a test t whose value r a callee gave
 pub fails : {r t : Bool} → r ≡ t → not r ≡ true → t ≡ false
@@ -114,19 +115,28 @@ module _ (p : Plan) (W H : ℕ) (v : Pixel) where
     pub pixel-passes : inside W H v ≡ true → addressTest p W H v ≡ none
     pixel-passes e = past-picture ∙ demand-met (inside W H v) Outside e
 
-  pub pixel-passed : addressTest p W H v ≡ none → (isPlan p ≡ true) × (isSide W && isSide H ≡ true) × (inside W H v ≡ true)
+  pixel-passed : addressTest p W H v ≡ none → (isPlan p ≡ true) × (isSide W && isSide H ≡ true) × (inside W H v ≡ true)
   pixel-passed e =
       let (picture, pixel) = chain-none-iff (pictureTests p W H) (outsideTest W H (v ∷ []) ∷ []) .0 (sym as-two ∙ e) in
       let (plan, sides) = both-passed p W H picture in
       (plan, sides, demanded (inside W H v) Outside (sym one-left ∙ pixel))
 
-  -- what the outcome of the three tells
   abbrev pub pixelOutcome : Outcome
   pixelOutcome = answered (addressTest p W H v) Outcome.Refused Outcome.Done
 
-  module _ {o : Outcome} (is : o ≡ pixelOutcome) where
-    pub pixel-found : {r : Refusal} → o ≡ Outcome.Refused r → addressTest p W H v ≡ some r
-    pixel-found = refused-found (addressTest p W H v) is
+  pub pixel-done : {o : Outcome} → o ≡ pixelOutcome → o ≡ Outcome.Done
+      → (isPlan p ≡ true) × (isSide W && isSide H ≡ true) × (inside W H v ≡ true)
+  pixel-done is e = pixel-passed (done-found-nothing (addressTest p W H v) is e)
 
-    pub pixel-found-nothing : o ≡ Outcome.Done → addressTest p W H v ≡ none
-    pixel-found-nothing = done-found-nothing (addressTest p W H v) is
+-- What a call by the three, which was handed u for v, answers: the refusal that they found, or a number.
+module _ (p : Plan) (W H : ℕ) {v u : Pixel} (same : u ≡ v) {o : Outcome} (is : o ≡ pixelOutcome p W H u) (number : Pixel → ℕ) where
+  abbrev told : Counted
+  told = answered (addressTest p W H v) Counted.Refused (Counted.Number (number v))
+
+  pub refusal-told : {r : Refusal} → o ≡ Outcome.Refused r → Counted.Refused r ≡ told
+  refusal-told e = gives-refusal (rw same at (refused-found (addressTest p W H u) is e)) Counted.Refused (Counted.Number (number v))
+
+  pub number-told : {n : ℕ} → o ≡ Outcome.Done → n ≡ number u → Counted.Number n ≡ told
+  number-told e n-is =
+      gives-value (rw same at (done-found-nothing (addressTest p W H u) is e)) Counted.Refused
+      (ap Counted.Number (n-is ∙ ap number same))
