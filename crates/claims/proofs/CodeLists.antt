@@ -22,7 +22,7 @@ use Rattle.pictures.specs.declared.lists.Listed.{Listed}
 use Rattle.pictures.proofs.DemandHolds.{demand-3}
 use Rattle.pictures.proofs.ListFaults.{made-passes}
 use Rattle.claims.specs.Demanded.{ranFor, findAndRun, repliesDue, DemandMet, Demanded}
-use Rattle.claims.specs.DemandedExample.{Contract}
+use Rattle.claims.specs.DemandedExample.{DemandFollows}
 use Rattle.claims.specs.declared.FoundRun.{FoundRun}
 
 -- Each reply is the one that is due.
@@ -111,7 +111,7 @@ module _ (book : Book) (limit W H : ℕ) (numbers : List ℕ) (b : Buffers) {pla
     (ap (λ (r : Result FoundRun Buffers). r .content) (sym (by-answer found)), λ q ran enough zeros. absurd (refused-not-ran ran)),
   )
 
--- So the third clause of the contract holds of all that meets the first two.
+-- So the third clause of the contract follows from the first two.
 module _ (book : Book) (limit W H : ℕ) (numbers : List ℕ) (b : Buffers) (r : FoundRun) (left : Buffers) where
   abbrev KeptOf : FoundRun → Buffers → Type 0
   KeptOf = Kept book limit W H numbers b {planned = find book limit} refl
@@ -127,6 +127,6 @@ module _ (book : Book) (limit W H : ℕ) (numbers : List ℕ) (b : Buffers) (r :
   by-found (Planned.Plan p) found = (_, _, plan-kept book limit W H numbers b refl found (refl, refl))
   by-found (Planned.Refused f) found = (_, _, refusal-kept book limit W H numbers b refl found)
 
-pub contract-holds : Contract
-contract-holds book limit W H numbers b r left answer content =
+pub demand-follows : DemandFollows
+demand-follows book limit W H numbers b r left answer content =
     same-kept book limit W H numbers b r left answer content (by-found book limit W H numbers b r left (find book limit) refl .2)

@@ -1,5 +1,6 @@
--- Demand 3 about the code, read off in one small picture: its premises are met there, and each part of its claim gives a plain
--- fact. The book has one pattern, (0, 0) and (1, 0); the finder's plan for it is 2, 0, 1. The picture is of 3 by 1: its pixels
+-- What `Demanded` says, read off in one small picture: its premises are met there, and each part of its claim gives a plain
+-- fact. It speaks of every answer and all buffers that are those of `findAndRun`, and names no code: that the code's are, the
+-- contract of `find_and_run` says. The book has one pattern, (0, 0) and (1, 0); the finder's plan for it is 2, 0, 1. The picture is of 3 by 1: its pixels
 -- have the words 0, 2 and 1 of the memory, and word 3 is no pixel's.
 -- Assumes nothing.
 use Prim.Native.Nat.{ℕ, zero, suc, _<_}
@@ -19,9 +20,9 @@ use Rattle.pictures.specs.Lists.{setting, callsOf, replyNumbers, Buffers, buffe
 use Rattle.claims.specs.Demanded.{findAndRun, repliesDue, DemandMet, Demanded}
 use Rattle.claims.specs.declared.FoundRun.{FoundRun}
 
--- What the contract of `find_and_run` says of its answer r and of what it leaves
-abbrev pub Contract : Type 0
-Contract =
+-- Demand 3 follows where the answer r and what is left are those of the definition.
+abbrev pub DemandFollows : Type 0
+DemandFollows =
     (book : Book) (limit W H : ℕ) (numbers : List ℕ) (b : Buffers) (r : FoundRun) (left : Buffers)
     → r ≡ findAndRun book limit W H numbers b .answer → left ≡ findAndRun book limit W H numbers b .content
     → Demanded r book W H numbers b left
@@ -56,7 +57,7 @@ exact = buffers (0 ∷ 0 ∷ 0 ∷ 0 ∷ []) [] []
 abbrev pub reply : ℕ → ℕ → List ℕ
 reply n x = n ∷ x ∷ replicate 10 0
 
--- What the contract says of what is left.
+-- What demand 3 says of what is left.
 pub record ReadOff (left : Buffers) : Type 0 where
   pub words-fetched : left .outputs ≡ 8 ∷ 9 ∷ 5 ∷ 6 ∷ []
   pub replies-told : left .rows ≡ reply 0 0 ++ reply 0 0 ++ reply 0 2 ++ reply 0 0 ++ reply 0 8 ++ reply 14 0 ++ (4 ∷ [])
@@ -94,16 +95,16 @@ no-plan : findAndRun (small .book) 0 3 1 six start ≡ record { answer = FoundRu
 unfolding small findAndRun
 no-plan = refl
 
-module _ (contract : Contract) (left : Buffers) (is : left ≡ findAndRun (small .book) 1024 3 1 six start .content) where
+module _ (follows : DemandFollows) (left : Buffers) (is : left ≡ findAndRun (small .book) 1024 3 1 six start .content) where
   -- the premises hold
   met : DemandMet small (callsOf six (start .outputs)) start left
   unfolding small findAndRun pictureWords
-  met = contract (small .book) 1024 3 1 six start _ left refl is (plan 2 0 1) refl (omega arith) refl
+  met = follows (small .book) 1024 3 1 six start _ left refl is (plan 2 0 1) refl (omega arith) refl
 
   exact-met :
       (short : Buffers) → short ≡ findAndRun (small .book) 1024 3 1 [] exact .content → DemandMet small (callsOf [] []) exact short
   unfolding small findAndRun pictureWords
-  exact-met short e = contract (small .book) 1024 3 1 [] exact _ short refl e (plan 2 0 1) refl (omega arith) refl
+  exact-met short e = follows (small .book) 1024 3 1 [] exact _ short refl e (plan 2 0 1) refl (omega arith) refl
 
   of-fetch : CallHolds small (start .memory) (callsOf stores []) both
   unfolding both callsOf

@@ -10,7 +10,7 @@ use lib.ListN.{length}
 use Rattle.scope.specs.Search.{firstOf}
 use Rattle.scope.specs.Plans.{Pixel, plus, pixels, patterns, patternAt, banks, suitsAll, normalForm}
 use Rattle.scope.specs.Finding.{leastOf, leastPlan, leastCount, clash}
-use Rattle.scope.specs.Banks.{bankOf, addressOf, depthOf, wordOf, pixelOf, wordIn, afterStore, afterClear, bankSum, overStart, wrapped}
+use Rattle.scope.specs.Banks.{bankOf, addressOf, depthOf, pixelOf, wordIn, afterStore, afterClear, bankSum, overStart, wrapped}
 use Rattle.scope.specs.Books.{byte, start, partIn, bookIn, bookOf, bookBytes}
 use Rattle.scope.specs.Numbers.{bytesTest, recordTest, limitTest, dependentTest, largeTest, suitsTest, planTest, sidesTest, memoryTest, outsideTest, bankTest, cellTest, outputTest, numberTest, ringTest}
 use Rattle.scope.specs.declared.Plan.{Plan}
@@ -131,17 +131,13 @@ unfoldable pub depth : Plan → ℕ → ℕ → Counted
 unfolding answered firstOf planTest sidesTest depthOf
 depth p W H = answered (firstOf (planTest p ∷ sidesTest W H ∷ [])) Counted.Refused (Counted.Number (depthOf p W H))
 
--- The address of a pixel, and its word, k × depth plus the address for the bank k: 11, 12, 14.
+-- The address of a pixel: 11, 12, 14.
 abbrev pub addressTest : Plan → ℕ → ℕ → Pixel → Option Refusal
 addressTest p W H v = firstOf (planTest p ∷ sidesTest W H ∷ outsideTest W H (v ∷ []) ∷ [])
 
 unfoldable pub address : Plan → ℕ → ℕ → Pixel → Counted
 unfolding answered firstOf planTest sidesTest outsideTest addressOf
 address p W H v = answered (addressTest p W H v) Counted.Refused (Counted.Number (addressOf p W H v))
-
-unfoldable pub word : Plan → ℕ → ℕ → Pixel → Counted
-unfolding answered firstOf planTest sidesTest outsideTest wordOf
-word p W H v = answered (addressTest p W H v) Counted.Refused (Counted.Number (wordOf p W H v))
 
 -- The reverse map, of bank k and address i: 11, 12, 15.
 unfoldable pub locate : Plan → ℕ → ℕ → ℕ → ℕ → Located

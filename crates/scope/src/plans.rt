@@ -17,7 +17,8 @@ ghost use mathlib.Core.List.{[], _∷_};
 ghost use Rattle.scope.specs.Search.{firstOf};
 ghost use Rattle.scope.specs.Plans.{at, isPlan, banks};
 ghost use Rattle.scope.specs.Numbers.{planTest, sidesTest};
-ghost use Rattle.scope.specs.Calls.{answered, bank, depth, addressTest, address, word, locate};
+ghost use Rattle.scope.specs.Calls.{answered, bank, depth, addressTest, address, locate};
+ghost use Rattle.scope.specs.code.Words.{word};
 
 impl Plan {
     // Whether it is a plan as defined.

@@ -9,7 +9,8 @@ use Rattle.scope.specs.Search.{gather}
 use Rattle.scope.specs.Plans.{Pixel, at, plan}
 use Rattle.scope.specs.Books.{bookOf}
 use Rattle.scope.specs.Numbers.{Answer, value, refusal}
-use Rattle.scope.specs.Calls.{bank, depth, address, word, locate, lent, store, load, clear, sum, fetch, ringFetch, fillRecords}
+use Rattle.scope.specs.Calls.{bank, depth, address, locate, lent, store, load, clear, sum, fetch, ringFetch, fillRecords}
+use Rattle.scope.specs.code.Words.{word}
 use Rattle.scope.specs.promises.Demand as Demand
 use Rattle.scope.specs.values.Rows.{Row, Hold, row, is, refused, clashes, counted, loaded, located, done, records, neg, px, one, two, finds, checks}
 use Rattle.scope.specs.declared.Plan.{Plan}

@@ -9,7 +9,8 @@ use borrow.Author.Needs.{needs}
 use Rattle.scope.specs.Plans.{Pixel, at}
 use Rattle.scope.specs.Banks.{wordOf}
 use Rattle.scope.specs.Numbers.{planTest, sidesTest, outsideTest}
-use Rattle.scope.specs.Calls.{answered, pictureTest, addressTest, word, wordTest}
+use Rattle.scope.specs.Calls.{answered, pictureTest, addressTest, wordTest}
+use Rattle.scope.specs.code.Words.{word}
 use Rattle.scope.specs.declared.Plan.{Plan}
 use Rattle.scope.specs.declared.Counted.{Counted}
 use Rattle.scope.specs.declared.Refusal.{Refusal}

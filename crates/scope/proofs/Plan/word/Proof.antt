@@ -2,7 +2,7 @@
 -- Assumes nothing.
 use borrow.Author.Needs.{needs}
 use Rattle.scope.specs.Banks.{wordOf}
-use Rattle.scope.specs.Calls.{word}
+use Rattle.scope.specs.code.Words.{word}
 use Rattle.scope.proofs.PlanFacts.{pixel-handed}
 use Rattle.scope.proofs.MethodAnswers.{pixel-done, refusal-told, number-told}
 use Rattle.scope.proofs.Plan.word.Statement.{statement}
