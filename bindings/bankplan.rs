@@ -7,6 +7,33 @@
 use std::fmt;
 use std::mem::{offset_of, size_of};
 
+/// The version of this file, and of the library that is built from the same tree.
+pub const VERSION: &str = "0.1.0";
+
+/// The banks of a plan, the finder's limit and a determinant's size, at most.
+pub const MAX_BANKS: u32 = 1024;
+/// The pixels of a pattern, so the words of a fetch, at most.
+pub const MAX_PIXELS: usize = 64;
+/// The patterns of a book, at most.
+pub const MAX_PATTERNS: usize = 16;
+/// The bytes of the longest book.
+pub const MAX_BOOK_BYTES: usize = 2065;
+/// The width or height of a picture, at most.
+pub const MAX_SIDE: u32 = 4096;
+/// The least and the greatest column or row of a pattern's pixel.
+pub const LEAST_COORDINATE: i8 = -16;
+pub const GREATEST_COORDINATE: i8 = 15;
+/// The entries of a book record's columns, and of its rows.
+pub const ENTRIES: usize = 1024;
+/// The numbers of an answer.
+pub const ANSWER_NUMBERS: usize = 12;
+
+// How they hang together: the window of all coordinates has as many pixels as a plan may have banks, and a picture's pixels
+// have 16-bit coordinates.
+const _: () = assert!(ENTRIES == MAX_PATTERNS * MAX_PIXELS && MAX_BOOK_BYTES == 1 + MAX_PATTERNS * (1 + 2 * MAX_PIXELS));
+const _: () = assert!(MAX_BANKS == (GREATEST_COORDINATE as i32 - LEAST_COORDINATE as i32 + 1).pow(2) as u32);
+const _: () = assert!(MAX_SIDE <= i16::MAX as u32 && !VERSION.is_empty());
+
 // A count, a place or a length passes as 64 bits, a pixel record as 12 bytes.
 const _: () = assert!(usize::BITS == 64 && size_of::<PixelRecord>() == 12);
 const _: () = assert!(offset_of!(PixelRecord, column) == 0 && offset_of!(PixelRecord, row) == 2);
@@ -111,9 +138,9 @@ pub struct Clash {
 /// patterns the first `count` count. Any numbers can stand here; a call refuses by 2, 3, 4 those that are no book.
 #[derive(Clone, Debug, PartialEq, Eq)]
 pub struct Book {
-    pub columns: [i8; 1024],
-    pub rows: [i8; 1024],
-    pub used: [usize; 16],
+    pub columns: [i8; ENTRIES],
+    pub rows: [i8; ENTRIES],
+    pub used: [usize; MAX_PATTERNS],
     pub count: usize,
 }
 
@@ -218,7 +245,8 @@ impl Refused {
     /// The condition that turned the call down.
     pub fn condition(&self) -> &'static str {
         let known = (self.number as usize).checked_sub(1).and_then(|k| CONDITIONS.get(k));
-        known.copied().unwrap_or("no number of document 01")
+        let other = if self.number == NOT_CALLS { "not a list of calls" } else { "no number of document 01" };
+        known.copied().unwrap_or(other)
     }
 }
 
@@ -262,8 +290,8 @@ impl From<Refused> for NotMade {
 // they say, and what is lent for writing overlaps nothing else that is lent.
 
 // Calls, and gives the values told or the refusal.
-fn told(call: impl FnOnce(&mut [u64; 12]) -> u64) -> Result<[u64; 12], Refused> {
-    let mut answer = [0; 12];
+fn told(call: impl FnOnce(&mut [u64; ANSWER_NUMBERS]) -> u64) -> Result<[u64; ANSWER_NUMBERS], Refused> {
+    let mut answer = [0; ANSWER_NUMBERS];
     let number = call(&mut answer);
     if number == 0 { Ok(answer) } else { Err(refused(number, &answer)) }
 }
@@ -275,14 +303,14 @@ fn refused(number: u64, row: &[u64]) -> Refused {
     Refused { number, place: at(0), clash }
 }
 
-fn plan_of(answer: [u64; 12]) -> Plan {
+fn plan_of(answer: [u64; ANSWER_NUMBERS]) -> Plan {
     let [a, b, d, ..] = answer.map(|x| x as u32);
     Plan { a, b, d }
 }
 
 /// The book of these bytes; unused entries are 0. Refused by 1 to 5.
 pub fn read_book(bytes: &[u8]) -> Result<Book, Refused> {
-    let mut book = Book { columns: [0; 1024], rows: [0; 1024], used: [0; 16], count: 0 };
+    let mut book = Book { columns: [0; ENTRIES], rows: [0; ENTRIES], used: [0; MAX_PATTERNS], count: 0 };
     let Book { columns, rows, used, .. } = &mut book;
     let answer = told(|t| unsafe { raw::bankplan_read_book(bytes.as_ptr(), bytes.len(), columns, rows, used, t) })?;
     book.count = answer[0] as usize;
@@ -316,13 +344,13 @@ impl Plan {
 impl Book {
     /// The book of patterns given by their pixels, column and row. Refused by 2, 3, 4.
     pub fn new<P: AsRef<[(i8, i8)]>>(patterns: &[P]) -> Result<Book, Refused> {
-        let mut book = Book { columns: [0; 1024], rows: [0; 1024], used: [0; 16], count: patterns.len() };
-        for (n, pattern) in patterns.iter().take(16).enumerate() {
+        let mut book = Book { columns: [0; ENTRIES], rows: [0; ENTRIES], used: [0; MAX_PATTERNS], count: patterns.len() };
+        for (n, pattern) in patterns.iter().take(MAX_PATTERNS).enumerate() {
             let pixels = pattern.as_ref();
             book.used[n] = pixels.len();
-            for (e, &(column, row)) in pixels.iter().take(64).enumerate() {
-                book.columns[64 * n + e] = column;
-                book.rows[64 * n + e] = row;
+            for (e, &(column, row)) in pixels.iter().take(MAX_PIXELS).enumerate() {
+                book.columns[MAX_PIXELS * n + e] = column;
+                book.rows[MAX_PIXELS * n + e] = row;
             }
         }
         // what does not fit is refused by its count
@@ -331,8 +359,8 @@ impl Book {
 
     /// The pixels of pattern n. None where n is not below the pattern count and 16, or its count is above 64.
     pub fn pattern(&self, n: usize) -> Option<impl Iterator<Item = (i8, i8)> + '_> {
-        let used = self.used.get(n).copied().filter(|&used| n < self.count && used <= 64)?;
-        let entries = 64 * n..64 * n + used;
+        let used = self.used.get(n).copied().filter(|&used| n < self.count && used <= MAX_PIXELS)?;
+        let entries = MAX_PIXELS * n..MAX_PIXELS * n + used;
         Some(entries.map(|e| (self.columns[e], self.rows[e])))
     }
 
@@ -439,9 +467,6 @@ impl Picture {
 
 // ---- lists of calls
 
-// A fetch gives at most so many words.
-const MOST_WORDS: usize = 64;
-
 impl Call {
     /// The call's five numbers.
     pub fn numbers(self) -> [u64; CALL_NUMBERS] {
@@ -459,10 +484,10 @@ impl Call {
         if let Call::Fetch { room, .. } = self { room } else { 0 }
     }
 
-    // The same call with no more room than a fetch can use: every reply is the same.
+    // The same call with no more room than a fetch can use, a word to each pixel: every reply is the same.
     fn within_reach(self) -> Call {
         match self {
-            Call::Fetch { pattern, at, room } => Call::Fetch { pattern, at, room: room.min(MOST_WORDS) },
+            Call::Fetch { pattern, at, room } => Call::Fetch { pattern, at, room: room.min(MAX_PIXELS) },
             call => call,
         }
     }

@@ -1,26 +1,31 @@
 /*
  * Bank plans for image buffers: the functions of the static library `capi`. For C99 and later, and for C++.
  *
- * What a call answers. Every function returns a number: 0 where the call was not refused, else the number of the refusal, 1 to
- * 18 (enum bankplan_refusal), or 255 for a list of calls that is none (BANKPLAN_NOT_CALLS). It puts a row of numbers at the
- * start of the lent array `answer` of 12, and leaves the rest of the 12 as they were:
+ * What a call answers. Every function returns a number; bankplan_refusal_text gives the text of each:
+ *   0                  the call was not refused
+ *   1 to 18            the call was refused by this number (enum bankplan_refusal)
+ *   255                the numbers that it was given are no list of calls (BANKPLAN_NOT_CALLS)
+ * A function also puts a row of numbers at the start of the lent array `answer` of 12, and leaves the rest of the 12 as they
+ * were. The row is:
  *   not refused        the values that stand behind "tells" below, from answer[0] on
  *   refused            answer[0]: the place
  *   refused by 10      answer[0]: the place; answer[1], answer[2], answer[3]: the clash, that is the pattern's number, the
  *                      earlier and the later position, counted from 0
  * The place is a byte offset for 1 to 5 where the call was given a book's bytes, a place in the list for 255, and 0 elsewhere. A
- * refused call leaves all that it was lent as it was, but for the answer's row. "Refused by" below has the numbers in the order
- * of the checks; the first that holds is told. Every value of the parameters' types is taken and tested; no call relies on one
- * made before.
+ * refused call leaves all that it was lent as it was, but for the answer's row.
  *
- * A plan is a, b, d; a picture has width w and height h; a pixel is (i, j), column and row.
+ * What a call tests. A call takes every value of its parameters' types, and tests them all itself. No call relies on one made
+ * before. "Refused by" below has the numbers in the order of the tests, and the first that holds is told.
+ *
+ * What things are. A plan is a, b, d; it has N = a * d banks. A picture has width w and height h. A pixel is (i, j), column and
+ * row.
  *
  * A book record is flat arrays: columns[1024] and rows[1024], of which pattern n has the entries 64 * n to 64 * n + 63;
  * used[16], the pixel counts; and the pattern count. Of pattern n the first used[n] entries count, of the patterns the first
- * `count`; what the others hold does not matter.
+ * `count`. What the others hold does not matter.
  *
- * A picture's memory is mem_length 16-bit words, and the output of a fetch is such words too. With N = a * d, bank k has the
- * words k * depth to (k + 1) * depth - 1; the words from N * depth on are never touched.
+ * A picture's memory is mem_length 16-bit words, and the output of a fetch is such words too. Bank k has the words k * depth to
+ * (k + 1) * depth - 1; the words from N * depth on are never touched.
  *
  * A record list is list_length records of 12 bytes: column, row, bank and address at the offsets 0, 2, 4 and 8.
  *
@@ -29,6 +34,9 @@
  * which is not followed. What a call writes, the answer too, must not overlap anything else that is lent to it. A pointer to
  * const is only read. The library keeps no pointer, allocates nothing and has no state of its own: calls may run at the same
  * time where none writes what another is lent.
+ *
+ * Where it runs. The library is built for Linux on x86-64; pointers and size_t have 64 bits. Beside what it is lent, a call
+ * uses only the stack of the thread that makes it. docs/GUIDE.md says how many bytes.
  */
 #ifndef BANKPLAN_H
 #define BANKPLAN_H
@@ -40,27 +48,63 @@
 extern "C" {
 #endif
 
-/* Why a call was turned down. */
-enum bankplan_refusal {
-    BANKPLAN_ENDS = 1,        /* book ends early */
-    BANKPLAN_COUNT = 2,       /* pattern count not 1-16 or pixel count not 1-64 */
-    BANKPLAN_COORDINATE = 3,  /* coordinate not -16..15 */
-    BANKPLAN_REPEAT = 4,      /* pixel already in this pattern */
-    BANKPLAN_EXTRA = 5,       /* bytes after the last pattern */
-    BANKPLAN_LIMIT = 6,       /* limit not 1-1024 */
-    BANKPLAN_NO_PLAN = 7,     /* no suiting plan within limit */
-    BANKPLAN_DEPENDENT = 8,   /* determinant 0 */
-    BANKPLAN_LARGE = 9,       /* determinant's size above 1024 */
-    BANKPLAN_UNSUITED = 10,   /* plan doesn't suit */
-    BANKPLAN_NOT_PLAN = 11,   /* not a plan as defined */
-    BANKPLAN_SIDES = 12,      /* W or H not 1-4096 */
-    BANKPLAN_MEMORY = 13,     /* memory shorter than N × depth */
-    BANKPLAN_OUTSIDE = 14,    /* pixel outside the picture */
-    BANKPLAN_CELL = 15,       /* bank ≥ N, address ≥ depth, or their pixel outside */
-    BANKPLAN_OUTPUT = 16,     /* output too short */
-    BANKPLAN_NO_PATTERN = 17, /* pattern number not in the book */
-    BANKPLAN_RING = 18        /* ring sides not multiples of N */
+/* The version of this header, and of the library that is built from the same tree. */
+#define BANKPLAN_VERSION_MAJOR 0
+#define BANKPLAN_VERSION_MINOR 1
+#define BANKPLAN_VERSION_PATCH 0
+#define BANKPLAN_VERSION "0.1.0"
+
+/* The limits of document 01, and how long the arrays are that go with them. */
+enum bankplan_limit {
+    BANKPLAN_MAX_BANKS = 1024,         /* banks of a plan, the finder's limit, and a determinant's size */
+    BANKPLAN_MAX_PIXELS = 64,          /* pixels of a pattern, so words of a fetch */
+    BANKPLAN_MAX_PATTERNS = 16,        /* patterns of a book, and entries of `used` */
+    BANKPLAN_MAX_BOOK_BYTES = 2065,    /* bytes of the longest book: 1 + 16 * (1 + 2 * 64) */
+    BANKPLAN_MAX_SIDE = 4096,          /* width or height of a picture */
+    BANKPLAN_LEAST_COORDINATE = -16,   /* column or row of a pattern's pixel */
+    BANKPLAN_GREATEST_COORDINATE = 15, /* the same */
+    BANKPLAN_ENTRIES = 1024,           /* entries of `columns`, and of `rows`: 16 * 64 */
+    BANKPLAN_ANSWER_NUMBERS = 12       /* numbers of `answer` */
 };
+
+/* Why a call was turned down: each refusal's name, number and text. The number and the text are those of document 01. Two texts
+   hold signs that are not ASCII, × and ≥; they are UTF-8. */
+#define BANKPLAN_REFUSALS(X)                                                  \
+    X(BANKPLAN_ENDS, 1, "book ends early")                                    \
+    X(BANKPLAN_COUNT, 2, "pattern count not 1-16 or pixel count not 1-64")    \
+    X(BANKPLAN_COORDINATE, 3, "coordinate not -16..15")                       \
+    X(BANKPLAN_REPEAT, 4, "pixel already in this pattern")                    \
+    X(BANKPLAN_EXTRA, 5, "bytes after the last pattern")                      \
+    X(BANKPLAN_LIMIT, 6, "limit not 1-1024")                                  \
+    X(BANKPLAN_NO_PLAN, 7, "no suiting plan within limit")                    \
+    X(BANKPLAN_DEPENDENT, 8, "determinant 0")                                 \
+    X(BANKPLAN_LARGE, 9, "determinant's size above 1024")                     \
+    X(BANKPLAN_UNSUITED, 10, "plan doesn't suit")                             \
+    X(BANKPLAN_NOT_PLAN, 11, "not a plan as defined")                         \
+    X(BANKPLAN_SIDES, 12, "W or H not 1-4096")                                \
+    X(BANKPLAN_MEMORY, 13, "memory shorter than N × depth")                   \
+    X(BANKPLAN_OUTSIDE, 14, "pixel outside the picture")                      \
+    X(BANKPLAN_CELL, 15, "bank ≥ N, address ≥ depth, or their pixel outside") \
+    X(BANKPLAN_OUTPUT, 16, "output too short")                                \
+    X(BANKPLAN_NO_PATTERN, 17, "pattern number not in the book")              \
+    X(BANKPLAN_RING, 18, "ring sides not multiples of N")
+
+/* The refusals' names as constants: BANKPLAN_ENDS is 1, and so on. */
+#define BANKPLAN_CONSTANT(name, number, text) , name = number
+enum bankplan_refusal { BANKPLAN_NOT_REFUSED = 0 BANKPLAN_REFUSALS(BANKPLAN_CONSTANT) };
+#undef BANKPLAN_CONSTANT
+
+/* Gives the text of a number that a function returned. It is never null. */
+static inline const char *bankplan_refusal_text(uint64_t number) {
+#define BANKPLAN_CASE(name, number, text) case name: return text;
+    switch (number) {
+    case BANKPLAN_NOT_REFUSED: return "not refused";
+    BANKPLAN_REFUSALS(BANKPLAN_CASE)
+    case 255: return "not a list of calls"; /* BANKPLAN_NOT_CALLS */
+    default: return "no number of document 01";
+    }
+#undef BANKPLAN_CASE
+}
 
 /* ---- books */
 
@@ -69,8 +113,8 @@ enum bankplan_refusal {
 uint64_t bankplan_read_book(const uint8_t *s, size_t s_length, int8_t columns[1024], int8_t rows[1024], size_t used[16],
                             uint64_t answer[12]);
 
-/* Where the pixel bytes of pattern n stand in a book's bytes. Refused by 1, 2, 3, 4, 5 as they come in the bytes, 17. Tells the
-   offset from s and the length in bytes. */
+/* Says where the pixel bytes of pattern n stand in a book's bytes. Refused by 1, 2, 3, 4, 5 as they come in the bytes, 17.
+   Tells the offset from s and the length in bytes. */
 uint64_t bankplan_pattern_part(const uint8_t *s, size_t s_length, size_t n, uint64_t answer[12]);
 
 /* Writes a record's bytes, at most 2,065. Refused by 2, 3, 4 in book order, 16. Tells the count of bytes.
@@ -84,31 +128,31 @@ uint64_t bankplan_test_record(const int8_t columns[1024], const int8_t rows[1024
 
 /* ---- finding and checking */
 
-/* The plan with the fewest banks, at most limit, for a book. Refused by 2, 3, 4 in book order, 6, 7. Tells a, b, d. */
+/* Finds the plan with the fewest banks, at most limit, for a book. Refused by 2, 3, 4 in book order, 6, 7. Tells a, b, d. */
 uint64_t bankplan_find(const int8_t columns[1024], const int8_t rows[1024], const size_t used[16], size_t count,
                        uint32_t limit, uint64_t answer[12]);
 
-/* The verdict on a supplier's vectors (x1, x2) and (y1, y2) for a book. Refused by 2, 3, 4 in book order, 8, 9, and by 10 with
-   the clash. Tells a, b, d of their normal form and the surplus, N less the least count. */
+/* Checks a supplier's vectors (x1, x2) and (y1, y2) for a book. Refused by 2, 3, 4 in book order, 8, 9, and by 10 with the
+   clash. Tells a, b, d of their normal form and the surplus, N less the least count. */
 uint64_t bankplan_check(const int8_t columns[1024], const int8_t rows[1024], const size_t used[16], size_t count,
                         int16_t x1, int16_t x2, int16_t y1, int16_t y2, uint64_t answer[12]);
 
-/* The normal form of the vectors (x1, x2) and (y1, y2). Refused by 8, 9. Tells a, b, d. */
+/* Gives the normal form of the vectors (x1, x2) and (y1, y2). Refused by 8, 9. Tells a, b, d. */
 uint64_t bankplan_normal_form(int16_t x1, int16_t x2, int16_t y1, int16_t y2, uint64_t answer[12]);
 
 /* ---- banks and addresses */
 
-/* The bank of a pixel, inside a picture or not. Refused by 11. Tells the bank. */
+/* Gives the bank of a pixel, inside a picture or not. Refused by 11. Tells the bank. */
 uint64_t bankplan_bank(uint32_t a, uint32_t b, uint32_t d, int16_t i, int16_t j, uint64_t answer[12]);
 
-/* The words of one bank. Refused by 11, 12. Tells the depth. */
+/* Counts the words of one bank. Refused by 11, 12. Tells this count, the depth. */
 uint64_t bankplan_depth(uint32_t a, uint32_t b, uint32_t d, uint32_t w, uint32_t h, uint64_t answer[12]);
 
-/* The address of a pixel in its bank. Refused by 11, 12, 14. Tells the address. */
+/* Gives the address of a pixel in its bank. Refused by 11, 12, 14. Tells the address. */
 uint64_t bankplan_address(uint32_t a, uint32_t b, uint32_t d, uint32_t w, uint32_t h, int16_t i, int16_t j,
                           uint64_t answer[12]);
 
-/* The pixel of bank k and address i. Refused by 11, 12, 15. Tells the column and the row. */
+/* Gives the pixel of bank k and address i. Refused by 11, 12, 15. Tells the column and the row. */
 uint64_t bankplan_locate(uint32_t a, uint32_t b, uint32_t d, uint32_t w, uint32_t h, uint64_t k, uint64_t i,
                          uint64_t answer[12]);
 
@@ -119,7 +163,7 @@ uint64_t bankplan_locate(uint32_t a, uint32_t b, uint32_t d, uint32_t w, uint32_
 uint64_t bankplan_store(uint32_t a, uint32_t b, uint32_t d, uint32_t w, uint32_t h, uint16_t *mem, size_t mem_length,
                         int16_t i, int16_t j, uint16_t x, uint64_t answer[12]);
 
-/* The word at a pixel. Refused by 11, 12, 13, 14. Tells the word. */
+/* Loads the word at a pixel. Refused by 11, 12, 13, 14. Tells the word. */
 uint64_t bankplan_load(uint32_t a, uint32_t b, uint32_t d, uint32_t w, uint32_t h, const uint16_t *mem, size_t mem_length,
                        int16_t i, int16_t j, uint64_t answer[12]);
 
@@ -128,7 +172,7 @@ uint64_t bankplan_load(uint32_t a, uint32_t b, uint32_t d, uint32_t w, uint32_t 
 uint64_t bankplan_clear(uint32_t a, uint32_t b, uint32_t d, uint32_t w, uint32_t h, uint16_t *mem, size_t mem_length,
                         uint64_t k, uint64_t answer[12]);
 
-/* The exact sum of the words of bank k. Refused by 11, 12, 13, 15 (k not below N). Tells the sum. */
+/* Adds up the words of bank k, exactly. Refused by 11, 12, 13, 15 (k not below N). Tells the sum. */
 uint64_t bankplan_sum(uint32_t a, uint32_t b, uint32_t d, uint32_t w, uint32_t h, const uint16_t *mem, size_t mem_length,
                       uint64_t k, uint64_t answer[12]);
 
@@ -139,8 +183,8 @@ uint64_t bankplan_fetch(const int8_t columns[1024], const int8_t rows[1024], con
                         uint32_t a, uint32_t b, uint32_t d, uint32_t w, uint32_t h, const uint16_t *mem, size_t mem_length,
                         size_t n, int16_t i, int16_t j, uint16_t *out, size_t out_length, uint64_t answer[12]);
 
-/* The same with columns modulo w and rows modulo h. Refused by 2, 3, 4 in book order, 11, 12, 13, 17, by 10 with the clash, 18,
-   16. Tells the count of words. Lent: as for a fetch. */
+/* Does the same with columns modulo w and rows modulo h. Refused by 2, 3, 4 in book order, 11, 12, 13, 17, by 10 with the
+   clash, 18, 16. Tells the count of words. Lent: as for a fetch. */
 uint64_t bankplan_ring_fetch(const int8_t columns[1024], const int8_t rows[1024], const size_t used[16], size_t count,
                              uint32_t a, uint32_t b, uint32_t d, uint32_t w, uint32_t h, const uint16_t *mem,
                              size_t mem_length, size_t n, int16_t i, int16_t j, uint16_t *out, size_t out_length,
@@ -149,8 +193,8 @@ uint64_t bankplan_ring_fetch(const int8_t columns[1024], const int8_t rows[1024]
 /* ---- lists of calls */
 
 /*
- * A list of stores, clears, loads and fetches is made by one function, each call on the memory as the one before left it. The
- * list is numbers, five to a call:
+ * One function makes a list of stores, clears, loads and fetches, each call on the memory as the one before left it. The list
+ * is numbers, five to a call:
  *
  *   number       store    clear         load     fetch
  *   0: kind      0        1             2        3

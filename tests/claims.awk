@@ -1,6 +1,8 @@
 # Prints what a document says is in the tree, a claim to a line, for tests/names: 'FILE:LINE:', a tab, and forms of the
-# claim of which one has to be a line of tests/facts.awk, with '|' between. Code blocks are passed over.
-function claim(s) { print FILENAME ":" FNR ":\t" s }
+# claim of which one has to be a line of tests/facts.awk, with '|' between. Code blocks are passed over. With the variable
+# `paths` set it prints only paths that stand in backquotes.
+function put(s) { print FILENAME ":" FNR ":\t" s }
+function claim(s) { if (!paths) put(s) }
 function trim(s) {
     gsub(/^ +| +$/, "", s)
     return s
@@ -18,21 +20,30 @@ function of_one(kind, name, s,    forms) {
 }
 
 # What stands in backquotes. After `a::b` a list goes on with more of a.
-function code(s, before,    p, n) {
+function code(s, before,    p, n, w) {
     if (before !~ /^(, |,? and )$/) owner = ""
     if (s ~ /^[A-Za-z_]+::/) {
         sub(/[^A-Za-z0-9_:*].*/, "", s)
         n = split(s, p, "::")
         owner = p[1]
         if (row == "" && owner ~ /^[a-z]/) row = owner
-        claim((p[n] ~ /\*/ ? "crate " owner : (near ~ /wrapper/ ? "wrapper " : "function ") owner " " p[n]))
+        w = owner " " p[n]
+        claim(p[n] ~ /\*/ ? "crate " owner : near ~ /wrapper/ ? "wrapper " w : "function " w "|wrapper " w)
     } else if (s ~ /^[a-z0-9_]+$/ && owner != "") claim("function " owner " " s)
     else if (s ~ /^[a-z0-9_]+\(/) of_one("function", substr(s, 1, index(s, "(") - 1), near)
-    else if (s ~ /^((bash|rt) )?[A-Za-z0-9_.*+-]*\/[^ ]*$/) {
-        sub(/^[a-z]+ /, "", s)
-        sub(/\/$/, "", s)
-        if (s !~ /CRATE|^target/) claim("file " s)
-    } else words(s, "code")
+    else if (s ~ /^[A-Za-z0-9_.*+-]+\/[^ ]*$/ || s ~ /^bash [^ ]*\//) path(s)
+    else words(s, "code")
+}
+
+# 'tests/names', 'bash tests/edits --list', 'crates/*/src/', or an edit, 'scope/surplus_of_one'. Passed over: what a run
+# makes, and parts in capitals, which stand for any name.
+function path(s,    p) {
+    sub(/^bash /, "", s)
+    sub(/ .*/, "", s)
+    sub(/\/$/, "", s)
+    if (s !~ /^[a-z.]/ || s ~ /^target|\/[A-Z]+(\/|$)|[^A-Za-z0-9_.*+\/-]/) return
+    split(s, p, "/")
+    put("file " s (s ~ /^[a-z]+\/[a-z0-9_]+$/ ? "|edit " p[1] " " p[2] : ""))
 }
 
 # The words of a text that are names by their form. A bare one with a _ is an edit.
@@ -43,11 +54,11 @@ function words(s, kind,    w, p) {
         sub(/[.-]+$/, "", w)
         if (s ~ /^(:| =)/ || w ~ /_t?$/ || w == "File.name") continue
         if (w ~ /\.(rs|rt|c|h|md|antt)$/) claim("file " w)
-        else if (w ~ /^[A-Z][A-Za-z0-9]*\.[A-Za-z]/) {
+        else if (w ~ /^[A-Z][A-Za-z0-9]*[a-z][A-Za-z0-9]*\.[A-Za-z]/) {
             split(w, p, ".")
             claim("spec " p[1] " " p[2])
         } else if (w ~ /^[a-z0-9]+_[a-z0-9_]*\**$/ && kind == "text") of_one("edit", w, near)
-        else if (w ~ /[a-z0-9][A-Z]/ || kind == "code" && w ~ /[a-z0-9][_-][a-z0-9]/) claim("name " w)
+        else if (w ~ /[a-z0-9][A-Z]/ || kind == "code" && w ~ /[a-z0-9][_-][a-z0-9]|^BANKPLAN_/) claim("name " w)
     }
 }
 
@@ -132,21 +143,38 @@ function inside(s, column,    n, k, it, w, c) {
     }
 }
 
-# 'FinderNone, FinderOrder (PlanPromises)'
-function promise(s,    n, it, f) {
-    if (!match(s, /\([A-Z][A-Za-z]*\)/)) return
-    f = substr(s, RSTART + 1, RLENGTH - 2)
-    for (n = split(substr(s, 1, RSTART - 1), it, ","); n; n--) claim("spec " f " " trim(it[n]))
+# 'FinderNone, FinderOrder': the promises, and what their proofs are called if the next cell does not say it
+function promise(s,    n, k, it, w) {
+    called = ""
+    n = split(s, it, ", ")
+    for (k = 1; k <= n; k++) {
+        claim("def " it[k])
+        w = it[k]
+        gsub(/[A-Z0-9]/, "-&", w)
+        called = called "," substr(tolower(w), 2)
+    }
 }
 
-# 'finder, Least: `finder-none`, `finder-order`'
-function proof(s,    n, it, at) {
-    at = substr(s, 1, index(s, ":") - 1)
+# 'finder, Least', 'scope, PlanFacts: `inside-iff`': where a promise is proved
+function proof(s,    n, it, at, list) {
+    at = list = s
+    sub(/:.*/, "", at)
+    if (!sub(/.*:/, "", list)) list = substr(called, 2)
     row = substr(at, 1, index(at, ",") - 1)
     sub(/,/, "", at)
-    for (n = split(substr(s, index(s, ":") + 1), it, ","); n; n--) {
+    for (n = split(list, it, ","); n; n--) {
         gsub(/[ `]/, "", it[n])
         claim("law " at " " it[n])
+    }
+}
+
+# 'Starts, Wrapped; checks, Outputs': files of laws, of the crate that stands before them or else of the row's own
+function laws(s,    n, k, m, j, segment, it, c) {
+    n = split(s, segment, "; ")
+    for (k = 1; k <= n && s != "none"; k++) {
+        c = row
+        m = split(segment[k], it, ", ")
+        for (j = 1; j <= m; j++) if (it[j] ~ /^[a-z]/) claim("crate " (c = it[j])); else claim("part " c " " it[j])
     }
 }
 
@@ -159,15 +187,16 @@ function check(text, column,    s, before, span, bare, kind) {
         span = substr(s, RSTART + 1, RLENGTH - 2)
         s = substr(s, RSTART + RLENGTH)
         bare = bare before "`"
-        if (s !~ /^ of the library/) code(span, before)
+        code(span, before)
         if (before ~ /edits? of $/ || s ~ /^ [a-z0-9]+_[a-z0-9_]+/) claim("crate " span)
     }
     bare = bare s
     kind = column ~ /^Edits/ ? "edits" : column != "" && bare ~ /[a-z]\.rs/ ? "tests" : "text"
     words(bare, kind)
     if (column == "") return
-    if (column ~ /^Promise/) promise(bare)
+    if (column == "Promise") promise(bare)
     if (column == "Proof") proof(text)
+    if (column == "Laws") laws(bare)
     while (match(text, /\([^()]*\)/)) text = substr(text, 1, RSTART - 1) substr(text, RSTART + RLENGTH)
     while (match(bare, /\([^()]*\)/)) {
         s = substr(bare, RSTART + 1, RLENGTH - 2)
@@ -180,7 +209,9 @@ function check(text, column,    s, before, span, bare, kind) {
     if (column == "definition") claim("def " bare)
 }
 
-FNR == 1 { heading = header = previous = "" }
+FNR == 1 { heading = header = previous = block = "" }
+/^```/ { block = !block }
+block || /^```/ { next }
 match($0, /of `[a-z_]+`, where none is named/) { standard = substr($0, RSTART, RLENGTH) }
 /^#/ { heading = $0 }
 /^(    |$)/ { header = ""; next }
@@ -195,5 +226,5 @@ header == "" {
 {
     row = ""
     n = split($0, cell, "|")
-    for (k = 2; k < n; k++) check(trim(cell[k]), trim(column[k]))
+    for (k = 2; k <= n; k++) check(trim(cell[k]), trim(column[k]))
 }

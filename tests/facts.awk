@@ -24,6 +24,7 @@ FNR == 1 {
 function declare(name) {
     print "name " name
     print "test " file " " name
+    if (FILENAME ~ /^bindings/) print "wrapper " stem " " name
     if (holder != "" && holder != name)
         print (crate == "" ? "wrapper " : part == "src" ? "function " : "spec ") holder " " name
     if (crate != "") print "part " crate " " name
@@ -39,6 +40,11 @@ function flush(    k, j) {
         for (j = 1; j <= count; j++) print "spec " names[k] " " names[j]
     count = 0
 }
+# names of the prover's library too
+/^use / && match($0, /[{].*[}]/) {
+    n = split(substr($0, RSTART + 1, RLENGTH - 2), p, ", ")
+    for (k = 1; k <= n; k++) print "name " p[k]
+}
 FILENAME ~ /\.antt$/ {
     if (/^(--|use |unfolding |module |mod |pub mod |infix)/) next
     if (/^[^ ]/) {
@@ -48,6 +54,11 @@ FILENAME ~ /\.antt$/ {
         if (holds) record[$1]
         declare($1)
     } else if (/^  (pub )?[^ ]+ :( |$)/) declare($1 == "pub" ? $2 : $1)
+    next
+}
+FILENAME ~ /^include/ {
+    gsub(/[^A-Za-z0-9_]/, " ")
+    for (k = 1; k <= NF; k++) print "name " $k
     next
 }
 /^}/ { holder = "" }

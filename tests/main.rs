@@ -3,6 +3,7 @@
 
 mod books;
 mod calls;
+mod drawings;
 mod fetches;
 mod finds;
 mod library;
@@ -98,6 +99,7 @@ fn main() {
     tallies.push(records::run());
     tallies.extend(wrapper::run());
     tallies.extend(program::run_all());
+    tallies.extend(drawings::run());
     let (mut cases, mut wrong) = (0, 0);
     for t in tallies {
         let (c, w) = t.done();

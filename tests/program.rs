@@ -121,29 +121,6 @@ fn closed() -> Tally {
     t
 }
 
-// The example drawings, by the script that turns them into bytes.
-fn drawings() -> Tally {
-    let mut t = Tally::new("drawings");
-    let (drawn, hex) = ("bash examples/book", "od -An -v -tx1 | tr -d ' \\n'");
-    for (how, wanted, told) in [
-        (format!("{drawn} examples/cross.txt | {PROGRAM}"), "banks 5\nplan 5 2 1\n", false),
-        (format!("{drawn} examples/filters.txt | {PROGRAM}"), "banks 9\nplan 9 3 1\n", false),
-        (format!("printf '#.#\n' | {drawn} | {hex}"), "010200000200", false),
-        (format!("printf '# \n##\n' | {drawn} | {hex}"), "0103000000010101", false),
-        (format!("printf 'o#\n\n// a remark\n#O' | {drawn} | {hex}"), "0201010002ff000000", false),
-        (format!("printf '' | {drawn} | {PROGRAM}"), "refused 2\n", false),
-        (format!("printf '...' | {drawn} | {PROGRAM}"), "refused 2\n", false),
-        (format!("printf '################O' | {drawn} | {PROGRAM}"), "banks 17\nplan 17 0 1\n", false),
-        (format!("printf '#################O' | {drawn} | {PROGRAM}"), "refused 3\n", false),
-        (format!("printf '#x' | {drawn}"), "", true),
-        (format!("printf 'oO' | {drawn}"), "", true),
-    ] {
-        let got = shell(&how);
-        t.same(|| how.clone(), (got.0, got.2), (wanted.into(), told));
-    }
-    t
-}
-
 pub fn run_all() -> Vec<Tally> {
-    vec![inputs(), closed(), drawings()]
+    vec![inputs(), closed()]
 }

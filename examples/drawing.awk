@@ -1,0 +1,110 @@
+# Reads drawings of patterns and prints the bytes of their book, each as a backslash and four octal digits. examples/book calls
+# it and says what a drawing is. In the environment: DRAWING, the file's name in messages; WIDEST, the longest line that is read.
+# Ends with status 1 where the patterns are no book, and with 2 where the lines are no drawing.
+
+function stop(where, why) { print "book: " ENVIRON["DRAWING"] ": " where ": " why > "/dev/stderr"; stopped = 1; exit 2 }
+function at(line, column) { return "line " line ", column " column }
+
+# a character by its name
+function named(c) {
+    if (c == " ") return "a space"
+    if (c == "\t") return "a tab"
+    if (c == "\r") return "a carriage return"
+    if (c ~ /[!-~]/) return "the character " c
+    return sprintf("the byte %02X in hex", number[c])
+}
+function hint(c) {
+    if (c ~ /[ \t]/) return "; draw . where there is no pixel"
+    return c ~ /[!-~\r]/ ? "" : "; bash run --bytes reads the bytes of a book"
+}
+
+# the first reason why the patterns are no book, in the order of the book's bytes
+function refuse(where, why, more) { if (refused == "") refused = where ": " why (more == "" ? "" : "\nbook: " more) }
+
+# a line of the drawing: its characters, its (0, 0), its pixels
+function draw(  rest, gone) {
+    if (match($0, /[^#.Oo]/)) stop(at(NR, RSTART), named(substr($0, RSTART, 1)) ", which is no part of a drawing: # . O o" \
+        hint(substr($0, RSTART, 1)))
+    if (rows == 0) first = NR
+    if (match($0, /[Oo]/)) {
+        gone = RSTART
+        if (mark == "") { mark = at(NR, gone); left = gone; top = rows }
+        else stop(at(NR, gone), "a second (0, 0); this pattern has one at " mark)
+        if (match(substr($0, gone + 1), /[Oo]/)) stop(at(NR, gone + RSTART), "a second (0, 0); this pattern has one at " mark)
+    }
+    gone = 0
+    for (rest = $0; used <= 64 && match(rest, /[#O]/); rest = substr(rest, RSTART + 1)) {
+        used++
+        column[used] = gone += RSTART
+        row[used] = rows
+        line[used] = NR
+    }
+    rows++
+}
+
+function far(z) { return z < -16 || z > 15 }
+function byte(z) { return sprintf("\\0%03o", (z + 256) % 256) }
+
+# What helps where a pixel is too far from (0, 0).
+function advice(  k, least, most, low) {
+    least = most = column[1]
+    for (k = 2; k <= used; k++) {
+        if (column[k] < least) least = column[k]
+        if (column[k] > most) most = column[k]
+    }
+    low = row[used] - row[1]
+    if (most - least > 31 || low > 31)
+        return "a pattern is at most 32 wide and 32 high; this one is " most - least + 1 " wide and " low + 1 " high"
+    if (mark != "") return "(0, 0) is at " mark " in this pattern: draw the O or o nearer to the middle"
+    return "without an O or o the upper left corner is (0, 0): a drawing wider or higher than 16 needs an O (a pixel) or an o " \
+        "(none) near its middle"
+}
+
+# The pattern that ends here, as bytes.
+function pattern(  k, x, y) {
+    if (used == 0) refuse("line " first, "refused 2: pattern " patterns " has no pixel, and a pattern has 1 to 64")
+    if (used > 64) {
+        refuse(at(line[65], column[65]), "refused 2: this is pixel 65 of pattern " patterns ", and a pattern has 1 to 64")
+        return
+    }
+    book = book byte(used)
+    for (k = 1; k <= used; k++) {
+        x = column[k] - left
+        y = row[k] - top
+        if (far(x) || far(y)) {
+            refuse(at(line[k], column[k]), "refused 3: pattern " patterns " has a pixel at (" x ", " y "), and columns and rows go " \
+                "from -16 to 15", advice())
+            return
+        }
+        book = book byte(x) byte(y)
+    }
+}
+function finish() {
+    if (rows == 0) return
+    if (patterns < 16) pattern()
+    else if (patterns == 16) many = "line " first ": refused 2: pattern 16 begins here, and a book has 1 to 16, numbered from 0"
+    patterns++
+    clean()
+}
+function clean() { rows = used = top = 0; left = 1; mark = "" }
+
+BEGIN {
+    for (k = 1; k < 256; k++) number[sprintf("%c", k)] = k
+    patterns = 0
+    refused = many = ""
+    clean()
+}
+NR == 1 { sub(/^\357\273\277/, "") }
+length($0) > ENVIRON["WIDEST"] + 0 { stop("line " NR, "more than " ENVIRON["WIDEST"] " characters") }
+/^[ \t]*\/\// { next }
+{ sub(/[ \t\r]+$/, "") }
+$0 == "" { finish(); next }
+{ draw() }
+END {
+    if (stopped) exit 2
+    finish()
+    if (patterns == 0) refused = "refused 2: no pattern is drawn, and a book has 1 to 16"
+    if (many != "") refused = many
+    if (refused != "") { print "book: " ENVIRON["DRAWING"] ": " refused > "/dev/stderr"; exit 1 }
+    printf "%s", byte(patterns) book
+}

@@ -1,0 +1,59 @@
+/*
+ * A supplier sends a plan as two vectors. Does it suit our book of patterns, and how many banks has it too many?
+ *
+ *   cc -o target/supplier examples/supplier.c target/staticlib/libcapi.a && target/supplier 10 0 2 1 < examples/cross.book
+ *
+ * The arguments are the vectors (x1, x2) and (y1, y2). The book's bytes come from standard input. The status is 0 where the
+ * vectors suit, 1 where something is refused, 2 where the arguments are wrong or the input or output fails.
+ */
+#include <stdio.h>
+#include <stdlib.h>
+
+#include "../include/bankplan.h"
+
+/* Whether the whole text is a number of 16 bits with a sign, and which. */
+static int is_number(const char *text, int16_t *number) {
+    char *end;
+    long value = strtol(text, &end, 10);
+    *number = (int16_t)value;
+    return (*text == '-' || (*text >= '0' && *text <= '9')) && end != text && *end == 0 && value == *number;
+}
+
+static int refused(const char *what, uint64_t number, const uint64_t *answer) {
+    printf("%s: refused %d (%s)", what, (int)number, bankplan_refusal_text(number));
+    if (number <= BANKPLAN_EXTRA)
+        printf(": at byte %d", (int)answer[0]);
+    if (number == BANKPLAN_UNSUITED)
+        printf(": pixels %d and %d of pattern %d share a bank", (int)answer[2], (int)answer[3], (int)answer[1]);
+    printf("\n");
+    return 1;
+}
+
+/* Finds the least plan, checks the supplier's vectors, and gives the status. */
+static int judge(const uint8_t *bytes, size_t length, const int16_t v[4]) {
+    static int8_t columns[BANKPLAN_ENTRIES], rows[BANKPLAN_ENTRIES];
+    static size_t used[BANKPLAN_MAX_PATTERNS];
+    uint64_t answer[BANKPLAN_ANSWER_NUMBERS], number;
+    if ((number = bankplan_read_book(bytes, length, columns, rows, used, answer)) != 0)
+        return refused("book", number, answer);
+    size_t count = (size_t)answer[0];
+    if ((number = bankplan_find(columns, rows, used, count, BANKPLAN_MAX_BANKS, answer)) != 0)
+        return refused("least", number, answer);
+    int a = (int)answer[0], b = (int)answer[1], d = (int)answer[2];
+    printf("least: %d banks, plan %d %d %d\n", a * d, a, b, d);
+    if ((number = bankplan_check(columns, rows, used, count, v[0], v[1], v[2], v[3], answer)) != 0)
+        return refused("yours", number, answer);
+    a = (int)answer[0], b = (int)answer[1], d = (int)answer[2];
+    return printf("yours: %d banks, plan %d %d %d, surplus %d\n", a * d, a, b, d, (int)answer[3]), 0;
+}
+
+int main(int count, char **words) {
+    uint8_t bytes[BANKPLAN_MAX_BOOK_BYTES + 1]; /* one more than the longest book has, so that bytes behind it are seen */
+    int16_t v[4];
+    for (int k = 0; k < 4; k++)
+        if (count != 5 || !is_number(words[k + 1], &v[k]))
+            return fprintf(stderr, "usage: supplier x1 x2 y1 y2 < BOOK, with numbers from -32768 to 32767\n"), 2;
+    size_t length = fread(bytes, 1, sizeof bytes, stdin);
+    int status = ferror(stdin) ? 2 : judge(bytes, length, v);
+    return ferror(stdin) || fflush(stdout) != 0 ? perror("supplier"), 2 : status;
+}
