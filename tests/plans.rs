@@ -102,6 +102,24 @@ fn bank() -> Tally {
     t
 }
 
+// The README's picture of banks, 10 by 5, with the cross at column 6 and row 2 beside it.
+fn picture() -> Tally {
+    let mut t = Tally::new("the README's picture");
+    let text = std::fs::read_to_string("README.md").expect("README.md is in this folder");
+    let rows = text.lines().map(|line| line.split_whitespace().collect::<Vec<_>>()).filter(|row| row.len() == 20);
+    let rows: Vec<_> = rows.filter(|row| row.iter().all(|word| word.len() == 1)).collect();
+    t.same(|| "rows".into(), rows.len(), 5);
+    for (j, row) in rows.iter().enumerate() {
+        for i in 0..10_usize {
+            let library::Told { row: bank, .. } = library::bank(plan(5, 2, 1), (i as i16, j as i16));
+            let cross = i.abs_diff(6) + j.abs_diff(2) <= 1;
+            let wanted = [bank[0].to_string(), if cross { bank[0].to_string() } else { ".".into() }];
+            t.same(|| format!("({i}, {j})"), [row[i].to_string(), row[10 + i].to_string()], wanted);
+        }
+    }
+    t
+}
+
 fn depth() -> Tally {
     let mut t = Tally::new("depth");
     t.same(|| "figure".into(), library::depth(plan(5, 2, 1), 7, 4), told(0, &[8]));
@@ -198,5 +216,5 @@ fn locate() -> Tally {
 }
 
 pub fn run() -> Vec<Tally> {
-    vec![normal_form(), bank(), depth(), address(), locate()]
+    vec![normal_form(), bank(), picture(), depth(), address(), locate()]
 }

@@ -125,6 +125,8 @@ module _ (book : Book) (x y : Pixel) where
           let suiting : suitsAll form ts ≡ true = form-suits-iff (legal .0) (legal .1 .0) (legal .1 .1) .0 none-found in
           let (q, least-is, count) = surplus-of-suiting book (legal .0) form is-plan suiting in
           record {
+            legal-book = legal .0;
+            independent = legal .1 .0;
             form = refl;
             plan = is-plan;
             suiting = suiting;

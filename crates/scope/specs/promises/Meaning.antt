@@ -139,8 +139,8 @@ pub record TestsMean : Type 0 where
   pub number-17 : (count n : ℕ) → (numberTest count n ≡ none) ↔ (n < count)
   pub ring-18 : (p : Plan) (W H : ℕ) → IsPlan p → (ringTest p W H ≡ none) ↔ RingAllowed p W H
 
--- A legal call is never refused: the test of a record, the writer, and plans. (The finder's, the check's and the picture's
--- calls: PlanPromises, PicturePromises.)
+-- A legal call is never refused: the test of a record, the writer, and plans. (The finder and the check: PlanPromises; calls on
+-- a picture: PicturePromises; the reader and a pattern's part: BookPromises, BytesMean and PartsAre.)
 pub record LegalCallsAnswer : Type 0 where
   -- "A call given a book record tests 2, 3, 4": that test by itself
   pub record-outcome : (book : Book) → IsBook book → ofOutcome (recordOutcome book) ≡ value tt

@@ -40,7 +40,7 @@ Parted x y ts =
     (t : List Pixel) → List·Memᴰ t ts → (v w : Pixel) → List·Memᴰ v t → List·Memᴰ w t
     → (v ≡ w → ⊥) → Combination x y (minus v w) → ⊥
 
--- p is a plan that suits the book, and no two independent integer vectors that part its pixels have a smaller determinant
+-- p is a plan that suits the book, and no two independent integer vectors that part its pixels have a determinant of smaller size
 pub record LeastFor (book : Book) (p : Plan) : Type 0 where
   pub plan : IsPlan p
   pub suiting : suitsAll p (patterns book) ≡ true
@@ -108,8 +108,10 @@ pub record Meets (book : Book) (p : Plan) (n e l : ℕ) : Type 0 where
   pub in-pattern : l < patternAt book n .used
   pub joined : InLattice p (minus (pixelAt (patternAt book n) l) (pixelAt (patternAt book n) e))
 
--- A verdict with a surplus: the normal form, which suits, and its N is the least count plus the surplus.
+-- A verdict with a surplus: book and vectors are legal, the normal form suits, and its N is the least count plus the surplus.
 pub record Excess (book : Book) (x y : Pixel) (c : Checked) : Type 0 where
+  pub legal-book : IsBook book
+  pub independent : Independent x y
   pub form : c .plan ≡ normalForm x y
   pub plan : IsPlan (c .plan)
   pub suiting : suitsAll (c .plan) (patterns book) ≡ true
