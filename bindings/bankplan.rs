@@ -255,7 +255,7 @@ impl fmt::Display for Refused {
         write!(f, "refused {}: {}", self.number, self.condition())?;
         match self.clash {
             Some(c) => write!(f, ", pattern {}, positions {} and {}", c.pattern, c.earlier, c.later),
-            None if self.number <= 5 => write!(f, ", place {}", self.place),
+            None if self.place > 0 => write!(f, ", place {}", self.place),
             None => Ok(()),
         }
     }

@@ -1,6 +1,7 @@
 # Reads drawings of patterns and prints the bytes of their book, each as a backslash and four octal digits. examples/book calls
 # it and says what a drawing is. In the environment: DRAWING, the file's name in messages; WIDEST, the longest line that is read.
-# Ends with status 1 where the patterns are no book, and with 2 where the lines are no drawing.
+# Standard error gets the count of patterns and pixels, or what is wrong. Ends with status 1 where the patterns are no book, and
+# with 2 where the lines are no drawing.
 
 function stop(where, why) { print "book: " ENVIRON["DRAWING"] ": " where ": " why > "/dev/stderr"; stopped = 1; exit 2 }
 function at(line, column) { return "line " line ", column " column }
@@ -13,9 +14,13 @@ function named(c) {
     if (c ~ /[!-~]/) return "the character " c
     return sprintf("the byte %02X in hex", number[c])
 }
-function hint(c) {
-    if (c ~ /[ \t]/) return "; draw . where there is no pixel"
-    return c ~ /[!-~\r]/ ? "" : "; bash run --bytes reads the bytes of a book"
+# What helps where character k of the line is no part of a drawing.
+function hint(c, k) {
+    if (index($0, "//")) return "a remark has a line of its own"
+    if (c ~ /[ \t]/) return (k == 1 ? "take away what stands in front, or " : "") "draw . where there is no pixel"
+    if (NR == 1 && k == 1 && number[c] <= 16) return "is this the bytes of a book? Then use bash run --bytes"
+    if (c !~ /[!-~]/) return "a drawing is plain text"
+    return "# is a pixel, . is none, and O or o is (0, 0)"
 }
 
 # the first reason why the patterns are no book, in the order of the book's bytes
@@ -23,8 +28,8 @@ function refuse(where, why, more) { if (refused == "") refused = where ": " why 
 
 # a line of the drawing: its characters, its (0, 0), its pixels
 function draw(  rest, gone) {
-    if (match($0, /[^#.Oo]/)) stop(at(NR, RSTART), named(substr($0, RSTART, 1)) ", which is no part of a drawing: # . O o" \
-        hint(substr($0, RSTART, 1)))
+    if (match($0, /[^#.Oo]/))
+        stop(at(NR, RSTART), named(substr($0, RSTART, 1)) " is no part of a drawing; " hint(substr($0, RSTART, 1), RSTART))
     if (rows == 0) first = NR
     if (match($0, /[Oo]/)) {
         gone = RSTART
@@ -64,15 +69,17 @@ function advice(  k, least, most, low) {
 function pattern(  k, x, y) {
     if (used == 0) refuse("line " first, "refused 2: pattern " patterns " has no pixel, and a pattern has 1 to 64")
     if (used > 64) {
-        refuse(at(line[65], column[65]), "refused 2: this is pixel 65 of pattern " patterns ", and a pattern has 1 to 64")
+        refuse(at(line[65], column[65]), "refused 2: one pixel too many for pattern " patterns ", and a pattern has 1 to 64")
         return
     }
+    counts = counts (counts == "" ? "" : ", ") used
+    pixels += used
     book = book byte(used)
     for (k = 1; k <= used; k++) {
         x = column[k] - left
         y = row[k] - top
         if (far(x) || far(y)) {
-            refuse(at(line[k], column[k]), "refused 3: pattern " patterns " has a pixel at (" x ", " y "), and columns and rows go " \
+            refuse(at(line[k], column[k]), "refused 3: pattern " patterns " has a pixel at (" x ", " y "), and both numbers go " \
                 "from -16 to 15", advice())
             return
         }
@@ -82,7 +89,7 @@ function pattern(  k, x, y) {
 function finish() {
     if (rows == 0) return
     if (patterns < 16) pattern()
-    else if (patterns == 16) many = "line " first ": refused 2: pattern 16 begins here, and a book has 1 to 16, numbered from 0"
+    else if (patterns == 16) many = "line " first ": refused 2: a 17th pattern begins here, and a book has 1 to 16"
     patterns++
     clean()
 }
@@ -97,14 +104,17 @@ BEGIN {
 NR == 1 { sub(/^\357\273\277/, "") }
 length($0) > ENVIRON["WIDEST"] + 0 { stop("line " NR, "more than " ENVIRON["WIDEST"] " characters") }
 /^[ \t]*\/\// { next }
-{ sub(/[ \t\r]+$/, "") }
+{ sub(/\r+$/, "") }
 $0 == "" { finish(); next }
-{ draw() }
+/^[ \t\r]+$/ { stop("line " NR, "nothing but spaces; leave the line empty to end a pattern, or draw . where there is no pixel") }
+{ sub(/[ \t\r]+$/, ""); draw() }
 END {
     if (stopped) exit 2
     finish()
-    if (patterns == 0) refused = "refused 2: no pattern is drawn, and a book has 1 to 16"
+    if (patterns == 0) refused = "refused 2: no pattern is drawn, and a book has 1 to 16; draw # for each pixel"
     if (many != "") refused = many
     if (refused != "") { print "book: " ENVIRON["DRAWING"] ": " refused > "/dev/stderr"; exit 1 }
+    counts = patterns (patterns == 1 ? " pattern of " : " patterns of ") counts (pixels == 1 ? " pixel" : " pixels")
+    print "book: " counts > "/dev/stderr"
     printf "%s", byte(patterns) book
 }

@@ -19,19 +19,22 @@ static int is_number(const char *text, int16_t *number) {
     return (*text == '-' || (*text >= '0' && *text <= '9')) && end != text && *end == 0 && value == *number;
 }
 
+static int8_t columns[BANKPLAN_ENTRIES], rows[BANKPLAN_ENTRIES];
+
 static int refused(const char *what, uint64_t number, const uint64_t *answer) {
     printf("%s: refused %d (%s)", what, (int)number, bankplan_refusal_text(number));
     if (number <= BANKPLAN_EXTRA)
         printf(": at byte %d", (int)answer[0]);
-    if (number == BANKPLAN_UNSUITED)
-        printf(": pixels %d and %d of pattern %d share a bank", (int)answer[2], (int)answer[3], (int)answer[1]);
+    if (number == BANKPLAN_UNSUITED) {
+        size_t first = (size_t)answer[1] * BANKPLAN_MAX_PIXELS, e = first + (size_t)answer[2], l = first + (size_t)answer[3];
+        printf(": (%d, %d) and (%d, %d) of pattern %d share a bank", columns[e], rows[e], columns[l], rows[l], (int)answer[1]);
+    }
     printf("\n");
     return 1;
 }
 
 /* Finds the least plan, checks the supplier's vectors, and gives the status. */
 static int judge(const uint8_t *bytes, size_t length, const int16_t v[4]) {
-    static int8_t columns[BANKPLAN_ENTRIES], rows[BANKPLAN_ENTRIES];
     static size_t used[BANKPLAN_MAX_PATTERNS];
     uint64_t answer[BANKPLAN_ANSWER_NUMBERS], number;
     if ((number = bankplan_read_book(bytes, length, columns, rows, used, answer)) != 0)
@@ -52,7 +55,7 @@ int main(int count, char **words) {
     int16_t v[4];
     for (int k = 0; k < 4; k++)
         if (count != 5 || !is_number(words[k + 1], &v[k]))
-            return fprintf(stderr, "usage: supplier x1 x2 y1 y2 < BOOK, with numbers from -32768 to 32767\n"), 2;
+            return fprintf(stderr, "usage: supplier x1 x2 y1 y2 < FILE.book, with numbers from -32768 to 32767\n"), 2;
     size_t length = fread(bytes, 1, sizeof bytes, stdin);
     int status = ferror(stdin) ? 2 : judge(bytes, length, v);
     return ferror(stdin) || fflush(stdout) != 0 ? perror("supplier"), 2 : status;

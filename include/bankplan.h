@@ -15,7 +15,9 @@
  * refused call leaves all that it was lent as it was, but for the answer's row.
  *
  * What a call tests. A call takes every value of its parameters' types, and tests them all itself. No call relies on one made
- * before. "Refused by" below has the numbers in the order of the tests, and the first that holds is told.
+ * before. "Refused by" below has the numbers in the order of the tests; the first that holds is the one that is returned. "In
+ * book order" is the pattern count first, then for each pattern its pixel count, then for each of its pixels the column, the
+ * row, and whether it stood there before.
  *
  * What things are. A plan is a, b, d; it has N = a * d banks. A picture has width w and height h. A pixel is (i, j), column and
  * row.
@@ -193,8 +195,8 @@ uint64_t bankplan_ring_fetch(const int8_t columns[1024], const int8_t rows[1024]
 /* ---- lists of calls */
 
 /*
- * One function makes a list of stores, clears, loads and fetches, each call on the memory as the one before left it. The list
- * is numbers, five to a call:
+ * One function carries out a list of stores, clears, loads and fetches, each call on the memory as the one before left it. The
+ * list is numbers, five to a call:
  *
  *   number       store    clear         load     fetch
  *   0: kind      0        1             2        3
@@ -219,7 +221,8 @@ uint64_t bankplan_ring_fetch(const int8_t columns[1024], const int8_t rows[1024]
  *   refused                        the refusal's number, its place (0), then 0
  *   refused by 10                  10, 0, the pattern's number, the earlier and the later position, then 0
  *
- * A refused call is no fault of the list: the calls behind it are made. What stands in replies behind the last reply stays.
+ * A refused call is no fault of the list: the calls behind it are carried out. What stands in replies behind the last reply
+ * stays.
  */
 
 /* The kinds of calls. */
@@ -238,22 +241,24 @@ enum bankplan_list {
     BANKPLAN_NOT_CALLS = 255
 };
 
-/* Makes a list of calls under one plan, with one book and one picture. Returns 0 where the list was made, whatever its replies.
-   Returns 255 where some numbers are no call's: the place of the first of these five is told, or of what is left where the last
-   are fewer than five. Returns 16, place 0, where outs has not the room of all fetches, or replies not twelve numbers to a call.
+/* Carries out a list of calls under one plan, with one book and one picture. Tells nothing. It returns
+     0      The list was carried out, whatever its replies are.
+     255    Five numbers are no call's, or fewer than five are left at the end. answer[0] is the place of the first of them.
+     16     outs has not the room of all fetches, or replies has not twelve numbers to a call. The place is 0.
    The list is tested from its start on, the five numbers of a call before its room; then what is left at the end, then the
-   replies' length. Tells nothing.
-   Lent: mem, outs and replies as said above; where the list was not made all of them stay. */
+   replies' length.
+   Lent: mem, outs and replies as said above; where the list was not carried out all of them stay. */
 uint64_t bankplan_run_list(const int8_t columns[1024], const int8_t rows[1024], const size_t used[16], size_t count,
                            uint32_t a, uint32_t b, uint32_t d, uint32_t w, uint32_t h, uint16_t *mem, size_t mem_length,
                            const uint64_t *numbers, size_t numbers_length, uint16_t *outs, size_t outs_length,
                            uint64_t *replies, size_t replies_length, uint64_t answer[12]);
 
-/* Finds the plan with the fewest banks, at most limit, for a book, and makes a list of calls under it. Refused by 2, 3, 4 in
-   book order, 6, 7 where there is no plan; then 255 and 16 as above. Tells a, b, d.
+/* Finds the plan with the fewest banks, at most limit, for a book, and carries out a list of calls under it. Refused by 2, 3, 4
+   in book order, 6, 7 where there is no plan; then 255 and 16 as above. Tells a, b, d.
    The memory is to have N * depth words under the plan that is found, or each call is refused by 13; (w + limit) * (h + limit)
-   words are always enough. If these N * depth words are 0, demand 3 holds of the whole list.
-   Lent: as above; where there is no plan or the list was not made all of it stays. */
+   words are always enough. If these N * depth words are 0, each word that is fetched or loaded is the one last stored at its
+   pixel, or 0 where there is none since the last clear of its bank (demand 3 of document 01).
+   Lent: as above; where there is no plan or the list was not carried out all of it stays. */
 uint64_t bankplan_find_and_run(const int8_t columns[1024], const int8_t rows[1024], const size_t used[16], size_t count,
                                uint32_t limit, uint32_t w, uint32_t h, uint16_t *mem, size_t mem_length,
                                const uint64_t *numbers, size_t numbers_length, uint16_t *outs, size_t outs_length,

@@ -48,10 +48,13 @@ fn patterns(text: &[u8]) -> Result<Vec<Vec<Cell>>, String> {
             continue;
         }
         let end = line.iter().rposition(|b| !blank(b)).map_or(0, |last| last + 1);
+        if end == 0 && line.iter().any(|&b| b != b'\r') {
+            return Err(format!("line {}: nothing but spaces", k + 1));
+        }
         let cells: Vec<Cell> =
             (0..end).map(|c| Cell { line: k + 1, column: c as i64 + 1, row, byte: line[c] }).collect();
         if let Some(c) = cells.iter().find(|c| !b"#.Oo".contains(&c.byte)) {
-            return Err(format!("{}: {}, which is no part", c.place(), name(c.byte)));
+            return Err(format!("{}: {} is no part of a drawing; ", c.place(), name(c.byte)));
         }
         now.extend(&cells);
         let marks: Vec<_> = now.iter().filter(|c| b"Oo".contains(&c.byte)).collect();
@@ -76,7 +79,7 @@ fn pattern(n: usize, cells: &[Cell]) -> Result<Vec<u8>, String> {
         return Err(format!("line {}: refused 2: pattern {n} has no pixel", cells[0].line));
     }
     if let Some(c) = pixels.get(64) {
-        return Err(format!("{}: refused 2: this is pixel 65 of pattern {n}", c.place()));
+        return Err(format!("{}: refused 2: one pixel too many for pattern {n}", c.place()));
     }
     let mut bytes = vec![pixels.len() as u8];
     for c in pixels {
@@ -99,14 +102,19 @@ fn wanted(text: &[u8]) -> (Vec<u8>, i32, String) {
         Ok(all) => all,
     };
     match all.get(16) {
-        Some(late) => return fault(1, format!("line {}: refused 2: pattern 16 begins here", late[0].line)),
+        Some(late) => return fault(1, format!("line {}: refused 2: a 17th pattern begins here", late[0].line)),
         None if all.is_empty() => return fault(1, "refused 2: no pattern is drawn".into()),
         None => {}
     }
     let parts: Result<Vec<_>, _> = all.iter().enumerate().map(|(n, cells)| pattern(n, cells)).collect();
     match parts {
         Err(why) => fault(1, why),
-        Ok(parts) => ([vec![all.len() as u8], parts.concat()].concat(), 0, String::new()),
+        Ok(parts) => {
+            let counts: Vec<_> = parts.iter().map(|part| part[0].to_string()).collect();
+            let (s, z) = (if parts.len() == 1 { "" } else { "s" }, if counts == ["1"] { "" } else { "s" });
+            let told = format!("book: {} pattern{s} of {} pixel{z}\n", parts.len(), counts.join(", "));
+            ([vec![parts.len() as u8], parts.concat()].concat(), 0, told)
+        }
     }
 }
 
@@ -157,7 +165,7 @@ fn random_drawing(random: &mut Random) -> Vec<u8> {
                 text.extend(random.one_of(&["// a remark\n", "  // #O#\n", "\t//\n", "//\r\n"]).bytes());
             }
         }
-        text.extend(random.one_of(&["\n", "\n\n", "   \n", "\t\r\n"]).bytes());
+        text.extend(random.one_of(&["\n", "\n\n", "\r\n", "\n\r\r\n", "\n", "\n", "\n", "\n", "  \n"]).bytes());
     }
     text
 }
@@ -182,7 +190,12 @@ fn edges() -> Tally {
     let row = |n: usize| "#".repeat(n);
     let mut texts: Vec<Vec<u8>> = vec![
         b"".to_vec(),
-        b"\n \n// only a remark\n".to_vec(),
+        b"\n\r\n// only a remark\n".to_vec(),
+        b"#.#\n   \n#.#\n".to_vec(),
+        b"#\n\t\n#".to_vec(),
+        b"#\n \r\n#".to_vec(),
+        b"#\r\n\r\n#\r\n\r\n".to_vec(),
+        b"#\n ".to_vec(),
         b"#".to_vec(),
         b"\xef\xbb\xbf#\n".to_vec(),
         b"#\xef\xbb\xbf\n".to_vec(),

@@ -240,6 +240,7 @@ fn texts(t: &mut Tally) {
     let pair = Book::new(&[[(0, 0), (1, 0)]]).unwrap();
     let picture = Picture { plan: pair.find(1024).unwrap(), width: 7, height: 4 };
     says(bankplan::read_book(&[1, 1, 16, 0]).map(|_| ()), "refused 3: coordinate not -16..15, place 2");
+    says(Book::new(&[[(0, 0), (0, 0)]]).map(|_| ()), "refused 4: pixel already in this pattern");
     says(pair.find(1).map(|_| ()), "refused 7: no suiting plan within limit");
     says(pair.check((1, 0), (0, 1)).map(|_| ()), "refused 10: plan doesn't suit, pattern 0, positions 0 and 1");
     says(picture.store(&mut [], (0, 0), 1), "refused 13: memory shorter than N × depth");
