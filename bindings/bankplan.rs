@@ -245,7 +245,7 @@ impl Refused {
     /// The condition that turned the call down.
     pub fn condition(&self) -> &'static str {
         let known = (self.number as usize).checked_sub(1).and_then(|k| CONDITIONS.get(k));
-        let other = if self.number == NOT_CALLS { "not a list of calls" } else { "no number of document 01" };
+        let other = if self.number == NOT_CALLS { "not a list of calls" } else { "no such number" };
         known.copied().unwrap_or(other)
     }
 }

@@ -16,11 +16,12 @@ function named(c) {
 }
 # What helps where character k of the line is no part of a drawing.
 function hint(c, k) {
-    if (index($0, "//")) return "a remark has a line of its own"
+    if (index($0, "//") || (c ~ /[ \t\/;-]/ && /[A-NP-Za-np-z]/)) return "a remark has a line of its own, which begins with //"
     if (c ~ /[ \t]/) return (k == 1 ? "take away what stands in front, or " : "") "draw . where there is no pixel"
+    if (c == "\r") return "save the file with the usual line ends"
     if (NR == 1 && k == 1 && number[c] <= 16) return "is this the bytes of a book? Then use bash run --bytes"
-    if (c !~ /[!-~]/) return "a drawing is plain text"
-    return "# is a pixel, . is none, and O or o is (0, 0)"
+    if (c !~ /[!-~]/) return "a drawing is plain text: type one of # . O o here"
+    return "# is a pixel, . is none, O is a pixel at (0, 0), and o is (0, 0) without a pixel"
 }
 
 # the first reason why the patterns are no book, in the order of the book's bytes
@@ -30,7 +31,10 @@ function refuse(where, why, more) { if (refused == "") refused = where ": " why 
 function draw(  rest, gone) {
     if (match($0, /[^#.Oo]/))
         stop(at(NR, RSTART), named(substr($0, RSTART, 1)) " is no part of a drawing; " hint(substr($0, RSTART, 1), RSTART))
+    if (remark) stop("line " remark, "a remark inside a drawing; leave an empty line before the next pattern, or take it out")
     if (rows == 0) first = NR
+    if (rows > 0 && length($0) != wide && ragged == "") ragged = patterns
+    wide = length($0)
     if (match($0, /[Oo]/)) {
         gone = RSTART
         if (mark == "") { mark = at(NR, gone); left = gone; top = rows }
@@ -50,19 +54,24 @@ function draw(  rest, gone) {
 function far(z) { return z < -16 || z > 15 }
 function byte(z) { return sprintf("\\0%03o", (z + 256) % 256) }
 
-# What helps where a pixel is too far from (0, 0).
-function advice(  k, least, most, low) {
+# What helps where a pixel is too far from (0, 0): where the O or o can be.
+function span(least, most,  from, to) {
+    from = most - 15 > least ? most - 15 : least
+    to = least + 16 < most ? least + 16 : most
+    return from == to ? to : from " to " to
+}
+function advice(  k, least, most, high) {
     least = most = column[1]
     for (k = 2; k <= used; k++) {
         if (column[k] < least) least = column[k]
         if (column[k] > most) most = column[k]
     }
-    low = row[used] - row[1]
-    if (most - least > 31 || low > 31)
-        return "a pattern is at most 32 wide and 32 high; this one is " most - least + 1 " wide and " low + 1 " high"
-    if (mark != "") return "(0, 0) is at " mark " in this pattern: draw the O or o nearer to the middle"
-    return "without an O or o the upper left corner is (0, 0): a drawing wider or higher than 16 needs an O (a pixel) or an o " \
-        "(none) near its middle"
+    high = row[used] - row[1] + 1
+    if (most - least > 31 || high > 32)
+        return "a pattern is at most 32 wide and 32 high; this one is " most - least + 1 " wide and " high " high"
+    return (mark == "" ? "without an O or o the upper left corner is (0, 0)" : "(0, 0) is at " mark " in this pattern") \
+        "; a drawing wider or higher than 16 needs an O (a pixel) or an o (none) near its middle: in column " \
+        span(least, most) " of line " span(line[1], line[used])
 }
 
 # The pattern that ends here, as bytes.
@@ -93,17 +102,17 @@ function finish() {
     patterns++
     clean()
 }
-function clean() { rows = used = top = 0; left = 1; mark = "" }
+function clean() { rows = used = top = remark = 0; left = 1; mark = "" }
 
 BEGIN {
     for (k = 1; k < 256; k++) number[sprintf("%c", k)] = k
     patterns = 0
-    refused = many = ""
+    refused = many = ragged = ""
     clean()
 }
 NR == 1 { sub(/^\357\273\277/, "") }
 length($0) > ENVIRON["WIDEST"] + 0 { stop("line " NR, "more than " ENVIRON["WIDEST"] " characters") }
-/^[ \t]*\/\// { next }
+/^[ \t]*\/\// { if (rows) remark = NR; next }
 { sub(/\r+$/, "") }
 $0 == "" { finish(); next }
 /^[ \t\r]+$/ { stop("line " NR, "nothing but spaces; leave the line empty to end a pattern, or draw . where there is no pixel") }
@@ -116,5 +125,6 @@ END {
     if (refused != "") { print "book: " ENVIRON["DRAWING"] ": " refused > "/dev/stderr"; exit 1 }
     counts = patterns (patterns == 1 ? " pattern of " : " patterns of ") counts (pixels == 1 ? " pixel" : " pixels")
     print "book: " counts > "/dev/stderr"
+    if (ragged != "") print "book: the lines of pattern " ragged " differ in length; a short line has no pixel at its end" > "/dev/stderr"
     printf "%s", byte(patterns) book
 }

@@ -3,8 +3,8 @@
  *
  *   cc -o target/supplier examples/supplier.c target/staticlib/libcapi.a && target/supplier 10 0 2 1 < examples/cross.book
  *
- * The arguments are the vectors (x1, x2) and (y1, y2). The book's bytes come from standard input. The status is 0 where the
- * vectors suit, 1 where something is refused, 2 where the arguments are wrong or the input or output fails.
+ * The arguments are the vectors (x1, x2) and (y1, y2), each a column and a row. The book's bytes come from standard input. The
+ * status is 0 where the vectors suit, 1 where something is refused, 2 where the arguments are wrong or the input or output fails.
  */
 #include <stdio.h>
 #include <stdlib.h>
@@ -37,13 +37,17 @@ static int refused(const char *what, uint64_t number, const uint64_t *answer) {
 static int judge(const uint8_t *bytes, size_t length, const int16_t v[4]) {
     static size_t used[BANKPLAN_MAX_PATTERNS];
     uint64_t answer[BANKPLAN_ANSWER_NUMBERS], number;
-    if ((number = bankplan_read_book(bytes, length, columns, rows, used, answer)) != 0)
+    if ((number = bankplan_read_book(bytes, length, columns, rows, used, answer)) != 0) {
+        if (length > 0 && bytes[0] > BANKPLAN_MAX_PATTERNS)
+            fprintf(stderr, "supplier: is this a drawing? bash examples/book makes the bytes of its book\n");
         return refused("book", number, answer);
+    }
     size_t count = (size_t)answer[0];
     if ((number = bankplan_find(columns, rows, used, count, BANKPLAN_MAX_BANKS, answer)) != 0)
         return refused("least", number, answer);
     int a = (int)answer[0], b = (int)answer[1], d = (int)answer[2];
     printf("least: %d banks, plan %d %d %d\n", a * d, a, b, d);
+    printf("vectors (%d, %d) and (%d, %d)\n", v[0], v[1], v[2], v[3]);
     if ((number = bankplan_check(columns, rows, used, count, v[0], v[1], v[2], v[3], answer)) != 0)
         return refused("yours", number, answer);
     a = (int)answer[0], b = (int)answer[1], d = (int)answer[2];
@@ -55,7 +59,8 @@ int main(int count, char **words) {
     int16_t v[4];
     for (int k = 0; k < 4; k++)
         if (count != 5 || !is_number(words[k + 1], &v[k]))
-            return fprintf(stderr, "usage: supplier x1 x2 y1 y2 < FILE.book, with numbers from -32768 to 32767\n"), 2;
+            return fprintf(stderr, "usage: supplier x1 x2 y1 y2 < FILE.book: vectors (x1, x2) and (y1, y2) of whole "
+                           "numbers from -32768 to 32767\n"), 2;
     size_t length = fread(bytes, 1, sizeof bytes, stdin);
     int status = ferror(stdin) ? 2 : judge(bytes, length, v);
     return ferror(stdin) || fflush(stdout) != 0 ? perror("supplier"), 2 : status;

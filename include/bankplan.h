@@ -1,5 +1,6 @@
 /*
- * Bank plans for image buffers: the functions of the static library `capi`. For C99 and later, and for C++.
+ * Bank plans for image buffers: this header declares the functions of the static library `capi`, for C99 and later and for C++.
+ * Document 01 is the project's scope paper; docs/GUIDE.md says in plain words what patterns, books and plans are.
  *
  * What a call answers. Every function returns a number; bankplan_refusal_text gives the text of each:
  *   0                  the call was not refused
@@ -9,13 +10,14 @@
  * were. The row is:
  *   not refused        the values that stand behind "tells" below, from answer[0] on
  *   refused            answer[0]: the place
- *   refused by 10      answer[0]: the place; answer[1], answer[2], answer[3]: the clash, that is the pattern's number, the
- *                      earlier and the later position, counted from 0
- * The place is a byte offset for 1 to 5 where the call was given a book's bytes, a place in the list for 255, and 0 elsewhere. A
- * refused call leaves all that it was lent as it was, but for the answer's row.
+ *   refused by 10      answer[0]: the place; answer[1], answer[2], answer[3]: the clash, that is the pattern's number and the
+ *                      numbers of two pixels in it, the earlier and the later, all counted from 0
+ * The place is a byte offset for 1 to 5 where the call was given a book's bytes, for 255 the index of a number in the list, and 0
+ * elsewhere. What a caller hands over for the time of a call is lent. A refused call leaves all that it was lent as it was, but
+ * for the answer's row.
  *
  * What a call tests. A call takes every value of its parameters' types, and tests them all itself. No call relies on one made
- * before. "Refused by" below has the numbers in the order of the tests; the first that holds is the one that is returned. "In
+ * before. "Refused by" below has the numbers in the order of the tests; that of the first fault found is returned. "In
  * book order" is the pattern count first, then for each pattern its pixel count, then for each of its pixels the column, the
  * row, and whether it stood there before.
  *
@@ -31,11 +33,11 @@
  *
  * A record list is list_length records of 12 bytes: column, row, bank and address at the offsets 0, 2, 4 and 8.
  *
- * What is lent. A pointer with a length is that many elements, an array parameter as many as stand in its brackets. No pointer
- * may be null and each must be aligned for its type, also where the length is 0: an empty stretch still needs such a pointer,
- * which is not followed. What a call writes, the answer too, must not overlap anything else that is lent to it. A pointer to
- * const is only read. The library keeps no pointer, allocates nothing and has no state of its own: calls may run at the same
- * time where none writes what another is lent.
+ * What is lent. A pointer with a length points to that many elements, an array parameter to as many as stand in its brackets.
+ * No pointer may be null and each must be aligned for its type, also where the length is 0: an empty stretch still needs such
+ * a pointer, which is not followed. What a call writes, the answer too, must not overlap anything else that is lent to it. A
+ * pointer to const is only read. The library keeps no pointer, allocates nothing and has no state of its own: calls may run
+ * at the same time where none writes what another is lent.
  *
  * Where it runs. The library is built for Linux on x86-64; pointers and size_t have 64 bits. Beside what it is lent, a call
  * uses only the stack of the thread that makes it. docs/GUIDE.md says how many bytes.
@@ -103,7 +105,7 @@ static inline const char *bankplan_refusal_text(uint64_t number) {
     case BANKPLAN_NOT_REFUSED: return "not refused";
     BANKPLAN_REFUSALS(BANKPLAN_CASE)
     case 255: return "not a list of calls"; /* BANKPLAN_NOT_CALLS */
-    default: return "no number of document 01";
+    default: return "no such number";
     }
 #undef BANKPLAN_CASE
 }
@@ -139,7 +141,8 @@ uint64_t bankplan_find(const int8_t columns[1024], const int8_t rows[1024], cons
 uint64_t bankplan_check(const int8_t columns[1024], const int8_t rows[1024], const size_t used[16], size_t count,
                         int16_t x1, int16_t x2, int16_t y1, int16_t y2, uint64_t answer[12]);
 
-/* Gives the normal form of the vectors (x1, x2) and (y1, y2). Refused by 8, 9. Tells a, b, d. */
+/* Gives the normal form of the vectors (x1, x2) and (y1, y2): the one plan under which the same pixels share a bank. Refused by
+   8, 9. Tells a, b, d. */
 uint64_t bankplan_normal_form(int16_t x1, int16_t x2, int16_t y1, int16_t y2, uint64_t answer[12]);
 
 /* ---- banks and addresses */
@@ -195,7 +198,7 @@ uint64_t bankplan_ring_fetch(const int8_t columns[1024], const int8_t rows[1024]
 /* ---- lists of calls */
 
 /*
- * One function carries out a list of stores, clears, loads and fetches, each call on the memory as the one before left it. The
+ * Two functions carry out a list of stores, clears, loads and fetches, each call on the memory as the one before left it. The
  * list is numbers, five to a call:
  *
  *   number       store    clear         load     fetch
@@ -219,7 +222,7 @@ uint64_t bankplan_ring_fetch(const int8_t columns[1024], const int8_t rows[1024]
  *   load, not refused              0, the word, then 0
  *   fetch, not refused             0, the count of words, then 0
  *   refused                        the refusal's number, its place (0), then 0
- *   refused by 10                  10, 0, the pattern's number, the earlier and the later position, then 0
+ *   refused by 10                  10, 0, the pattern's number, the numbers of the earlier and the later pixel, then 0
  *
  * A refused call is no fault of the list: the calls behind it are carried out. What stands in replies behind the last reply
  * stays.
@@ -243,7 +246,7 @@ enum bankplan_list {
 
 /* Carries out a list of calls under one plan, with one book and one picture. Tells nothing. It returns
      0      The list was carried out, whatever its replies are.
-     255    Five numbers are no call's, or fewer than five are left at the end. answer[0] is the place of the first of them.
+     255    Five numbers are no call's, or fewer than five are left at the end. answer[0] is the index of the first.
      16     outs has not the room of all fetches, or replies has not twelve numbers to a call. The place is 0.
    The list is tested from its start on, the five numbers of a call before its room; then what is left at the end, then the
    replies' length.

@@ -37,7 +37,7 @@ fn name(byte: u8) -> String {
 // The patterns, cell by cell, or why the lines are no drawing.
 fn patterns(text: &[u8]) -> Result<Vec<Vec<Cell>>, String> {
     let text = text.strip_prefix(b"\xef\xbb\xbf").unwrap_or(text);
-    let (mut all, mut now, mut row) = (Vec::new(), Vec::<Cell>::new(), 0);
+    let (mut all, mut now, mut row, mut remark) = (Vec::new(), Vec::<Cell>::new(), 0, 0);
     for (k, line) in text.split(|&b| b == b'\n').enumerate() {
         let blank = |b: &u8| b" \t\r".contains(b);
         if line.len() > 4096 {
@@ -45,6 +45,7 @@ fn patterns(text: &[u8]) -> Result<Vec<Vec<Cell>>, String> {
         }
         let inner = line.iter().position(|b| !b" \t".contains(b)).map_or(&line[..0], |from| &line[from..]);
         if inner.starts_with(b"//") {
+            remark = k + 1;
             continue;
         }
         let end = line.iter().rposition(|b| !blank(b)).map_or(0, |last| last + 1);
@@ -55,6 +56,9 @@ fn patterns(text: &[u8]) -> Result<Vec<Vec<Cell>>, String> {
             (0..end).map(|c| Cell { line: k + 1, column: c as i64 + 1, row, byte: line[c] }).collect();
         if let Some(c) = cells.iter().find(|c| !b"#.Oo".contains(&c.byte)) {
             return Err(format!("{}: {} is no part of a drawing; ", c.place(), name(c.byte)));
+        }
+        if now.last().is_some_and(|c| c.line < remark) && end > 0 {
+            return Err(format!("line {remark}: a remark inside a drawing"));
         }
         now.extend(&cells);
         let marks: Vec<_> = now.iter().filter(|c| b"Oo".contains(&c.byte)).collect();
@@ -94,6 +98,11 @@ fn pattern(n: usize, cells: &[Cell]) -> Result<Vec<u8>, String> {
     Ok(bytes)
 }
 
+fn is_ragged(cells: &[Cell]) -> bool {
+    let lengths = |row| cells.iter().filter(|c| c.row == row).count();
+    (1..=cells[cells.len() - 1].row).any(|row| lengths(row) != lengths(0))
+}
+
 // What the script should write, its status, and how its message begins.
 fn wanted(text: &[u8]) -> (Vec<u8>, i32, String) {
     let fault = |status, why| (Vec::new(), status, format!("book: standard input: {why}"));
@@ -112,7 +121,10 @@ fn wanted(text: &[u8]) -> (Vec<u8>, i32, String) {
         Ok(parts) => {
             let counts: Vec<_> = parts.iter().map(|part| part[0].to_string()).collect();
             let (s, z) = (if parts.len() == 1 { "" } else { "s" }, if counts == ["1"] { "" } else { "s" });
-            let told = format!("book: {} pattern{s} of {} pixel{z}\n", parts.len(), counts.join(", "));
+            let mut told = format!("book: {} pattern{s} of {} pixel{z}\n", parts.len(), counts.join(", "));
+            if let Some(n) = all.iter().position(|cells| is_ragged(cells)) {
+                told += &format!("book: the lines of pattern {n} differ in length; a short line has no pixel at its end\n");
+            }
             ([vec![parts.len() as u8], parts.concat()].concat(), 0, told)
         }
     }
@@ -161,9 +173,12 @@ fn random_drawing(random: &mut Random) -> Vec<u8> {
                 });
             }
             text.extend(end);
-            if random.from_to(0, 9) == 0 {
+            if random.from_to(0, 99) == 0 {
                 text.extend(random.one_of(&["// a remark\n", "  // #O#\n", "\t//\n", "//\r\n"]).bytes());
             }
+        }
+        if random.from_to(0, 3) == 0 {
+            text.extend(random.one_of(&["// a remark\n", "  // #O#\n", "\t//\n", "//\r\n"]).bytes());
         }
         text.extend(random.one_of(&["\n", "\n\n", "\r\n", "\n\r\r\n", "\n", "\n", "\n", "\n", "  \n"]).bytes());
     }
@@ -192,6 +207,11 @@ fn edges() -> Tally {
         b"".to_vec(),
         b"\n\r\n// only a remark\n".to_vec(),
         b"#.#\n   \n#.#\n".to_vec(),
+        b"###\n// second\n#.#\n".to_vec(),
+        b"###\n// one\n// two\n#x\n".to_vec(),
+        b"###\n// end\n\n// begin\n#.#\n// end".to_vec(),
+        b"#\n##\n\n##\n#\n".to_vec(),
+        b"##\n##\n\n###\n##\n".to_vec(),
         b"#\n\t\n#".to_vec(),
         b"#\n \r\n#".to_vec(),
         b"#\r\n\r\n#\r\n\r\n".to_vec(),
@@ -238,6 +258,48 @@ fn edges() -> Tally {
     t
 }
 
+// The four corners of a block, with (0, 0) at a mark: (1, 1) without one.
+fn corners(width: usize, height: usize, mark: (usize, usize), has_mark: bool) -> Vec<u8> {
+    let mut rows = vec![vec![b'.'; width + 1]; height];
+    for (i, j) in [(0, 0), (width - 1, 0), (0, height - 1), (width - 1, height - 1)] {
+        rows[j][i] = b'#';
+    }
+    if has_mark {
+        let cell = &mut rows[mark.1 - 1][mark.0 - 1];
+        *cell = if *cell == b'#' { b'O' } else { b'o' };
+    }
+    rows.join(&b'\n')
+}
+
+// Where a drawing is refused by 3, an O or o at each end of the columns and lines that the message names makes it legal, and one
+// just outside does not.
+fn advice() -> Tally {
+    let mut t = Tally::new("drawings, where (0, 0) has to be");
+    for (width, height, has_mark) in [(17, 1, false), (20, 3, true), (32, 32, true), (3, 18, false), (32, 2, false), (31, 17, true)]
+    {
+        let message = got(&corners(width, height, (1, 1), has_mark)).2;
+        let Some((_, named)) = message.split_once("near its middle: in column ") else {
+            t.same(|| message.clone(), "no advice", "advice");
+            continue;
+        };
+        let ends = |part: &str| {
+            let all: Vec<usize> = part.split(" to ").map(|n| n.trim().parse().unwrap_or(0)).collect();
+            (all[0], all[all.len() - 1])
+        };
+        let (columns, lines) = named.split_once(" of line ").unwrap_or_default();
+        let ((left, right), (top, bottom)) = (ends(columns), ends(lines));
+        for (column, line) in [(left, top), (left, bottom), (right, top), (right, bottom)] {
+            t.same(|| format!("{width} {height} {column} {line}"), got(&corners(width, height, (column, line), true)).1, 0);
+        }
+        for (column, line) in [(left - 1, top), (right + 1, top), (left, top - 1), (left, bottom + 1)] {
+            if (1..=width).contains(&column) && (1..=height).contains(&line) {
+                t.same(|| format!("{width} {height} {column} {line}"), got(&corners(width, height, (column, line), true)).1, 1);
+            }
+        }
+    }
+    t
+}
+
 pub fn run() -> Vec<Tally> {
-    vec![edges(), random_drawings()]
+    vec![edges(), random_drawings(), advice()]
 }

@@ -246,7 +246,7 @@ fn texts(t: &mut Tally) {
     says(picture.store(&mut [], (0, 0), 1), "refused 13: memory shorter than N × depth");
     says(picture.fetch(&pair, &[0; 32], 0, (0, 0), &mut []).map(|_| ()), "refused 16: output too short");
     for number in [0, 19, u64::MAX] {
-        t.same(|| number.to_string(), Refused { number, place: 0, clash: None }.condition(), "no number of document 01");
+        t.same(|| number.to_string(), Refused { number, place: 0, clash: None }.condition(), "no such number");
     }
 }
 
