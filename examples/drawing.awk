@@ -125,6 +125,7 @@ END {
     if (refused != "") { print "book: " ENVIRON["DRAWING"] ": " refused > "/dev/stderr"; exit 1 }
     counts = patterns (patterns == 1 ? " pattern of " : " patterns of ") counts (pixels == 1 ? " pixel" : " pixels")
     print "book: " counts > "/dev/stderr"
-    if (ragged != "") print "book: the lines of pattern " ragged " differ in length; a short line has no pixel at its end" > "/dev/stderr"
+    if (ragged != "")
+        print "book: the lines of pattern " ragged " differ in length; a short line has no pixel at its end" > "/dev/stderr"
     printf "%s", byte(patterns) book
 }
