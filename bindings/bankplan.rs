@@ -32,7 +32,7 @@ pub const ANSWER_NUMBERS: usize = 12;
 // have 16-bit coordinates.
 const _: () = assert!(ENTRIES == MAX_PATTERNS * MAX_PIXELS && MAX_BOOK_BYTES == 1 + MAX_PATTERNS * (1 + 2 * MAX_PIXELS));
 const _: () = assert!(MAX_BANKS == (GREATEST_COORDINATE as i32 - LEAST_COORDINATE as i32 + 1).pow(2) as u32);
-const _: () = assert!(MAX_SIDE <= i16::MAX as u32 && !VERSION.is_empty());
+const _: () = assert!(MAX_SIDE <= i16::MAX as u32);
 
 // A count, a place or a length passes as 64 bits, a pixel record as 12 bytes.
 const _: () = assert!(usize::BITS == 64 && size_of::<PixelRecord>() == 12);

@@ -245,6 +245,9 @@ fn texts(t: &mut Tally) {
     says(pair.check((1, 0), (0, 1)).map(|_| ()), "refused 10: plan doesn't suit, pattern 0, positions 0 and 1");
     says(picture.store(&mut [], (0, 0), 1), "refused 13: memory shorter than N × depth");
     says(picture.fetch(&pair, &[0; 32], 0, (0, 0), &mut []).map(|_| ()), "refused 16: output too short");
+    says(Err(Refused { number: bankplan::NOT_CALLS, place: 5, clash: None }), "refused 255: not a list of calls, place 5");
+    let version: Vec<_> = bankplan::VERSION.split('.').map(|n| n.parse::<u32>().is_ok()).collect();
+    t.same(|| "the version is three numbers".into(), version, vec![true; 3]);
     for number in [0, 19, u64::MAX] {
         t.same(|| number.to_string(), Refused { number, place: 0, clash: None }.condition(), "no such number");
     }
