@@ -1,20 +1,20 @@
 -- What the search among the plans with n banks gives: of those of which the test holds the one that comes before all others, if
--- there is one. This and what the code's two loops over d and b go by is all that depends on the order among equal N.
+-- there is one. This and Narrowing.antt, by which the code's loops over d and b go, is all that depends on the order among equal N.
 -- Assumes nothing.
 use Prim.Native.Nat.{ℕ, _*_, _/_, _%_, _≤_, _<_}
-use native.Mathlib.Nat.{mul-mod-left, mul-div-cancel, div-add-mod', mul-le-mul-right, eq-of-mul-eq-mul-right}
+use native.Mathlib.Nat.{mul-mod-left, mul-div-cancel, div-add-mod', mul-le-mul-left, mul-le-mul-right}
 use native.Mathlib.Omega.{arith}
 use native.Mathlib.Decide.{decLt}
-use mathlib.Core.Path.{_≡_, refl, sym, _∙_, ap, subst}
-use mathlib.Core.Bool.{Bool, true, false}
+use mathlib.Core.Path.{_≡_, refl, sym, _∙_, subst}
+use mathlib.Core.Bool.{Bool, true, false, _&&_}
 use mathlib.Core.Option.{none, some}
-use lib.Dec.{eqb}
-use borrow.Author.Tests.{eqb-true, eq-eqb}
-use Rattle.scope.specs.Search.{first}
+use lib.Dec.{ltb, eqb}
+use Rattle.integers.proofs.Comparisons.{eqb-iff, eqb-false-iff, ltb-iff, ltb-false-iff, and-iff}
+use Rattle.scope.specs.Search.{whenever}
 use Rattle.scope.specs.Plans.{plan, banks}
-use Rattle.scope.specs.Finding.{Before, trial, leastB, firstWith}
+use Rattle.scope.specs.Finding.{Before, trial, leastD, firstWith}
 use Rattle.scope.specs.declared.Plan.{Plan}
-use Rattle.checks.proofs.Searches.{Found, first-found, first-none, whenever-none, whenever-some, true-not-false, none-not-some}
+use Rattle.checks.proofs.Searches.{Found, first-found, first-none, whenever-none, whenever-some, true-not-false}
 use Rattle.finder.proofs.SuitingPlans.{made, Suiting}
 
 -- p is the search's own plan, suits and has n banks, and comes before every other such plan
@@ -25,80 +25,70 @@ pub record FirstWith (test : Plan → Bool) (n : ℕ) (p : Plan) : Type 0 where
   pub before : (q : Plan) → Suiting test q → banks q ≡ n → Before p q
 
 module _ (test : Plan → Bool) where
-  -- one plan on trial
-  trial-some : (a d b : ℕ) (p : Plan) → trial test a d b ≡ some p → (test (plan a b d) ≡ true) × (plan a b d ≡ p)
+  -- For a × d banks and a b below a the trial is that of a, b, d.
+  pub trial-is : (a b d : ℕ) → 1 ≤ d → b < a → trial test (a * d) b d ≡ whenever (test (plan a b d)) (plan a b d)
   unfolding trial
-  trial-some a d b p e = whenever-some (test (plan a b d)) (plan a b d) p e
+  trial-is a b d d-least b-below =
+      rw (trial, mul-div-cancel a d-least, eqb-iff ((a * d) % d) 0 .1 (mul-mod-left a d), ltb-iff b a .1 b-below) refl
 
-  trial-none : (q : Plan) → trial test (q .a) (q .d) (q .b) ≡ none → Suiting test q → ⊥
+  -- With a b from a on, and with a d that does not divide n, it fails.
+  pub trial-outside : (a b d : ℕ) → 1 ≤ d → a ≤ b → trial test (a * d) b d ≡ none
   unfolding trial
-  trial-none q e s = true-not-false (sym (s .holds) ∙ whenever-none (test (made q)) (made q) e)
+  trial-outside a b d d-least above =
+      rw (trial, mul-div-cancel a d-least, eqb-iff ((a * d) % d) 0 .1 (mul-mod-left a d), ltb-false-iff b a .1 above) refl
 
-  -- the same, where a and d come with the count
-  trial-of-count :
-      (a d : ℕ) (q : Plan) → 1 ≤ d → Suiting test q → banks q ≡ a * d → q .d ≡ d → trial test a d (q .b) ≡ none → ⊥
+  pub trial-undivided : (n b d : ℕ) → (n % d ≡ 0 → ⊥) → trial test n b d ≡ none
+  unfolding trial
+  trial-undivided n b d h = rw (trial, eqb-false-iff (n % d) 0 .1 h) refl
+
+  -- A suiting plan passes it.
+  pub trial-none : (n : ℕ) (q : Plan) → Suiting test q → banks q ≡ n → trial test n (q .b) (q .d) ≡ none → ⊥
   unfolding banks
-  trial-of-count a d q h s m l e =
-      let k : q .a ≡ a = eq-of-mul-eq-mul-right d h (q .a) a (ap (λ (x : ℕ). q .a * x) (sym l) ∙ m) in
-      trial-none q (rw (k, l) e) s
+  trial-none n q s m e =
+      let none-made : whenever (test (made q)) (made q) ≡ none =
+      sym (trial-is (q .a) (q .b) (q .d) (s .d-least) (s .b-below)) ∙ (rw (m) e) in
+      true-not-false (sym (s .holds) ∙ whenever-none (test (made q)) (made q) none-made)
 
-  -- for a × d banks the search over b is that over the numbers below a
-  leastB-is : (a d : ℕ) → 1 ≤ d → leastB test (a * d) d ≡ first 0 a (trial test a d)
-  unfolding leastB
-  leastB-is a d h =
-      let e : eqb ((a * d) % d) 0 ≡ true = eq-eqb ((a * d) % d) 0 (mul-mod-left a d) in
-      rw (e, leastB) (ap (λ (c : ℕ). first 0 c (trial test c d)) (mul-div-cancel a h))
+  -- A plan that passes the trial is the search's own and suits, with n banks and these b and d.
+  pub record Tried (n b d : ℕ) (p : Plan) : Type 0 where
+    pub is-made : made p ≡ p
+    pub itself : Suiting test p
+    pub count : banks p ≡ n
+    pub b-is : p .b ≡ b
+    pub d-is : p .d ≡ d
 
-  -- and for a count that d does not divide it finds nothing
-  leastB-divides : (n d : ℕ) (p : Plan) → leastB test n d ≡ some p → n ≡ n / d * d
-  unfolding leastB
-  leastB-divides n d p e = by-test (eqb (n % d) 0) refl
-    where
-      by-test : (b : Bool) → eqb (n % d) 0 ≡ b → n ≡ n / d * d
-      by-test true h = omega (arith, eqb-true (n % d) 0 h, div-add-mod' n d)
-      by-test false h = absurd (none-not-some (rw (h, leastB) at e))
-
-  -- p is the search's own plan with n banks and this d, and none of these has a smaller b
-  record LeastWithD (n d : ℕ) (p : Plan) : Type 0 where
-    is-made : made p ≡ p
-    count : banks p ≡ n
-    d-is : p .d ≡ d
-    itself : Suiting test p
-    least-b : (q : Plan) → Suiting test q → banks q ≡ n → q .d ≡ d → p .b ≤ q .b
-
-  found-with-d : (a d : ℕ) (p : Plan) → 1 ≤ d → Found 0 a (trial test a d) p → LeastWithD (a * d) d p
-  unfolding plan banks
-  found-with-d a d p h t =
-      let w = trial-some a d (t .where-is) p (t .here) in
-      subst (LeastWithD (a * d) d) (w .1)
+  pub trial-some : (n b d : ℕ) (p : Plan) → 1 ≤ d → trial test n b d ≡ some p → Tried n b d p
+  unfolding trial plan banks
+  trial-some n b d p d-least e =
+      let w = whenever-some (eqb (n % d) 0 && ltb b (n / d) && test (plan (n / d) b d)) (plan (n / d) b d) p e in
+      let passed = and-iff _ _ (and-iff _ _ (eqb-iff (n % d) 0) (ltb-iff b (n / d))) (λ h. h, λ h. h) .0 (w .0) in
+      subst (Tried n b d) (w .1)
       (record {
         is-made = refl;
-        count = refl;
+        itself = record { a-least = omega (arith, passed .0 .1); d-least = d-least; b-below = passed .0 .1; holds = passed .1 };
+        count = omega (arith, passed .0 .0, div-add-mod' n d);
+        b-is = refl;
         d-is = refl;
-        itself = record { a-least = omega (arith, t .below); d-least = h; b-below = omega (arith, t .below); holds = w .0 };
-        least-b = λ q s k l. not-before q s k l (decLt (q .b) (t .where-is));
       })
-    where
-      not-before : (q : Plan) → Suiting test q → banks q ≡ a * d → q .d ≡ d → Dec (q .b < t .where-is) → t .where-is ≤ q .b
-      not-before q s k l (yes u) = absurd (trial-of-count a d q h s k l (t .before (q .b) (omega arith) u))
-      not-before q s k l (no u) = omega arith
 
-  leastB-some : (n d : ℕ) (p : Plan) → 1 ≤ d → leastB test n d ≡ some p → LeastWithD n d p
-  leastB-some n d p h e =
-      let m : n ≡ n / d * d = leastB-divides n d p e in
-      let f : first 0 (n / d) (trial test (n / d) d) ≡ some p =
-      sym (leastB-is (n / d) d h) ∙ ap (λ (k : ℕ). leastB test k d) (sym m) ∙ e in
-      rw (← m) at (found-with-d (n / d) d p h (first-found 0 (n / d) (trial test (n / d) d) p f))
-
-  leastB-none : (n d : ℕ) → leastB test n d ≡ none → (q : Plan) → Suiting test q → banks q ≡ n → q .d ≡ d → ⊥
+  -- neither b nor d of a suiting plan is above its count
+  pub d-within : (n : ℕ) (q : Plan) → Suiting test q → banks q ≡ n → q .d ≤ n
   unfolding banks
-  leastB-none n d e q s m l =
-      let f : first 0 (q .a) (trial test (q .a) (q .d)) ≡ none = sym (leastB-is (q .a) (q .d) (s .d-least)) ∙ (rw (m, l) e) in
-      trial-none q (first-none 0 (q .a) (trial test (q .a) (q .d)) f (q .b) (omega arith) (omega (arith, s .b-below))) s
+  d-within n q s m = omega (arith, m, mul-le-mul-right (q .d) (s .a-least))
+
+  pub b-within : (n : ℕ) (q : Plan) → Suiting test q → banks q ≡ n → q .b < n
+  unfolding banks
+  b-within n q s m = omega (arith, m, s .b-below, mul-le-mul-left (q .a) (s .d-least))
+
+  -- the search over d for one b
+  leastD-none : (n : ℕ) (q : Plan) → Suiting test q → banks q ≡ n → leastD test n (q .b) ≡ none → ⊥
+  unfolding leastD
+  leastD-none n q s m e =
+      trial-none n q s m (first-none 1 n (trial test n (q .b)) e (q .d) (s .d-least) (omega (arith, d-within n q s m)))
 
   -- A plan that the search finds comes first among those with n banks.
   pub first-with-some : (n : ℕ) (p : Plan) → firstWith test n ≡ some p → FirstWith test n p
-  unfolding firstWith
+  unfolding firstWith leastD
   first-with-some n p e =
       record {
         is-made = r .is-made;
@@ -106,24 +96,31 @@ module _ (test : Plan → Bool) where
         count = r .count;
         before = λ q s m.
             record {
-              least-d = not-before q s m (decLt (q .d) (t .where-is));
-              then-b = λ l. r .least-b q s m (sym l ∙ r .d-is);
+              least-b = not-before q s m (decLt (q .b) (t .where-is));
+              then-d = λ same. not-sooner q s m same (decLt (q .d) (u .where-is));
             };
       }
     where
-      t : Found 1 n (leastB test n) p
-      t = first-found 1 n (leastB test n) p e
+      t : Found 0 n (leastD test n) p
+      t = first-found 0 n (leastD test n) p e
 
-      r : LeastWithD n (t .where-is) p
-      r = leastB-some n (t .where-is) p (t .from) (t .here)
+      u : Found 1 n (trial test n (t .where-is)) p
+      u = first-found 1 n (trial test n (t .where-is)) p (t .here)
 
-      not-before : (q : Plan) → Suiting test q → banks q ≡ n → Dec (q .d < t .where-is) → p .d ≤ q .d
-      not-before q s m (yes u) = absurd (leastB-none n (q .d) (t .before (q .d) (s .d-least) u) q s m refl)
-      not-before q s m (no u) = omega (arith, r .d-is)
+      r : Tried n (t .where-is) (u .where-is) p
+      r = trial-some n (t .where-is) (u .where-is) p (u .from) (u .here)
+
+      not-before : (q : Plan) → Suiting test q → banks q ≡ n → Dec (q .b < t .where-is) → p .b ≤ q .b
+      not-before q s m (yes k) = absurd (leastD-none n q s m (t .before (q .b) (omega arith) k))
+      not-before q s m (no k) = omega (arith, r .b-is)
+
+      not-sooner : (q : Plan) → Suiting test q → banks q ≡ n → p .b ≡ q .b → Dec (q .d < u .where-is) → p .d ≤ q .d
+      not-sooner q s m same (yes k) =
+          absurd (trial-none n q s m (rw (sym same ∙ r .b-is) (u .before (q .d) (s .d-least) k)))
+      not-sooner q s m same (no k) = omega (arith, r .d-is)
 
   -- It finds none only where no suiting plan has n banks.
   pub first-with-none : (n : ℕ) → firstWith test n ≡ none → (q : Plan) → Suiting test q → banks q ≡ n → ⊥
-  unfolding firstWith banks
+  unfolding firstWith
   first-with-none n e q s m =
-      let k : 1 * q .d ≤ q .a * q .d = mul-le-mul-right (q .d) (s .a-least) in
-      leastB-none n (q .d) (first-none 1 n (leastB test n) e (q .d) (s .d-least) (omega (arith, m))) q s m refl
+      leastD-none n q s m (first-none 0 n (leastD test n) e (q .b) (omega arith) (omega (arith, b-within n q s m)))

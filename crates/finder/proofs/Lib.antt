@@ -1,6 +1,7 @@
 -- The least plan, the clash and the check.
 pub mod SuitingPlans  -- plans of which a test holds
 pub mod CountSearch  -- what the search among equal counts gives: the order
+pub mod Narrowing  -- the order in which the code looks at them gives the same
 pub mod PlanSearch  -- what the search of plans gives, for any test
 pub mod FindAnswers  -- what the call `find` answers by its search
 pub mod Least  -- the count is least among all pairs of vectors; 7 exactly above the limit

@@ -1,24 +1,29 @@
 -- The finder's searches by a book's table: what a plan on trial gives, and what a search answers at the first plan that it
 -- finds and at its end.
 -- Assumes nothing.
-use Prim.Native.Nat.{ℕ, _+_, _/_, _%_, _≤_, _<_}
+use Prim.Native.Nat.{ℕ, _+_, _*_, _/_, _%_, min, _≤_, _<_}
+use native.Mathlib.Nat.{div-add-mod'}
 use native.Mathlib.Omega.{arith}
-use native.Mathlib.Decide.{ℕ-discrete}
-use mathlib.Core.Path.{_≡_, refl, sym, _∙_, ap, ap₂}
+use native.Mathlib.Decide.{decLt, ℕ-discrete}
+use mathlib.Core.Path.{_≡_, refl, sym, _∙_, ap, ap₂, subst}
 use mathlib.Core.Bool.{Bool, true, false, not, _&&_}
 use mathlib.Core.Option.{Option, none, some}
 use mathlib.Core.List.{List}
-use Rattle.integers.proofs.Comparisons.{eqb-iff, eqb-false-iff}
 use Rattle.scope.specs.Search.{first, whenever}
 use Rattle.scope.specs.Plans.{plan, patterns}
-use Rattle.scope.specs.Finding.{trial, leastB, suitable}
+use Rattle.scope.specs.Finding.{trial, firstWith, suitable}
+use Rattle.scope.specs.Numbers.{recordTest}
 use Rattle.scope.specs.Calls.{found}
+use Rattle.scope.specs.declared.Book.{Book}
 use Rattle.scope.specs.declared.Plan.{Plan}
 use Rattle.scope.specs.declared.Planned.{Planned}
 use Rattle.scope.specs.declared.Refusal.{Refusal}
 use Rattle.scope.proofs.MethodAnswers.{fails, holds}
 use Rattle.checks.proofs.Searches.{found-first, none-first}
-use Rattle.finder.specs.Table.{rowMarked, rowsMarked, SearchedIn}
+use Rattle.finder.specs.Table.{markBook, rowMarked, rowsMarked, SearchedIn}
+use Rattle.finder.specs.Narrowing.{leastBelow, bound, bestUpTo}
+use Rattle.finder.proofs.CountSearch.{trial-is, trial-outside, trial-undivided}
+use Rattle.finder.proofs.Narrowing.{narrowed-some, narrowed-none, best-next, best-is-first}
 use Rattle.finder.proofs.FindAnswers.{plan-found, none-found}
 use Rattle.finder.proofs.Tables.{suits-by-table}
 
@@ -85,23 +90,23 @@ module _ {marks : List ℕ} (f : (Plan → Bool) → ℕ → Option Plan) where
 module _ {marks : List ℕ} {a b d : ℕ} (d-least : 1 ≤ d) (b-below : b < a) where
   trial-by-table :
       {t : Bool} → not (rowMarked marks a 0 (31 + a)) && not (rowsMarked marks a b d) ≡ t
-      → SearchedIn marks (λ test. trial test a d b) (found (whenever t (plan a b d)))
-  unfolding trial
+      → SearchedIn marks (λ test. trial test (a * d) b d) (found (whenever t (plan a b d)))
   trial-by-table test =
       record {
         is = λ book legal same.
             ap (λ (t : Bool). found (whenever t (plan a b d)))
             (sym test
             ∙ ap (λ (m : List ℕ). not (rowMarked m a 0 (31 + a)) && not (rowsMarked m a b d)) same
-            ∙ sym (suits-by-table book legal a b d d-least b-below));
+            ∙ sym (suits-by-table book legal a b d d-least b-below))
+            ∙ ap found (sym (trial-is (suitable (patterns book)) a b d d-least b-below));
       }
 
   -- what the code's tests of the rows tell
-  pub row-marked-none : {r : Bool} → r ≡ rowMarked marks a 0 (31 + a) → r ≡ true → SearchedIn marks (λ test. trial test a d b) noPlan
+  pub row-marked-none : {r : Bool} → r ≡ rowMarked marks a 0 (31 + a) → r ≡ true → SearchedIn marks (λ test. trial test (a * d) b d) noPlan
   unfolding found whenever
   row-marked-none is e = trial-by-table (ap (λ (x : Bool). not x && not (rowsMarked marks a b d)) (sym is ∙ e))
 
-  pub rows-marked-none : {r : Bool} → r ≡ rowsMarked marks a b d → not r ≡ false → SearchedIn marks (λ test. trial test a d b) noPlan
+  pub rows-marked-none : {r : Bool} → r ≡ rowsMarked marks a b d → not r ≡ false → SearchedIn marks (λ test. trial test (a * d) b d) noPlan
   unfolding found whenever
   rows-marked-none is e = trial-by-table (both (rowMarked marks a 0 (31 + a)) (rowsMarked marks a b d) (holds is e))
     where
@@ -111,24 +116,99 @@ module _ {marks : List ℕ} {a b d : ℕ} (d-least : 1 ≤ d) (b-below : b < a) 
 
   pub unmarked-found :
       {r q : Bool} → r ≡ rowMarked marks a 0 (31 + a) → r ≡ false → q ≡ rowsMarked marks a b d → not q ≡ true
-      → SearchedIn marks (λ test. trial test a d b) (Planned.Plan (plan a b d))
+      → SearchedIn marks (λ test. trial test (a * d) b d) (Planned.Plan (plan a b d))
   unfolding found whenever
   unmarked-found row e rows h = trial-by-table (ap₂ (λ (x y : Bool). not x && not y) (sym row ∙ e) (fails rows h))
 
--- For a d that divides n the search over b is made; for any other it finds nothing.
-module _ {marks : List ℕ} (n d : ℕ) where
-  pub divisor-searched :
-      {r : Planned} → n % d ≡ 0 → SearchedIn marks (λ test. first 0 (n / d) (trial test (n / d) d)) r
-      → SearchedIn marks (λ test. leastB test n d) r
-  unfolding leastB first
-  divisor-searched divides s = record { is = λ book legal same. s .is book legal same ∙ ap found (sym (made (suitable (patterns book)))) }
-    where
-      made : (test : Plan → Bool) → leastB test n d ≡ first 0 (n / d) (trial test (n / d) d)
-      made test = rw (leastB, eqb-iff (n % d) 0 .1 divides) refl
+-- No plan with this a has a b from a on: the b's below m and a are all the b's below m.
+pub none-below :
+    {marks : List ℕ} (a d m e : ℕ) → 1 ≤ d → e ≡ min m a → NoneFrom marks (λ test b. trial test (a * d) b d) 0 e
+    → NoneFrom marks (λ test b. trial test (a * d) b d) 0 m
+none-below {marks} a d m e d-least end before = record { each = λ b p q. by-b b q (decLt b a) }
+  where
+    by-b : (b : ℕ) → b < m → Dec (b < a) → SearchedIn marks (λ test. trial test (a * d) b d) noPlan
+    by-b b q (yes k) = before .each b (omega arith) (omega arith)
+    by-b b q (no k) = record { is = λ book legal same. found-none (trial-outside (suitable (patterns book)) a b d d-least (omega arith)) }
 
-  pub no-divisor-none : (n % d ≡ 0 → ⊥) → SearchedIn marks (λ test. leastB test n d) noPlan
-  unfolding leastB
-  no-divisor-none h = record { is = λ book legal same. found-none (made (suitable (patterns book))) }
-    where
-      made : (test : Plan → Bool) → leastB test n d ≡ none
-      made test = rw (leastB, eqb-false-iff (n % d) 0 .1 h) refl
+-- For a d that divides n the search over b is made; for any other it finds nothing.
+module _ {marks : List ℕ} (n d m : ℕ) where
+  pub divisor-searched :
+      {r : Planned} → n % d ≡ 0 → SearchedIn marks (λ test. leastBelow test (n / d * d) d m) r
+      → SearchedIn marks (λ test. leastBelow test n d m) r
+  divisor-searched {r} divides s =
+      let whole : n / d * d ≡ n = omega (arith, divides, div-add-mod' n d) in
+      subst (λ (k : ℕ). SearchedIn marks (λ test. leastBelow test k d m) r) whole s
+
+  pub no-divisor-none : (n % d ≡ 0 → ⊥) → SearchedIn marks (λ test. leastBelow test n d m) noPlan
+  unfolding leastBelow
+  no-divisor-none h =
+      record {
+        is = λ book legal same.
+            found-none (none-first 0 m (λ b. trial (suitable (patterns book)) n b d)
+            (λ b p q. trial-undivided (suitable (patterns book)) n b d h));
+      }
+
+-- The best plan of n banks with d from 1 to e, and the b below which a next one is looked for.
+pub record BestIn (marks : List ℕ) (n e : ℕ) (best : Planned) (below : ℕ) : Type 0 where
+  pub is : SearchedIn marks (λ test. bestUpTo test n e) best
+  pub below-is : (o : Option Plan) → best ≡ found o → below ≡ bound n o
+
+module _ {marks : List ℕ} (n : ℕ) where
+  pub none-best : BestIn marks n 0 noPlan n
+  unfolding bestUpTo bound found
+  none-best =
+      record {
+        is = record { is = λ book legal same. refl };
+        below-is = λ o h. sym (ap (bound n) (none-found o h refl));
+      }
+
+  -- once all d's were looked at, the best one is the definition's
+  pub best-at-end :
+      {e : ℕ} {best : Planned} {below : ℕ} → BestIn marks n e best below → e ≡ n → SearchedIn marks (λ test. firstWith test n) best
+  best-at-end b all =
+      record {
+        is = λ book legal same.
+            let test : Plan → Bool = suitable (patterns book) in
+            b .is .is book legal same ∙ ap (λ (e : ℕ). found (bestUpTo test n e)) all ∙ ap found (best-is-first test n);
+      }
+
+  -- The next d: a plan with a smaller b replaces the best one, else that one stays.
+  module _ (e : ℕ) {best r : Planned} {below : ℕ} (so-far : BestIn marks n e best below)
+      (here : SearchedIn marks (λ test. leastBelow test n (e + 1) below) r) where
+    -- the search was that below the bound
+    below-bound : SearchedIn marks (λ test. leastBelow test n (e + 1) (bound n (bestUpTo test n e))) r
+    below-bound =
+        record {
+          is = λ book legal same.
+              let test : Plan → Bool = suitable (patterns book) in
+              here .is book legal same
+              ∙ ap (λ (m : ℕ). found (leastBelow test n (e + 1) m)) (so-far .below-is (bestUpTo test n e) (so-far .is .is book legal same));
+        }
+
+    pub best-replaced : {p : Plan} → r ≡ Planned.Plan p → BestIn marks n (e + 1) (Planned.Plan p) (p .b)
+    unfolding bound
+    best-replaced {p} is-plan =
+        record {
+          is =
+              record {
+                is = λ book legal same.
+                    let test : Plan → Bool = suitable (patterns book) in
+                    let h = plan-found (leastBelow test n (e + 1) (bound n (bestUpTo test n e))) (below-bound .is book legal same) is-plan in
+                    found-some (best-next test n e ∙ narrowed-some test n (e + 1) (bestUpTo test n e) p h);
+              };
+          below-is = λ o h. sym (ap (bound n) (plan-found o h refl));
+        }
+
+    pub best-stays : {x : Refusal} → r ≡ Planned.Refused x → BestIn marks n (e + 1) best below
+    best-stays refused =
+        record {
+          is =
+              record {
+                is = λ book legal same.
+                    let test : Plan → Bool = suitable (patterns book) in
+                    let h = none-found (leastBelow test n (e + 1) (bound n (bestUpTo test n e))) (below-bound .is book legal same) refused in
+                    so-far .is .is book legal same
+                    ∙ ap found (sym (best-next test n e ∙ narrowed-none test n (e + 1) (bestUpTo test n e) h));
+              };
+          below-is = so-far .below-is;
+        }

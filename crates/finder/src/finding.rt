@@ -11,13 +11,13 @@ use scope::Planned;
 use scope::Refusal;
 ghost use mathlib.Core.Path.{_≡_};
 ghost use mathlib.Core.Option.{none};
-ghost use Prim.Native.Nat.{_+_, _%_, _≤_, _<_};
+ghost use Prim.Native.Nat.{_+_, _*_, _%_, _≤_, _<_};
 ghost use lib.ListN.{length, replicate};
-ghost use Rattle.scope.specs.Search.{first};
 ghost use Rattle.scope.specs.Plans.{at, minus};
-ghost use Rattle.scope.specs.Finding.{trial, firstWith, leastOf};
+ghost use Rattle.scope.specs.Finding.{firstWith, leastOf};
 ghost use Rattle.scope.specs.Numbers.{recordTest};
 ghost use Rattle.scope.specs.Calls.{find, fewest};
+ghost use Rattle.finder.specs.Narrowing.{leastBelow};
 ghost use Rattle.finder.specs.Table.{tableCell, markFrom, markPattern, markBook, rowMarked, rowsMarked, SearchedIn};
 
 // The cell of (i, j) - (x, y): 63 to a row, column -31 first; 2016 where the difference is outside the half window.
@@ -124,17 +124,18 @@ fn rows_marked(marks: &[u8], a: usize, b: usize, d: usize, s: usize) -> bool
     false
 }
 
-// Of the suiting plans with this a and d the one with least b; the table is that of a book.
-fn least_b(marks: &[u8], a: usize, d: usize) -> Planned
+// Of the suiting plans with this a and d and a b below `below` the one with least b; the table is that of a book.
+fn least_b(marks: &[u8], a: usize, d: usize, below: usize) -> Planned
     requires { ⌜ (length (now marks) ≡ 2017) × (1 ≤ a) × (a ≤ 1024) × (1 ≤ d) × (d ≤ 1024) ⌝ }
-    ensures { λ r. ⌜ SearchedIn (now (marks .entry)) (λ test. first 0 a (trial test a d)) r ⌝ }
+    ensures { λ r. ⌜ SearchedIn (now (marks .entry)) (λ test. leastBelow test (a * d) d below) r ⌝ }
 {
     if row_marked(marks, a, 0, 31 + a) {
         return Planned::Refused(Refusal::NoPlan);
     }
+    let end = if below < a { below } else { a };
     let mut s = 31 % a;
     let mut b = 0;
-    while b < a {
+    while b < end {
         if !rows_marked(marks, a, b, d, s) {
             return Planned::Plan(Plan {
                 a: a as u32,
@@ -151,22 +152,26 @@ fn least_b(marks: &[u8], a: usize, d: usize) -> Planned
     Planned::Refused(Refusal::NoPlan)
 }
 
-// Of the suiting plans with n banks the one with least d, then least b.
+// Of the suiting plans with n banks the one with least b, then least d. It goes by d, and a later plan replaces an earlier one only
+// with a smaller b.
 fn first_with(marks: &[u8], n: usize) -> Planned
     requires { ⌜ (length (now marks) ≡ 2017) × (n ≤ 1024) ⌝ }
     ensures { λ r. ⌜ SearchedIn (now (marks .entry)) (λ test. firstWith test n) r ⌝ }
 {
-    let mut d = 1;
-    while d <= n {
+    let mut best = Planned::Refused(Refusal::NoPlan);
+    let mut below = n;
+    let mut d = 0;
+    while d < n {
+        d += 1;
         if n % d == 0 {
-            let p = least_b(marks, n / d, d);
-            if let Planned::Plan(_) = p {
-                return p;
+            let p = least_b(marks, n / d, d, below);
+            if let Planned::Plan(q) = p {
+                best = p;
+                below = q.b as usize;
             }
         }
-        d += 1;
     }
-    Planned::Refused(Refusal::NoPlan)
+    best
 }
 
 // Of the suiting plans with at most `limit` banks the one with the fewest, or 7.

@@ -2,10 +2,10 @@
 -- Assumes nothing.
 use Prim.Native.Nat.{ℕ, suc, _+_, _*_, _-_, _/_, _%_, max, _≤_}
 use mathlib.Core.Path.{_≡_}
-use mathlib.Core.Bool.{Bool, true, false}
+use mathlib.Core.Bool.{Bool, _&&_}
 use mathlib.Core.Option.{Option, none, some}
 use mathlib.Core.List.{List, [], _∷_, map, flatMap, foldr}
-use lib.Dec.{eqb}
+use lib.Dec.{ltb, eqb}
 use lib.IntN.{ℤ, pos, natAbs}
 use lib.ListN.{length, getD}
 use Rattle.scope.specs.Search.{first, whenever}
@@ -13,26 +13,27 @@ use Rattle.scope.specs.Plans.{Pixel, at, minus, differences, plan, banks
 use Rattle.scope.specs.declared.Plan.{Plan}
 use Rattle.scope.specs.declared.Clash.{Clash}
 
--- "among equal N the least d, then the least b": of two plans with equal N p comes before q, or has q's b and d
+-- Card 1: "Among plans of equal least N, take the least b, then the least d." Of two plans with equal N, p comes before q: q's b is
+-- not smaller, and where it is the same, q's d is not smaller
 pub record Before (p q : Plan) : Type 0 where
-  pub least-d : p .d ≤ q .d
-  pub then-b : p .d ≡ q .d → p .b ≤ q .b
+  pub least-b : p .b ≤ q .b
+  pub then-d : p .b ≡ q .b → p .d ≤ q .d
 
 -- The search takes any test of plans.
--- The plan a, b, d, if the test holds of it:
+-- The plan with n banks and these b and d, if there is one and the test holds of it: d divides n, and b is below a = n/d
 unfoldable pub trial : (Plan → Bool) → ℕ → ℕ → ℕ → Option Plan
 unfolding whenever plan
-trial test a d b = whenever (test (plan a b d)) (plan a b d)
+trial test n b d = whenever (eqb (n % d) 0 && ltb b (n / d) && test (plan (n / d) b d)) (plan (n / d) b d)
 
--- of those with n banks and this d, the one with least b
-unfoldable pub leastB : (Plan → Bool) → ℕ → ℕ → Option Plan
+-- of those with n banks and this b, the one with "the least d"
+unfoldable pub leastD : (Plan → Bool) → ℕ → ℕ → Option Plan
 unfolding first trial
-leastB test n d = elim (eqb (n % d) 0) [ true ↦ first 0 (n / d) (trial test (n / d) d) | false ↦ none ]
+leastD test n b = first 1 n (trial test n b)
 
--- of those with n banks, the one with least d, "then the least b"
+-- of those with n banks, the one with "the least b, then the least d"
 unfoldable pub firstWith : (Plan → Bool) → ℕ → Option Plan
-unfolding first leastB
-firstWith test n = first 1 n (leastB test n)
+unfolding first leastD
+firstWith test n = first 0 n (leastD test n)
 
 -- of all, the one with least N, from 1 to the limit
 unfoldable pub leastOf : (Plan → Bool) → ℕ → Option Plan
@@ -43,7 +44,8 @@ leastOf test limit = first 1 limit (firstWith test)
 abbrev pub suitable : List (List Pixel) → Plan → Bool
 suitable ts = λ p. suitsAll p ts
 
--- "It gives the suiting plan with least N; among equal N the least d, then the least b", N from 1 to the limit
+-- "It gives the suiting plan with least N", N from 1 to the limit; Card 1: "Among plans of equal least N, take the least b, then the
+-- least d"
 abbrev pub leastPlan : List (List Pixel) → ℕ → Option Plan
 leastPlan ts limit = leastOf (suitable ts) limit
 

@@ -67,7 +67,8 @@ FinderDecides =
     (book : Book) (limit : ℕ) → IsBook book → 1 ≤ limit → limit ≤ 1024
     → ((p : Plan) × (ofPlanned (find book limit) ≡ value p)) ⊎ (ofPlanned (find book limit) ≡ refusal 7 0 none)
 
--- "among equal N the least d, then the least b"
+-- Card 1: "Among plans of equal least N, take the least b, then the least d": no suiting plan of that N has a smaller b, and none with
+-- that b a smaller d
 abbrev pub FinderOrder : Type 0
 FinderOrder =
     (book : Book) (limit : ℕ) (p : Plan) → ofPlanned (find book limit) ≡ value p

@@ -15,7 +15,7 @@ starred =
     row (finds (one ∷ []) 1024) (is (1 ∷ 0 ∷ 1 ∷ []))
     ∷ row (finds three 1024) (is (3 ∷ 0 ∷ 1 ∷ []))
     ∷ row (finds threeAndThree 1024) (is (3 ∷ 1 ∷ 1 ∷ []))
-    ∷ row (finds square 1024) (is (4 ∷ 2 ∷ 1 ∷ []))
+    ∷ row (finds square 1024) (is (2 ∷ 0 ∷ 2 ∷ []))
     ∷ row (finds cross 1024) (is (5 ∷ 2 ∷ 1 ∷ []))
     ∷ row (finds gap 1024) (is (4 ∷ 0 ∷ 1 ∷ []))
     ∷ row (finds gap 3) (refused 7 0)

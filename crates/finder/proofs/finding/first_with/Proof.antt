@@ -1,72 +1,75 @@
--- `finder::finding::first_with` meets its contract. The loop's invariant: no plan with a smaller d suits. The measure is the number
--- of d's that are left.
+-- `finder::finding::first_with` meets its contract. The loop's invariant: the best plan so far is that of the d's up to this one, and
+-- the next one must have a smaller b. The measure is the number of d's that are left.
 -- Assumes nothing.
 use Prim.Native.Nat.{_+_, _-_, _≤_}
 use native.Mathlib.Nat.{le-div-iff-mul-le, div-le-self}
 use native.Mathlib.Omega.{arith}
 use mathlib.Core.Path.{refl}
-use mathlib.Core.Logic.{⊎-elim}
 use borrow.Author.Needs.{needs}
-use Rattle.scope.specs.Finding.{leastB, firstWith}
-use Rattle.finder.proofs.TableSearch.{NoneFrom, none-yet, one-more-none, found-at, found-nowhere, divisor-searched, no-divisor-none}
+use Rattle.finder.proofs.TableSearch.{BestIn, none-best, best-replaced, best-stays, best-at-end, divisor-searched, no-divisor-none}
 use Rattle.finder.proofs.finding.first_with.Statement.{statement}
 use Rattle.finder.proofs.finding.first_with.Tie as tie
 
 abbrev Inv-loop : tie.InvT-loop
-Inv-loop marks n d₀ d = (1 ≤ d) × (d ≤ n + 1) × NoneFrom marks (λ test. leastB test n) 1 d
+Inv-loop marks n best₀ below₀ d₀ best below d = (d ≤ n) × BestIn marks n d best below
 
 abbrev μ-loop : tie.MeasureT-loop
-μ-loop marks n d₀ d = n + 1 - d
+μ-loop marks n best₀ below₀ d₀ best below d = n - d
 
 loop-holds : tie.Need-loop-holds Inv-loop μ-loop
-loop-holds c = (omega arith, omega arith, none-yet _ 1)
+loop-holds c = (omega arith, none-best _)
 
 abbrev start : tie.At-loop Inv-loop μ-loop → tie.Start Inv-loop μ-loop
 start c = c .before .before
 
+add-d : tie.Need-add-d Inv-loop μ-loop
+add-d c = omega (arith, start (c .before) .pre)
+
+-- the head of the turn in which a divisor is looked at
+abbrev head : tie.Then1 Inv-loop μ-loop → tie.At-loop Inv-loop μ-loop
+head c = c .before .before
+
 least-b-requires : tie.Need-least-b-requires Inv-loop μ-loop
 least-b-requires c κs =
-    let l = c .before .before in
+    let l = head c in
     let n = start l .args .n in
     let h = start l .pre in (
       h .0,
-      le-div-iff-mul-le (l .loop .inv .0) .1 (omega arith),
-      omega (arith, h .1, div-le-self n (l .loop .d)),
-      l .loop .inv .0,
+      le-div-iff-mul-le {k = l .loop .d + 1} (omega arith) .1 (omega arith),
+      omega (arith, h .1, div-le-self n (l .loop .d + 1)),
+      omega arith,
       omega (arith, h .1),
     )
 
-returns : tie.Need-returns Inv-loop μ-loop
-unfolding firstWith
-returns c =
-    let k = c .before .before in
-    let l = k .before .before .before in
-    found-at _ 1 (start l .args .n) _ (l .loop .inv .2) (l .loop .inv .0) (omega arith)
-    (divisor-searched (start l .args .n) (l .loop .d) (k .before .if1 .taken) (k .least-b .ensures))
-    (c .enum-told .given .1)
-
-add-d : tie.Need-add-d Inv-loop μ-loop
-add-d c = omega (arith, start (c .before .before) .pre)
-
+-- what the search with this divisor gave
 loop-again : tie.Need-loop-again Inv-loop μ-loop
 loop-again c =
-    let l = c .before .before in
-    let n = start l .args .n in
-    let d = l .loop .d in (
+    let k = c .before .before .before .before in
+    let l = head (k .before) in
+    let n = start l .args .n in (
       omega arith,
-      omega arith,
-      ⊎-elim
-          (λ w.
-          one-more-none _ 1 _ (l .loop .inv .2) (divisor-searched n d (w .0 .taken) (w .1 .ensures)) (w .3 .given .1))
-          (λ w. one-more-none _ 1 _ (l .loop .inv .2) (no-divisor-none n d (w .left)) refl)
-          (c .if1 .came),
+      best-replaced n (l .loop .d) (l .loop .inv .1) (divisor-searched n (l .loop .d + 1) _ (k .before .if1 .taken) (k .least-b .ensures))
+          (c .before .before .p .given .1),
     )
 
-returns-2 : tie.Need-returns-2 Inv-loop μ-loop
-unfolding firstWith
-returns-2 c =
-    let l = c .before in
-    found-nowhere _ 1 (start l .args .n) _ (l .loop .inv .2) (omega arith)
+loop-again-2 : tie.Need-loop-again-2 Inv-loop μ-loop
+loop-again-2 c =
+    let k = c .before .before in
+    let l = head (k .before) in
+    let n = start l .args .n in (
+      omega arith,
+      best-stays n (l .loop .d) (l .loop .inv .1) (divisor-searched n (l .loop .d + 1) _ (k .before .if1 .taken) (k .least-b .ensures))
+          (c .enum-told .given .1),
+    )
+
+loop-again-3 : tie.Need-loop-again-3 Inv-loop μ-loop
+loop-again-3 c =
+    let l = c .before .before in
+    let n = start l .args .n in
+    (omega arith, best-stays n (l .loop .d) (l .loop .inv .1) (no-divisor-none n (l .loop .d + 1) _ (c .if1 .left)) refl)
+
+returns : tie.Need-returns Inv-loop μ-loop
+returns c = best-at-end _ (c .before .loop .inv .1) (omega (arith, c .before .loop .inv .0))
 
 pub first-with-spec : {M : Type 1} → statement M
 first-with-spec =
@@ -75,12 +78,16 @@ first-with-spec =
     Inv-loop
     μ-loop
     loop-holds
+    add-d
     (λ c. omega arith) (λ c. omega arith)
     least-b-requires
     (λ c. search needs)
-    returns
-    (λ c. search needs)
-    add-d
+    (λ c. record { fits = omega (arith, c .struct-known .given .1 .0 .fits) })
     (λ c. omega arith)
     loop-again
-    returns-2)
+    (λ c. search needs)
+    (λ c. omega arith)
+    loop-again-2
+    (λ c. omega arith)
+    loop-again-3
+    returns)
