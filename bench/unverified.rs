@@ -75,26 +75,40 @@ fn rows_marked(marks: &[bool; 2016], a: usize, b: usize, d: usize, first: usize)
     false
 }
 
+// The least b below `end` of a plan with this a and d.
+fn least_b(marks: &[bool; 2016], a: usize, d: usize, end: usize) -> Option<usize> {
+    if row_marked(marks, a, 0, 31 + a) {
+        return None;
+    }
+    let mut first = 31 % a;
+    for b in 0..end {
+        if !rows_marked(marks, a, b, d, first) {
+            return Some(b);
+        }
+        first += 1;
+        if first == a {
+            first = 0;
+        }
+    }
+    None
+}
+
+// For each divisor d the least b below the best so far.
 fn search(marks: &[bool; 2016], limit: usize) -> Option<Plan> {
     for n in 1..=limit {
+        let (mut best, mut below) = (None, n);
         for d in 1..=n {
             if n % d != 0 {
                 continue;
             }
             let a = n / d;
-            if row_marked(marks, a, 0, 31 + a) {
-                continue;
+            if let Some(b) = least_b(marks, a, d, a.min(below)) {
+                best = Some(Plan { a: a as u32, b: b as u32, d: d as u32 });
+                below = b;
             }
-            let mut first = 31 % a;
-            for b in 0..a {
-                if !rows_marked(marks, a, b, d, first) {
-                    return Some(Plan { a: a as u32, b: b as u32, d: d as u32 });
-                }
-                first += 1;
-                if first == a {
-                    first = 0;
-                }
-            }
+        }
+        if best.is_some() {
+            return best;
         }
     }
     None
@@ -118,13 +132,14 @@ pub fn find_by_counting(r: &Record, limit: u32) -> Option<Plan> {
     let mut taken = [0u32; 1024];
     let mut stamp = 0;
     for n in 1..=limit {
+        let (mut best, mut below) = (None, n);
         for d in 1..=n {
             if n % d != 0 {
                 continue;
             }
             let a = n / d;
             let strips: [(u32, u32); 32] = std::array::from_fn(|j| (j as u32 / d, j as u32 % d * a));
-            for b in 0..a {
+            for b in 0..a.min(below) {
                 let one_to_a_bank = |t: usize| {
                     stamp += 1;
                     for e in 64 * t..64 * t + r.used[t] {
@@ -137,9 +152,14 @@ pub fn find_by_counting(r: &Record, limit: u32) -> Option<Plan> {
                     true
                 };
                 if (0..r.count).all(one_to_a_bank) {
-                    return Some(Plan { a, b, d });
+                    best = Some(Plan { a, b, d });
+                    below = b;
+                    break;
                 }
             }
+        }
+        if best.is_some() {
+            return best;
         }
     }
     None

@@ -17,13 +17,14 @@ static struct plan plan_of(struct told t) {
     return p;
 }
 
-// No plan before p, by count, then d, then b, suits. Tried where there are few.
+// No plan before p, by count, then b, then d, suits. Tried where there are few.
 static void must_be_least(const struct record *r, struct plan p) {
     uint32_t banks = p.a * p.d;
     for (uint32_t n = 1; n <= banks; n++)
-        for (uint32_t d = 1; d <= n; d++)
-            for (uint32_t b = 0; n % d == 0 && b < n / d; b++) {
-                if (n == banks && d == p.d && b == p.b) return;
+        for (uint32_t b = 0; b < n; b++)
+            for (uint32_t d = 1; b < n / d; d++) {
+                if (n % d != 0) continue;
+                if (n == banks && b == p.b && d == p.d) return;
                 MUST(!suits(r, (struct plan){n / d, b, d}));
             }
     wrong("the plan is none of those tried", __FILE__, __LINE__);

@@ -138,18 +138,19 @@ fn rings() -> Tally {
         let mut picture = Picture::new(plan(5, 2, 1), w, h);
         expect(&mut t, Call { n: 1, ..Call::new(Kind::Ring, picture.lent) }, number, &book, &mut picture);
     }
-    // 64 pixels across all four corners, of a ring of 64 by 128
-    let p = plan(64, 8, 1);
+    // 64 pixels across all four corners, of a ring of 64 by 128, under the plan found and one of the same N with a slant
     let (square, book) = (block(-4..4, -4..4), record(&[block(-4..4, -4..4)]));
     let least = found(&mut t, &book, &[square.clone()]);
-    t.same(|| "the plan of 8 by 8".into(), least, p);
-    let mut picture = Picture::new(p, 64, 128);
-    for (columns, rows) in [(0..4, 0..4), (60..64, 0..4), (0..4, 124..128), (60..64, 124..128)] {
-        fill(&mut t, &mut picture, columns, rows);
-    }
+    t.same(|| "the plan of 8 by 8".into(), least, plan(8, 0, 8));
     let words = words_at(&wrapped(&square, 64, 128));
-    for v in [(0, 0), (64, 128), (-64, -128), (-32768, -32768), (32704, 32640)] {
-        fetched(&mut t, &mut picture, &book, Kind::Ring, 0, v, &words);
+    for p in [least, plan(64, 8, 1)] {
+        let mut picture = Picture::new(p, 64, 128);
+        for (columns, rows) in [(0..4, 0..4), (60..64, 0..4), (0..4, 124..128), (60..64, 124..128)] {
+            fill(&mut t, &mut picture, columns, rows);
+        }
+        for v in [(0, 0), (64, 128), (-64, -128), (-32768, -32768), (32704, 32640)] {
+            fetched(&mut t, &mut picture, &book, Kind::Ring, 0, v, &words);
+        }
     }
     t
 }

@@ -48,7 +48,7 @@ fn figures() -> Tally {
     figure(&[vec![(0, 0)]], 1, plan(1, 0, 1));
     figure(&[row.clone()], 1024, plan(3, 0, 1));
     figure(&[row, column], 1024, plan(3, 1, 1));
-    figure(&[vec![(0, 0), (1, 0), (0, 1), (1, 1)]], 1024, plan(4, 2, 1));
+    figure(&[vec![(0, 0), (1, 0), (0, 1), (1, 1)]], 1024, plan(2, 0, 2));
     figure(&[cross], 1024, plan(5, 2, 1));
     figure(&[gap.clone()], 1024, plan(4, 0, 1));
     figure(&[gap.clone()], 3, refused(7));
@@ -59,11 +59,11 @@ fn figures() -> Tally {
     figure(&six, 1024, plan(2, 0, 2));
     figure(&[vec![(0, 0), (1, 0)]], 1, refused(7));
     // the four corners of the window in one pattern, and two far corners
-    figure(&[vec![(-16, -16), (15, -16), (-16, 15), (15, 15)]], 1024, plan(4, 2, 1));
+    figure(&[vec![(-16, -16), (15, -16), (-16, 15), (15, 15)]], 1024, plan(2, 0, 2));
     figure(&[vec![(-16, -16), (15, 15)]], 1024, plan(2, 0, 1));
     // a book that fills the window needs every bank there is
     let hardest = search::hardest();
-    figure(&hardest, 1024, plan(1024, 32, 1));
+    figure(&hardest, 1024, plan(32, 0, 32));
     figure(&hardest, 1023, refused(7));
     // no two pixels of a pattern in one row, and differences in all others: only d = 32 is left
     let mut random = Random::new(12);
@@ -205,7 +205,7 @@ fn records() -> Tally {
 // Document 002, Theorem 4.3: with a linear scheme rows, columns and both diagonals of length n need n, n + 1, n + 2 or n + 3
 // banks. The finder has plans that are no linear schemes too; that they do no better is what is seen here. The theorem's proof
 // passes over an even count of at least 2n, which is below n + 3 for n = 2: there 4 banks do, not 5. The four lines of length 2
-// have the differences of a 2 by 2 block, whose plan is the figure 4, 2, 1.
+// have the differences of a 2 by 2 block, whose plan is the figure 2, 0, 2.
 fn theorem() -> Tally {
     let mut t = Tally::new("document 002, Theorem 4.3, n up to 16");
     for n in 1..=16i64 {
@@ -246,6 +246,34 @@ fn one_row() -> Tally {
     t
 }
 
+// Books with several suiting plans of least N: the least b is given, and of those with this b the least d. Each way to miss the
+// order gives another plan often enough to be seen.
+fn ties() -> Tally {
+    let mut t = Tally::new("plans of equal least N: the least b, then the least d");
+    let mut random = Random::new(13);
+    let mut differ = [0; 4];
+    while differ.iter().any(|&n| n < 1_000) {
+        let (patterns, pixels) = random.one_of(&[(1, 6), (2, 4), (4, 3), (8, 2), (16, 2)]);
+        let (width, height) = random.one_of(&[(2, 2), (4, 4), (3, 6), (6, 3), (8, 8), (32, 32)]);
+        let book = random_book(&mut random, patterns, pixels, width, height);
+        let suiting = (1..).map(|n| search::passing(&book, n, one_to_a_bank)).find(|all| !all.is_empty()).unwrap();
+        let b = suiting.iter().map(|p| p.b).min().unwrap();
+        let d = suiting.iter().filter(|p| p.b == b).map(|p| p.d).min().unwrap();
+        let first = search::plan(banks(suiting[0]) / i64::from(d), b.into(), d.into());
+        let others = [
+            suiting.iter().min_by_key(|p| (p.d, p.b)),
+            suiting.iter().max_by_key(|p| p.b),
+            suiting.iter().min_by_key(|p| (p.b, u32::MAX - p.d)),
+            suiting.iter().max_by_key(|p| (p.d, u32::MAX - p.b)),
+        ];
+        for (n, other) in differ.iter_mut().zip(others) {
+            *n += usize::from(*other.unwrap() != first);
+        }
+        t.same(|| format!("{book:?}"), library::find(&oracle::record_of(&book), 1024), planned(Some(first)));
+    }
+    t
+}
+
 pub fn run() -> Vec<Tally> {
-    vec![figures(), small_books(), large_books(), records(), theorem(), one_row()]
+    vec![figures(), small_books(), large_books(), ties(), records(), theorem(), one_row()]
 }

@@ -62,10 +62,10 @@ fn inputs() -> Tally {
     case(&mut t, "table, 3", &[1, 1, 0x10, 0], "refused 3\n".into());
     case(&mut t, "table, 4", &[1, 2, 0, 0, 0, 0], "refused 4\n".into());
     case(&mut t, "table, 5", &[1, 1, 0, 0, 0], "refused 5\n".into());
-    case(&mut t, "the hardest book", &bytes_of(&hardest()), "banks 1024\nplan 1024 32 1\n".into());
+    case(&mut t, "the hardest book", &bytes_of(&hardest()), "banks 1024\nplan 32 0 32\n".into());
     let longest = longest();
     assert_eq!(longest.len(), 2065);
-    case(&mut t, "the longest book", &longest, "banks 64\nplan 64 8 1\n".into());
+    case(&mut t, "the longest book", &longest, "banks 64\nplan 8 0 8\n".into());
     for (more, number) in [(1, 5), (2, 5), (5_000, 5), (10_000_000, 5)] {
         let bytes = [longest.clone(), vec![7; more]].concat();
         t.same(|| format!("{more} bytes after the longest book"), run([bytes]), (format!("refused {number}\n"), true));
@@ -77,7 +77,7 @@ fn inputs() -> Tally {
     t.same(|| "zeros".into(), zeros, ("refused 2\n".into(), true));
     // byte by byte, and an input without end
     let bytewise = run(longest.iter().map(|&b| vec![b]));
-    t.same(|| "byte by byte".into(), bytewise, ("banks 64\nplan 64 8 1\n".into(), true));
+    t.same(|| "byte by byte".into(), bytewise, ("banks 64\nplan 8 0 8\n".into(), true));
     let endless = run(std::iter::once(longest).chain(std::iter::repeat(vec![0; 4096])));
     t.same(|| "an input without end".into(), endless, ("refused 5\n".into(), true));
     let mut random = Random::new(11);

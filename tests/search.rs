@@ -35,19 +35,22 @@ pub fn one_to_a_bank(p: Plan, t: &Pattern) -> bool {
     t.iter().all(|&v| !std::mem::replace(&mut taken[bank_of(p, v) as usize], true))
 }
 
-// Every plan with at most `limit` banks, by N, then d, then b.
-fn plans(limit: i64) -> impl Iterator<Item = Plan> {
-    (1..=limit).flat_map(|n| {
-        (1..=n).filter(move |d| n % d == 0).flat_map(move |d| (0..n / d).map(move |b| plan(n / d, b, d)))
-    })
+/// Every plan with n banks that passes the test for each pattern, in no order that counts.
+pub fn passing(book: &[Pattern], n: i64, test: impl Fn(Plan, &Pattern) -> bool) -> Vec<Plan> {
+    (1..=n)
+        .filter(|d| n % d == 0)
+        .flat_map(|d| (0..n / d).map(move |b| plan(n / d, b, d)))
+        .filter(|&p| book.iter().all(|t| test(p, t)))
+        .collect()
 }
 
-/// The first plan within the limit that passes the test for each pattern.
+/// "Among plans of equal least N, take the least b, then the least d": of those within the limit that pass the test for each
+/// pattern.
 pub fn first_plan(book: &[Pattern], limit: i64, test: impl Fn(Plan, &Pattern) -> bool) -> Option<Plan> {
-    plans(limit).find(|&p| book.iter().all(|t| test(p, t)))
+    (1..=limit).find_map(|n| passing(book, n, &test).into_iter().min_by_key(|p| (p.b, p.d)))
 }
 
-/// The finder: 6, then the first plan by N, d and b, then 7.
+/// The finder: 6, then the first plan by N, b and d, then 7.
 pub fn find(book: &[Pattern], limit: i64) -> Result<Plan, Refused> {
     if !(1..=1024).contains(&limit) {
         return Err((6, 0));

@@ -3,7 +3,7 @@
 -- Assumes nothing.
 use Prim.Native.Nat.{ℕ, _/_, _%_}
 use mathlib.Core.Path.{refl}
-use mathlib.Core.List.{List, [], _∷_, _++_, flatMap}
+use mathlib.Core.List.{List, [], _∷_, _++_, map, flatMap}
 use lib.IntN.{ℤ, pos}
 use lib.ListN.{take, replicate}
 use Rattle.scope.specs.Search.{gather}
@@ -61,6 +61,22 @@ leastCounts =
 leastCounts-hold : Hold leastCounts
 unfolding leastCounts
 leastCounts-hold = refl
+
+-- Plans of equal least N. By the test alone these suit: 2, 0, 1 and 1, 0, 2; 4, 2, 1 and 2, 1, 2; 6, 1, 1 and 6, 2, 1 and 3, 1, 2 and
+-- 3, 2, 2; 6, 2, 1 and 6, 4, 1 and 3, 1, 2 and 3, 2, 2; of the 3 by 3 block 9, 3, 1 and 9, 6, 1 and 3, b, 3 for each b.
+ties : List Row
+unfolding row is finds px
+ties =
+    row (finds ((px 0 0 ∷ px 1 1 ∷ []) ∷ []) 1024) (is (2 ∷ 0 ∷ 1 ∷ []))
+    ∷ row (finds (map (λ v. px 0 0 ∷ v ∷ []) (px 3 0 ∷ px 0 1 ∷ px 2 2 ∷ [])) 1024) (is (2 ∷ 1 ∷ 2 ∷ []))
+    ∷ row (finds ((px 3 0 ∷ px 0 1 ∷ px 2 1 ∷ px 0 2 ∷ []) ∷ []) 1024) (is (6 ∷ 1 ∷ 1 ∷ []))
+    ∷ row (finds ((px 0 0 ∷ px 1 1 ∷ px 3 1 ∷ px 0 2 ∷ []) ∷ []) 1024) (is (3 ∷ 1 ∷ 2 ∷ []))
+    ∷ row (finds (gather 0 9 (λ i. px (i % 3) (i / 3)) ∷ []) 1024) (is (3 ∷ 0 ∷ 3 ∷ []))
+    ∷ []
+
+ties-hold : Hold ties
+unfolding ties
+ties-hold = refl
 
 -- Coordinates -17, -16, 15, 16, and a repeat, in a record.
 coordinates : List Row

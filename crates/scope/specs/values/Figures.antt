@@ -1,5 +1,6 @@
 -- Document 01, "Figures to agree with": the starred figures and the examples of the table of refusals, row by row, and the
 -- one theorem that checks the definitions on them by computation. BookEdges.antt and PictureEdges.antt have more rows.
+-- Card 1: "The 2 by 2 square of pixels moves from 4, 2, 1 to 2, 0, 2; the other figures in document 01 are unaffected."
 -- Assumes nothing.
 use Prim.Native.Nat.{ℕ}
 use mathlib.Core.Path.{refl}
