@@ -376,7 +376,8 @@ impl Book {
         told(|t| unsafe { raw::bankplan_write_book(columns, rows, used, *count, out, length, t) }).map(|r| r[0] as usize)
     }
 
-    /// The plan with the fewest banks within the limit. Refused by 2, 3, 4, 6, 7.
+    /// The plan with the fewest banks within the limit; of several the one with the least b, then the least d. Refused by 2, 3, 4,
+    /// 6, 7.
     pub fn find(&self, limit: u32) -> Result<Plan, Refused> {
         told(|t| unsafe { raw::bankplan_find(&self.columns, &self.rows, &self.used, self.count, limit, t) }).map(plan_of)
     }

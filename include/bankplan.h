@@ -132,7 +132,8 @@ uint64_t bankplan_test_record(const int8_t columns[1024], const int8_t rows[1024
 
 /* ---- finding and checking */
 
-/* Finds the plan with the fewest banks, at most limit, for a book. Refused by 2, 3, 4 in book order, 6, 7. Tells a, b, d. */
+/* Finds the plan with the fewest banks, at most limit, for a book; of several the one with the least b, then the least d. Refused
+   by 2, 3, 4 in book order, 6, 7. Tells a, b, d. */
 uint64_t bankplan_find(const int8_t columns[1024], const int8_t rows[1024], const size_t used[16], size_t count,
                        uint32_t limit, uint64_t answer[12]);
 

@@ -190,7 +190,7 @@ fn least_plan(marks: &[u8], limit: usize) -> Planned
     Planned::Refused(Refusal::NoPlan)
 }
 
-// The plan with the fewest banks within the limit, or 2, 3, 4, 6, 7.
+// The plan with the fewest banks within the limit, of several the one with least b, then least d; or 2, 3, 4, 6, 7.
 pub fn find(book: Book, limit: u32) -> Planned
     ensures { λ r. ⌜ r ≡ find book limit ⌝ }
 {

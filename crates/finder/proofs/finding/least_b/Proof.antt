@@ -1,5 +1,5 @@
--- `finder::finding::least_b` meets its contract. The loop's invariant: s is the plan's first cell in row d, and no plan with a
--- smaller b suits. The measure is the number of b's that are left.
+-- `finder::finding::least_b` meets its contract. The loop's invariant: it ends at the smaller of `below` and a, s is the plan's
+-- first cell in row d, and no plan with a smaller b suits. The measure is the number of b's that are left.
 -- Assumes nothing.
 use Prim.Native.Nat.{ℕ, _+_, _*_, _-_, _%_, min, _≤_, _<_}
 use native.Mathlib.Nat.{mod-add-mod, mod-eq-of-lt, mod-self, mod-lt}
