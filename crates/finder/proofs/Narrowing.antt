@@ -64,7 +64,7 @@ module _ (test : Plan → Bool) (n : ℕ) where
   -- The next d, at which none was found: the best one stays.
   kept : (e : ℕ) (o : Option Plan) → BestIs e o → leastBelow test n (suc e) (bound n o) ≡ none → BestIs (suc e) o
   unfolding leastBelow bound BestIs
-  kept e o best none-found = by-best o best (λ q s m same. not-below q s m same)
+  kept e o best none-found = by-best o best not-below
     where
       not-below : (q : Plan) → Suiting test q → banks q ≡ n → q .d ≡ suc e → bound n o ≤ q .b
       not-below q s m same = by-b (decLt (q .b) (bound n o))

@@ -62,8 +62,12 @@ leastCounts-hold : Hold leastCounts
 unfolding leastCounts
 leastCounts-hold = refl
 
--- Plans of equal least N. By the test alone these suit: 2, 0, 1 and 1, 0, 2; 4, 2, 1 and 2, 1, 2; 6, 1, 1 and 6, 2, 1 and 3, 1, 2 and
--- 3, 2, 2; 6, 2, 1 and 6, 4, 1 and 3, 1, 2 and 3, 2, 2; of the 3 by 3 block 9, 3, 1 and 9, 6, 1 and 3, b, 3 for each b.
+-- Plans of equal least N: the least b, then the least d. These are all that suit, row by row:
+-- (2, 0, 1), (1, 0, 2)
+-- (4, 2, 1), (2, 1, 2)
+-- (6, 1, 1), (6, 2, 1), (3, 1, 2), (3, 2, 2)
+-- (6, 2, 1), (6, 4, 1), (3, 1, 2), (3, 2, 2)
+-- (9, 3, 1), (9, 6, 1), (3, 0, 3), (3, 1, 3), (3, 2, 3), for the 3 by 3 block
 ties : List Row
 unfolding row is finds px
 ties =
