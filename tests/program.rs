@@ -58,6 +58,7 @@ fn inputs() -> Tally {
     let mut t = Tally::new("the program");
     case(&mut t, "figure", &[1, 5, 0, 0, 0xff, 0, 1, 0, 0, 0xff, 0, 1], "banks 5\nplan 5 2 1\n".into());
     case(&mut t, "figure", &[], "refused 1\n".into());
+    case(&mut t, "Card 1's figure", &[1, 4, 0, 0, 1, 0, 0, 1, 1, 1], "banks 4\nplan 2 0 2\n".into());
     case(&mut t, "table, 2", &[0], "refused 2\n".into());
     case(&mut t, "table, 3", &[1, 1, 0x10, 0], "refused 3\n".into());
     case(&mut t, "table, 4", &[1, 2, 0, 0, 0, 0], "refused 4\n".into());
