@@ -1,150 +1,141 @@
--- The code's order gives the definition's plan: of the plans with n banks the best one with d from 1 to n is the first by b, then d.
+-- The code's search within one N goes by d and keeps the best plan so far. Of the plans with a d up to this one that is the first by
+-- b, then d; once every d was looked at it is the definition's.
 -- Assumes nothing.
-use Prim.Native.Nat.{ℕ, zero, suc, _+_, _*_, _≤_, _<_}
+use Prim.Native.Nat.{ℕ, _+_, _*_, _≤_, _<_}
 use native.Mathlib.Nat.{eq-of-mul-eq-mul-right}
 use native.Mathlib.Omega.{arith}
-use native.Mathlib.Decide.{decLt, ℕ-discrete}
-use mathlib.Core.Path.{_≡_, refl, sym, _∙_, ap}
+use native.Mathlib.Decide.{decLt, decLe}
+use mathlib.Core.Path.{_≡_, refl, sym, _∙_, ap, subst}
 use mathlib.Core.Bool.{Bool}
 use mathlib.Core.Option.{Option, none, some}
 use Rattle.scope.specs.Plans.{plan, banks}
 use Rattle.scope.specs.Finding.{Before, trial, firstWith}
 use Rattle.scope.specs.declared.Plan.{Plan}
-use Rattle.checks.proofs.Searches.{Found, first-found, first-none}
-use Rattle.finder.specs.Narrowing.{leastBelow, bound, narrowed, bestUpTo}
+use Rattle.checks.proofs.Searches.{Found, first-found, first-none, none-not-some, some-injective}
+use Rattle.finder.specs.Table.{leastBelow}
 use Rattle.finder.proofs.SuitingPlans.{made, Suiting}
 use Rattle.finder.proofs.CountSearch.{FirstWith, Tried, trial-none, trial-some, b-within, d-within, first-with-some, first-with-none}
 
--- p is the search's own plan, suits, has n banks and a d of at most e, and comes before every other such plan
-record FirstUpTo (test : Plan → Bool) (n e : ℕ) (p : Plan) : Type 0 where
-  is-made : made p ≡ p
-  itself : Suiting test p
-  count : banks p ≡ n
-  d-most : p .d ≤ e
-  before : (q : Plan) → Suiting test q → banks q ≡ n → q .d ≤ e → Before p q
-
 module _ (test : Plan → Bool) (n : ℕ) where
-  -- what the best plan so far is, and what it means that there is none
-  BestIs : ℕ → Option Plan → Type 0
-  BestIs e none = (q : Plan) → Suiting test q → banks q ≡ n → q .d ≤ e → ⊥
-  BestIs e (some p) = FirstUpTo test n e p
+  -- no suiting plan with n banks and a d of at most e has a b below m
+  abbrev NoneBelow : ℕ → ℕ → Type 0
+  NoneBelow e m = (q : Plan) → Suiting test q → banks q ≡ n → q .d ≤ e → m ≤ q .b
 
-  -- no suiting plan so far has a b below the bound
-  bound-least : (e : ℕ) (o : Option Plan) → BestIs e o → (q : Plan) → Suiting test q → banks q ≡ n → q .d ≤ e → bound n o ≤ q .b
-  unfolding bound BestIs
-  bound-least e none best q s m k = absurd (best q s m k)
-  bound-least e (some p) best q s m k = best .before q s m k .least-b
+  -- p is the search's own plan, suits, has n banks, b = m and a d of at most e, and none of these has a smaller d
+  record Best (e m : ℕ) (p : Plan) : Type 0 where
+    is-made : made p ≡ p
+    itself : Suiting test p
+    count : banks p ≡ n
+    b-is : p .b ≡ m
+    d-most : p .d ≤ e
+    least-d : (q : Plan) → Suiting test q → banks q ≡ n → q .b ≡ m → q .d ≤ e → p .d ≤ q .d
 
-  -- The next d, at which a plan was found: it replaces the best one.
-  replaced :
-      (e : ℕ) (o : Option Plan) → BestIs e o → (p : Plan) → Found 0 (bound n o) (λ b. trial test n b (suc e)) p → FirstUpTo test n (suc e) p
-  replaced e o best p t =
+  -- what was found with d from 1 to e, and the b below which a next plan is looked for: n where nothing was found
+  pub record SoFar (e m : ℕ) (o : Option Plan) : Type 0 where
+    none-below : NoneBelow e m
+    best : (p : Plan) → o ≡ some p → Best e m p
+    nothing : o ≡ none → m ≡ n
+
+  pub none-so-far : SoFar 0 n none
+  none-so-far =
       record {
-        is-made = r .is-made;
-        itself = r .itself;
-        count = r .count;
-        d-most = omega (arith, r .d-is);
-        before = λ q s m k. by-d q s m k (ℕ-discrete (q .d) (suc e));
+        none-below = λ q s k u. absurd (omega (arith, s .d-least));
+        best = λ p h. absurd (none-not-some h);
+        nothing = λ h. refl;
+      }
+
+  -- With the next d too no b is below m, if none was below it so far and none with that d is.
+  one-more-none-below : (e m : ℕ) → NoneBelow e m → ((b : ℕ) → b < m → trial test n b (e + 1) ≡ none) → NoneBelow (e + 1) m
+  one-more-none-below e m before here q s k u = by-place (decLe (q .d) e) (decLt (q .b) m)
+    where
+      by-place : Dec (q .d ≤ e) → Dec (q .b < m) → m ≤ q .b
+      by-place (yes i) j = before q s k i
+      by-place (no i) (yes j) = let d-is : q .d ≡ e + 1 = omega arith in absurd (trial-none test n q s k (rw (d-is) (here (q .b) j)))
+      by-place (no i) (no j) = omega arith
+
+  -- A plan that is found with the next d has a smaller b and replaces the best one.
+  pub replaced :
+      (e m : ℕ) (o : Option Plan) (p : Plan) → SoFar e m o → leastBelow test n (e + 1) m ≡ some p → SoFar (e + 1) (p .b) (some p)
+  unfolding leastBelow
+  replaced e m o p so-far h =
+      record {
+        none-below =
+            one-more-none-below e (p .b) (λ q s k u. omega (arith, so-far .none-below q s k u, t .below, r .b-is))
+            (λ b u. t .before b (omega arith) (omega (arith, r .b-is)));
+        best = λ q same. subst (Best (e + 1) (p .b)) (some-injective same) itself-best;
+        nothing = λ none-is. absurd (none-not-some (sym none-is));
       }
     where
-      r : Tried test n (t .where-is) (suc e) p
-      r = trial-some test n (t .where-is) (suc e) p (omega arith) (t .here)
+      t : Found 0 m (λ b. trial test n b (e + 1)) p
+      t = first-found 0 m (λ b. trial test n b (e + 1)) p h
 
-      not-below : (q : Plan) → Suiting test q → banks q ≡ n → q .d ≡ suc e → Dec (q .b < t .where-is) → p .b ≤ q .b
-      not-below q s m same (yes k) = absurd (trial-none test n q s m (rw (same) (t .before (q .b) (omega arith) k)))
-      not-below q s m same (no k) = omega (arith, r .b-is)
+      r : Tried test n (t .where-is) (e + 1) p
+      r = trial-some test n (t .where-is) (e + 1) p (omega arith) (t .here)
 
-      by-d : (q : Plan) → Suiting test q → banks q ≡ n → q .d ≤ suc e → Dec (q .d ≡ suc e) → Before p q
-      by-d q s m k (yes same) =
-          record { least-b = not-below q s m same (decLt (q .b) (t .where-is)); then-d = λ b. omega (arith, r .d-is) }
-      by-d q s m k (no other) =
-          let above : bound n o ≤ q .b = bound-least e o best q s m (omega arith) in
-          record { least-b = omega (arith, t .below, r .b-is); then-d = λ b. absurd (omega (arith, t .below, r .b-is)) }
+      least-d : (q : Plan) → Suiting test q → banks q ≡ n → q .b ≡ p .b → Dec (q .d ≤ e) → p .d ≤ q .d
+      least-d q s k same (yes i) = absurd (omega (arith, so-far .none-below q s k i, t .below, r .b-is))
+      least-d q s k same (no i) = omega (arith, r .d-is)
 
-  -- The next d, at which none was found: the best one stays.
-  kept : (e : ℕ) (o : Option Plan) → BestIs e o → leastBelow test n (suc e) (bound n o) ≡ none → BestIs (suc e) o
-  unfolding leastBelow bound BestIs
-  kept e o best none-found = by-best o best not-below
-    where
-      not-below : (q : Plan) → Suiting test q → banks q ≡ n → q .d ≡ suc e → bound n o ≤ q .b
-      not-below q s m same = by-b (decLt (q .b) (bound n o))
-        where
-          by-b : Dec (q .b < bound n o) → bound n o ≤ q .b
-          by-b (yes k) =
-              absurd (trial-none test n q s m
-              (rw (same) (first-none 0 (bound n o) (λ b. trial test n b (suc e)) none-found (q .b) (omega arith) (omega arith))))
-          by-b (no k) = omega arith
-
-      by-best :
-          (o : Option Plan) → BestIs e o → ((q : Plan) → Suiting test q → banks q ≡ n → q .d ≡ suc e → bound n o ≤ q .b)
-          → BestIs (suc e) o
-      by-best none best above = λ q s m k. by-d q s m k (ℕ-discrete (q .d) (suc e))
-        where
-          by-d : (q : Plan) → Suiting test q → banks q ≡ n → q .d ≤ suc e → Dec (q .d ≡ suc e) → ⊥
-          by-d q s m k (yes same) = omega (arith, above q s m same, b-within test n q s m)
-          by-d q s m k (no other) = best q s m (omega arith)
-      by-best (some p) best above =
+      itself-best : Best (e + 1) (p .b) p
+      itself-best =
           record {
-            is-made = best .is-made;
-            itself = best .itself;
-            count = best .count;
-            d-most = omega (arith, best .d-most);
-            before = λ q s m k. by-d q s m k (ℕ-discrete (q .d) (suc e));
+            is-made = r .is-made;
+            itself = r .itself;
+            count = r .count;
+            b-is = refl;
+            d-most = omega (arith, r .d-is);
+            least-d = λ q s k same u. least-d q s k same (decLe (q .d) e);
+          }
+
+  -- Where none is found the best one stays.
+  pub kept : (e m : ℕ) (o : Option Plan) → SoFar e m o → leastBelow test n (e + 1) m ≡ none → SoFar (e + 1) m o
+  unfolding leastBelow
+  kept e m o so-far h =
+      record {
+        none-below =
+            one-more-none-below e m (so-far .none-below)
+            (λ b u. first-none 0 m (λ b. trial test n b (e + 1)) h b (omega arith) (omega arith));
+        best = λ p is. still p (so-far .best p is);
+        nothing = so-far .nothing;
+      }
+    where
+      still : (p : Plan) → Best e m p → Best (e + 1) m p
+      still p b =
+          record {
+            is-made = b .is-made;
+            itself = b .itself;
+            count = b .count;
+            b-is = b .b-is;
+            d-most = omega (arith, b .d-most);
+            least-d = λ q s k same u. by-d q s k same (decLe (q .d) e);
           }
         where
-          by-d : (q : Plan) → Suiting test q → banks q ≡ n → q .d ≤ suc e → Dec (q .d ≡ suc e) → Before p q
-          by-d q s m k (yes same) = record { least-b = above q s m same; then-d = λ b. omega (arith, best .d-most) }
-          by-d q s m k (no other) = best .before q s m (omega arith)
+          by-d : (q : Plan) → Suiting test q → banks q ≡ n → q .b ≡ m → Dec (q .d ≤ e) → p .d ≤ q .d
+          by-d q s k same (yes i) = b .least-d q s k same i
+          by-d q s k same (no i) = omega (arith, b .d-most)
 
-  -- what the next d makes of the best one
-  pub narrowed-some :
-      (d : ℕ) (o : Option Plan) (p : Plan) → leastBelow test n d (bound n o) ≡ some p → narrowed test n d o ≡ some p
-  unfolding narrowed
-  narrowed-some d o p h = rw (h, narrowed) refl
-
-  pub narrowed-none : (d : ℕ) (o : Option Plan) → leastBelow test n d (bound n o) ≡ none → narrowed test n d o ≡ o
-  unfolding narrowed
-  narrowed-none d o h = rw (h, narrowed) refl
-
-  pub best-next : (e : ℕ) → bestUpTo test n (e + 1) ≡ narrowed test n (e + 1) (bestUpTo test n e)
-  unfolding bestUpTo
-  best-next e = let next : e + 1 ≡ suc e = omega arith in rw (next) refl
-
-  narrowed-is : (e : ℕ) (o : Option Plan) → BestIs e o → BestIs (suc e) (narrowed test n (suc e) o)
-  unfolding leastBelow BestIs
-  narrowed-is e o best = by-found (leastBelow test n (suc e) (bound n o)) refl
-    where
-      by-found : (r : Option Plan) → leastBelow test n (suc e) (bound n o) ≡ r → BestIs (suc e) (narrowed test n (suc e) o)
-      by-found none h = rw (narrowed-none (suc e) o h) (kept e o best h)
-      by-found (some p) h =
-          rw (narrowed-some (suc e) o p h)
-          (replaced e o best p (first-found 0 (bound n o) (λ b. trial test n b (suc e)) p h))
-
-  best-is : (e : ℕ) → BestIs e (bestUpTo test n e)
-  unfolding bestUpTo BestIs
-  best-is zero = λ q s m k. omega (arith, s .d-least)
-  best-is (suc e) = narrowed-is e (bestUpTo test n e) (best-is e)
-
-  -- two plans of which each comes before the other are the same
-  only-first : (p q : Plan) → FirstUpTo test n n p → FirstWith test n q → p ≡ q
+  -- Once every d was looked at the best one is the first by b, then d.
+  only-first : (m : ℕ) (p q : Plan) → NoneBelow n m → Best n m p → FirstWith test n q → p ≡ q
   unfolding banks plan
-  only-first p q f g =
-      let there : Before p q = f .before q (g .itself) (g .count) (d-within test n q (g .itself) (g .count)) in
+  only-first m p q below f g =
+      let within : q .d ≤ n = d-within test n q (g .itself) (g .count) in
       let back : Before q p = g .before p (f .itself) (f .count) in
-      let same-b : p .b ≡ q .b = omega (arith, there .least-b, back .least-b) in
-      let same-d : p .d ≡ q .d = omega (arith, there .then-d same-b, back .then-d (sym same-b)) in
+      let same-b : q .b ≡ p .b = omega (arith, below q (g .itself) (g .count) within, f .b-is, back .least-b) in
+      let same-d : p .d ≡ q .d =
+      omega (arith, f .least-d q (g .itself) (g .count) (same-b ∙ f .b-is) within, back .then-d same-b) in
       let same-a : p .a ≡ q .a = eq-of-mul-eq-mul-right (q .d) (g .itself .d-least) (p .a) (q .a)
       (ap (λ (x : ℕ). p .a * x) (sym same-d) ∙ f .count ∙ sym (g .count)) in
-      sym (f .is-made) ∙ (rw (same-a, same-b, same-d) (g .is-made))
+      sym (f .is-made) ∙ (rw (same-a, sym same-b, same-d) (g .is-made))
 
-  pub best-is-first : bestUpTo test n n ≡ firstWith test n
-  unfolding BestIs
-  best-is-first = by-both (bestUpTo test n n) (firstWith test n) (best-is n) refl
+  pub best-is-first : (m : ℕ) (o : Option Plan) → SoFar n m o → o ≡ firstWith test n
+  best-is-first m o so-far = by-both o (firstWith test n) refl refl
     where
-      by-both : (o r : Option Plan) → BestIs n o → firstWith test n ≡ r → o ≡ r
-      by-both none none best h = refl
-      by-both none (some q) best h =
+      by-both : (x y : Option Plan) → o ≡ x → firstWith test n ≡ y → o ≡ firstWith test n
+      by-both none none i h = i ∙ sym h
+      by-both none (some q) i h =
           let g = first-with-some test n q h in
-          absurd (best q (g .itself) (g .count) (d-within test n q (g .itself) (g .count)))
-      by-both (some p) none best h = absurd (first-with-none test n h p (best .itself) (best .count))
-      by-both (some p) (some q) best h = ap some (only-first p q best (first-with-some test n q h))
+          let above : m ≤ q .b = so-far .none-below q (g .itself) (g .count) (d-within test n q (g .itself) (g .count)) in
+          absurd (omega (arith, so-far .nothing i, b-within test n q (g .itself) (g .count)))
+      by-both (some p) none i h = let f = so-far .best p i in absurd (first-with-none test n h p (f .itself) (f .count))
+      by-both (some p) (some q) i h =
+          i ∙ ap some (only-first m p q (so-far .none-below) (so-far .best p i) (first-with-some test n q h)) ∙ sym h

@@ -20,10 +20,9 @@ use Rattle.scope.specs.declared.Planned.{Planned}
 use Rattle.scope.specs.declared.Refusal.{Refusal}
 use Rattle.scope.proofs.MethodAnswers.{fails, holds}
 use Rattle.checks.proofs.Searches.{found-first, none-first}
-use Rattle.finder.specs.Table.{markBook, rowMarked, rowsMarked, SearchedIn}
-use Rattle.finder.specs.Narrowing.{leastBelow, bound, bestUpTo}
+use Rattle.finder.specs.Table.{markBook, rowMarked, rowsMarked, leastBelow, SearchedIn}
 use Rattle.finder.proofs.CountSearch.{trial-is, trial-outside, trial-undivided}
-use Rattle.finder.proofs.Narrowing.{narrowed-some, narrowed-none, best-next, best-is-first}
+use Rattle.finder.proofs.Narrowing.{SoFar, none-so-far, replaced, kept, best-is-first}
 use Rattle.finder.proofs.FindAnswers.{plan-found, none-found}
 use Rattle.finder.proofs.Tables.{suits-by-table}
 
@@ -150,65 +149,46 @@ module _ {marks : List ℕ} (n d m : ℕ) where
 
 -- The best plan of n banks with d from 1 to e, and the b below which a next one is looked for.
 pub record BestIn (marks : List ℕ) (n e : ℕ) (best : Planned) (below : ℕ) : Type 0 where
-  pub is : SearchedIn marks (λ test. bestUpTo test n e) best
-  pub below-is : (o : Option Plan) → best ≡ found o → below ≡ bound n o
+  pub found-so-far :
+      (book : Book) → recordTest book ≡ none → marks ≡ markBook book (book .count)
+      → (o : Option Plan) × (best ≡ found o) × SoFar (suitable (patterns book)) n e below o
 
 module _ {marks : List ℕ} (n : ℕ) where
   pub none-best : BestIn marks n 0 noPlan n
-  unfolding bestUpTo bound found
-  none-best =
-      record {
-        is = record { is = λ book legal same. refl };
-        below-is = λ o h. sym (ap (bound n) (none-found o h refl));
-      }
+  unfolding found
+  none-best = record { found-so-far = λ book legal same. (none, refl, none-so-far (suitable (patterns book)) n) }
 
-  -- once all d's were looked at, the best one is the definition's
-  pub best-at-end :
-      {e : ℕ} {best : Planned} {below : ℕ} → BestIn marks n e best below → e ≡ n → SearchedIn marks (λ test. firstWith test n) best
-  best-at-end b all =
-      record {
-        is = λ book legal same.
-            let test : Plan → Bool = suitable (patterns book) in
-            b .is .is book legal same ∙ ap (λ (e : ℕ). found (bestUpTo test n e)) all ∙ ap found (best-is-first test n);
-      }
-
-  -- The next d: a plan with a smaller b replaces the best one, else that one stays.
-  module _ (e : ℕ) {best r : Planned} {below : ℕ} (so-far : BestIn marks n e best below)
+  -- the next d: a plan with a smaller b replaces the best one, else that one stays
+  module _ (e : ℕ) {best r : Planned} {below : ℕ} (before : BestIn marks n e best below)
       (here : SearchedIn marks (λ test. leastBelow test n (e + 1) below) r) where
-    -- the search was that below the bound
-    below-bound : SearchedIn marks (λ test. leastBelow test n (e + 1) (bound n (bestUpTo test n e))) r
-    below-bound =
-        record {
-          is = λ book legal same.
-              let test : Plan → Bool = suitable (patterns book) in
-              here .is book legal same
-              ∙ ap (λ (m : ℕ). found (leastBelow test n (e + 1) m)) (so-far .below-is (bestUpTo test n e) (so-far .is .is book legal same));
-        }
-
     pub best-replaced : {p : Plan} → r ≡ Planned.Plan p → BestIn marks n (e + 1) (Planned.Plan p) (p .b)
-    unfolding bound
+    unfolding found
     best-replaced {p} is-plan =
         record {
-          is =
-              record {
-                is = λ book legal same.
-                    let test : Plan → Bool = suitable (patterns book) in
-                    let h = plan-found (leastBelow test n (e + 1) (bound n (bestUpTo test n e))) (below-bound .is book legal same) is-plan in
-                    found-some (best-next test n e ∙ narrowed-some test n (e + 1) (bestUpTo test n e) p h);
-              };
-          below-is = λ o h. sym (ap (bound n) (plan-found o h refl));
+          found-so-far = λ book legal same.
+              let test : Plan → Bool = suitable (patterns book) in
+              let (o, is, so-far) = before .found-so-far book legal same in
+              let h = plan-found (leastBelow test n (e + 1) below) (here .is book legal same) is-plan in
+              (some p, refl, replaced test n e below o p so-far h);
         }
 
     pub best-stays : {x : Refusal} → r ≡ Planned.Refused x → BestIn marks n (e + 1) best below
     best-stays refused =
         record {
-          is =
-              record {
-                is = λ book legal same.
-                    let test : Plan → Bool = suitable (patterns book) in
-                    let h = none-found (leastBelow test n (e + 1) (bound n (bestUpTo test n e))) (below-bound .is book legal same) refused in
-                    so-far .is .is book legal same
-                    ∙ ap found (sym (best-next test n e ∙ narrowed-none test n (e + 1) (bestUpTo test n e) h));
-              };
-          below-is = so-far .below-is;
+          found-so-far = λ book legal same.
+              let test : Plan → Bool = suitable (patterns book) in
+              let (o, is, so-far) = before .found-so-far book legal same in
+              let h = none-found (leastBelow test n (e + 1) below) (here .is book legal same) refused in
+              (o, is, kept test n e below o so-far h);
         }
+
+  -- once every d was looked at
+  pub best-at-end :
+      {e : ℕ} {best : Planned} {below : ℕ} → BestIn marks n e best below → e ≡ n → SearchedIn marks (λ test. firstWith test n) best
+  best-at-end {e} {best} {below} before all =
+      record {
+        is = λ book legal same.
+            let test : Plan → Bool = suitable (patterns book) in
+            let (o, is, so-far) = before .found-so-far book legal same in
+            is ∙ ap found (best-is-first test n below o (subst (λ (k : ℕ). SoFar test n k below o) all so-far));
+      }

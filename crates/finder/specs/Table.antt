@@ -9,9 +9,9 @@ use mathlib.Core.List.{List}
 use lib.Dec.{leb, eqb}
 use lib.IntN.{ℤ, pos, negsuc, natAbs, _+ℤ_}
 use lib.ListN.{getD, set, replicate}
-use Rattle.scope.specs.Search.{someBelow}
+use Rattle.scope.specs.Search.{first, someBelow}
 use Rattle.scope.specs.Plans.{Pixel, minus, pixelAt, patternAt, patterns}
-use Rattle.scope.specs.Finding.{suitable}
+use Rattle.scope.specs.Finding.{trial, suitable}
 use Rattle.scope.specs.Numbers.{recordTest}
 use Rattle.scope.specs.Calls.{found}
 use Rattle.scope.specs.declared.Pattern.{Pattern}
@@ -62,6 +62,11 @@ unfoldable pub rowsMarked : List ℕ → ℕ → ℕ → ℕ → Bool
 unfolding someBelow rowMarked
 rowsMarked marks a b d =
     someBelow 32 λ j. leb 1 j && eqb (j % d) 0 && rowMarked marks a j ((31 + b * (j / d)) % a)
+
+-- of the plans with n banks, this d and a b below m of which a test holds, the one with least b
+unfoldable pub leastBelow : (Plan → Bool) → ℕ → ℕ → ℕ → Option Plan
+unfolding first
+leastBelow test n d m = first 0 m λ b. trial test n b d
 
 -- r is what a search by a test gives, for the test of each book whose table this is
 pub record SearchedIn (marks : List ℕ) (searched : (Plan → Bool) → Option Plan) (r : Planned) : Type 0 where

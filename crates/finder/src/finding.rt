@@ -17,8 +17,7 @@ ghost use Rattle.scope.specs.Plans.{at, minus};
 ghost use Rattle.scope.specs.Finding.{firstWith, leastOf};
 ghost use Rattle.scope.specs.Numbers.{recordTest};
 ghost use Rattle.scope.specs.Calls.{find, fewest};
-ghost use Rattle.finder.specs.Narrowing.{leastBelow};
-ghost use Rattle.finder.specs.Table.{tableCell, markFrom, markPattern, markBook, rowMarked, rowsMarked, SearchedIn};
+ghost use Rattle.finder.specs.Table.{tableCell, markFrom, markPattern, markBook, rowMarked, rowsMarked, leastBelow, SearchedIn};
 
 // The cell of (i, j) - (x, y): 63 to a row, column -31 first; 2016 where the difference is outside the half window.
 fn difference_cell(i: i8, j: i8, x: i8, y: i8) -> usize

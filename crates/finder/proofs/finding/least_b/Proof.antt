@@ -8,7 +8,7 @@ use mathlib.Core.Path.{_≡_, refl, sym, _∙_, ap}
 use mathlib.Core.Logic.{⊎-elim}
 use Rattle.scope.specs.Plans.{plan}
 use Rattle.scope.specs.Finding.{trial}
-use Rattle.finder.specs.Narrowing.{leastBelow}
+use Rattle.finder.specs.Table.{leastBelow}
 use Rattle.finder.proofs.TableSearch.{NoneFrom, none-yet, one-more-none, found-at, found-nowhere, none-below}
 use Rattle.finder.proofs.TableSearch.{row-marked-none, rows-marked-none, unmarked-found}
 use Rattle.finder.proofs.finding.least_b.Statement.{statement}
