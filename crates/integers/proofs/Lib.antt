@@ -10,4 +10,4 @@ pub mod Bezout  -- Euclid's rule, Bezout's combination, the greatest common divi
 pub mod Identities  -- determinants of two and of three vectors
 pub mod Sizes  -- sums, products and quotients fit their width
 pub mod Raised  -- signed machine numbers raised to unsigned ones
-pub mod Signs  -- the number behind the sign of a signed machine number
+pub mod TowardZero  -- the machine's quotient and remainder, brought to the floor

@@ -30,28 +30,29 @@ pub fn raised16(z: i16) -> u64
     (z as i64 + 32768) as u64
 }
 
-// The number behind z's sign: z, and -1 - z of a negative z.
-fn behind_sign(z: i32) -> u32
-    ensures { λ r. ⌜ r ≡ mag z ⌝ }
+// The sign bit, shifted down: -1 of a negative number, 0 of every other.
+fn sign(z: i32) -> i32
+    ensures { λ r. ⌜ r ≡ floorDiv z 2147483648 ⌝ }
 {
-    if z < 0 { (-1 - z) as u32 } else { z as u32 }
+    z >> 31
 }
 
-// z mod (top + 1), the remainder from 0 to top. A divisor is given as the one less, so it is never 0.
+// z mod (top + 1), the remainder from 0 to top, with no jump: the machine's remainder has z's sign, and a divisor is added where
+// its sign bit is set. A divisor is given as the one less, so it is never 0.
 pub fn remainder(z: i32, top: u16) -> u32
     ensures { λ r. ⌜ r ≡ floorMod z (top + 1) ⌝ }
 {
-    let most = top as u32;
-    let r = behind_sign(z) % (most + 1);
-    if z < 0 { most - r } else { r }
+    let d = top as i32 + 1;
+    let r = z % d;
+    (r - sign(r) * d) as u32
 }
 
-// z/(top + 1) rounded down.
+// z/(top + 1) rounded down, with no jump: the machine's quotient, less 1 where its remainder is negative.
 pub fn quotient(z: i32, top: u16) -> i32
     ensures { λ r. ⌜ r ≡ floorDiv z (top + 1) ⌝ }
 {
-    let q = (behind_sign(z) / (top as u32 + 1)) as i32;
-    if z < 0 { -1 - q } else { q }
+    let d = top as i32 + 1;
+    z / d + sign(z % d)
 }
 
 // The amount of z without its sign.
