@@ -14,6 +14,7 @@ mod pictures;
 mod plans;
 mod program;
 mod records;
+mod reduction;
 mod run_edges;
 mod runs;
 mod search;
@@ -92,6 +93,7 @@ pub fn as_told<T>(answer: Result<T, oracle::Refused>, row: impl FnOnce(T) -> Vec
 
 fn main() {
     let mut tallies = plans::run();
+    tallies.extend(reduction::run());
     tallies.extend(books::run());
     tallies.extend(finds::run());
     tallies.extend(pictures::run());
