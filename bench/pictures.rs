@@ -3,7 +3,8 @@
 use std::cell::RefCell;
 use std::hint::black_box;
 
-use crate::bankplan::raw::{bankplan_clear, bankplan_fetch, bankplan_load, bankplan_ring_fetch, bankplan_store, bankplan_sum};
+use crate::bankplan::raw::{bankplan_bank, bankplan_clear, bankplan_fetch, bankplan_load};
+use crate::bankplan::raw::{bankplan_ring_fetch, bankplan_store, bankplan_sum};
 use crate::bankplan::{Book as Record, Plan};
 use crate::{seconds, time, words};
 
@@ -27,6 +28,12 @@ impl Picture {
         let words = p.a * p.d * w.div_ceil(p.a) * h.div_ceil(p.d);
         let mem = RefCell::new((0..words).map(|k| (k * 40503 % 65521) as u16).collect());
         Picture { p, w, h, mem }
+    }
+
+    fn bank(&self, (i, j): (i16, i16)) -> Told {
+        let (p, mut answer) = (&self.p, [0; 12]);
+        let n = unsafe { bankplan_bank(p.a, p.b, p.d, i, j, &mut answer) };
+        (n, answer[0])
     }
 
     fn store(&self, (i, j): (i16, i16), x: u16) -> Told {
@@ -93,6 +100,24 @@ pub fn positions(w: u32, h: u32) -> Vec<(i16, i16)> {
     (0..1000u32).map(|k| ((16 + k * 7919 % (w - 32)) as i16, (16 + k * 104_729 % (h - 32)) as i16)).collect()
 }
 
+// Numbers that no call can guess from those before.
+fn mixed(k: u32) -> u32 {
+    let x = (k ^ k >> 16).wrapping_mul(0x85eb_ca6b);
+    let y = (x ^ x >> 13).wrapping_mul(0xc2b2_ae35);
+    y ^ y >> 16
+}
+
+// Pixels of both signs, for a bank.
+fn anywhere() -> Vec<(i16, i16)> {
+    (1..=1000).map(|k| (mixed(k) as i16, mixed(k + 1000) as i16)).collect()
+}
+
+// Positions at the left edge: columns from 0 to 3, or from -4 to 3 around the edge.
+fn at_left_edge(ring: bool, h: u32) -> Vec<(i16, i16)> {
+    let column = |k| if ring { (mixed(k) % 8) as i16 - 4 } else { (mixed(k) % 4) as i16 };
+    (1..=1000).map(|k| (column(k), (16 + k * 104_729 % (h - 32)) as i16)).collect()
+}
+
 /// One row: what is done so many times, and the time of one.
 pub fn row(name: &str, times: usize, proved: &dyn Fn() -> u64, unverified: &dyn Fn() -> u64) {
     let [x, y] = seconds([proved, unverified]).map(|s| s / times as f64);
@@ -111,6 +136,9 @@ fn same_words(pic: &Picture, at: &[(i16, i16)]) {
         assert_eq!(told(words::store(p, w, h, &mut mem, *o, k as u16).map(|()| 0u64)), (0, 0));
         assert_eq!(mem, *pic.mem.borrow());
         assert_eq!(pic.load(*o), told(words::load(p, w, h, &mem, *o)));
+    }
+    for o in anywhere() {
+        assert_eq!(pic.bank(o), told(words::bank(p, o)));
     }
     for k in [0, u64::from(p.a * p.d) - 1, u64::from(p.a * p.d)] {
         let mut mem = pic.mem.borrow().clone();
@@ -147,11 +175,21 @@ pub fn pictures(books: &[(&str, &Record, Plan)], timed: bool) {
         same_words(&pic, &at[..50]);
         same_fetches(&pic, r, &at[..50]);
         same_fetches(&ring, r, &at[..50]);
+        let edges = [false, true].map(|ring| at_left_edge(ring, h));
+        edges.iter().for_each(|at| same_fetches(&ring, r, at));
         if timed {
             if k == 0 {
                 words_table(&pic, &at);
             }
-            fetch_rows(name, &pic, &ring, r, &at);
+            let plan = format!("plan {}, {}, {}", p.a, p.b, p.d);
+            fetch_row(&format!("fetch, {name}"), &pic, false, r, &at);
+            fetch_row(&format!("ring fetch, {name}"), &ring, true, r, &at);
+            // a straight plan, and one with a slant and several rows
+            if k == 0 || k + 1 == books.len() {
+                fetch_row(&format!("fetch at the left edge, {plan}"), &pic, false, r, &edges[0]);
+                fetch_row(&format!("ring fetch at the left edge, {plan}"), &ring, true, r, &edges[1]);
+                bank_row(&plan, &pic);
+            }
         }
     }
 }
@@ -184,14 +222,22 @@ fn words_table(pic: &Picture, at: &[(i16, i16)]) {
     );
 }
 
-fn fetch_rows(name: &str, pic: &Picture, ring: &Picture, r: &Record, at: &[(i16, i16)]) {
-    for (kind, pic, rings) in [("fetch", pic, false), ("ring fetch", ring, true)] {
-        let out = RefCell::new([0; 64]);
-        row(
-            &format!("{kind}, {name}"),
-            at.len(),
-            &|| all(at, |o| pic.fetch(rings, r, 0, o, &mut *out.borrow_mut()).1),
-            &|| all(at, |o| pic.unverified_fetch(rings, black_box(r), 0, o, &mut *out.borrow_mut()).1),
-        );
-    }
+fn bank_row(plan: &str, pic: &Picture) {
+    let (p, at) = (&pic.p, anywhere());
+    row(
+        &format!("bank of a pixel, {plan}"),
+        at.len(),
+        &|| all(&at, |o| pic.bank(o).1),
+        &|| all(&at, |o| words::bank(black_box(p), o).map_or(0, u64::from)),
+    );
+}
+
+fn fetch_row(name: &str, pic: &Picture, ring: bool, r: &Record, at: &[(i16, i16)]) {
+    let out = RefCell::new([0; 64]);
+    row(
+        name,
+        at.len(),
+        &|| all(at, |o| pic.fetch(ring, r, 0, o, &mut *out.borrow_mut()).1),
+        &|| all(at, |o| pic.unverified_fetch(ring, black_box(r), 0, o, &mut *out.borrow_mut()).1),
+    );
 }

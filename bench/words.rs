@@ -9,9 +9,13 @@ struct Layout {
     across: usize,
 }
 
+fn is_plan(p: &Plan) -> bool {
+    p.d > 0 && p.b < p.a && u64::from(p.a) * u64::from(p.d) <= 1024
+}
+
 /// 11, 12, 13.
 fn layout(p: &Plan, w: u32, h: u32, words: usize) -> Result<Layout, u64> {
-    if p.d == 0 || p.b >= p.a || u64::from(p.a) * u64::from(p.d) > 1024 {
+    if !is_plan(p) {
         return Err(11);
     }
     if !(1..=4096).contains(&w) || !(1..=4096).contains(&h) {
@@ -34,6 +38,15 @@ fn place(p: &Plan, l: &Layout, i: i32, j: i32) -> usize {
     let (q, r) = (j as u32 / p.d, j as u32 % p.d);
     let bank = r * p.a + (i - (p.b * q) as i32).rem_euclid(p.a as i32) as u32;
     bank as usize * l.depth + q as usize * l.across + (i as u32 / p.a) as usize
+}
+
+#[inline(never)]
+pub fn bank(p: &Plan, (i, j): (i16, i16)) -> Result<u32, u64> {
+    if !is_plan(p) {
+        return Err(11);
+    }
+    let (a, b, d, i, j) = (p.a as i32, p.b as i32, p.d as i32, i32::from(i), i32::from(j));
+    Ok((j.rem_euclid(d) * a + (i - b * j.div_euclid(d)).rem_euclid(a)) as u32)
 }
 
 #[inline(never)]

@@ -6,8 +6,9 @@ use mathlib.Core.Path.{_≡_, refl, sym, ap, _∙_, subst}
 use mathlib.Core.List.{[], _∷_}
 use native.Mathlib.Omega.{arith}
 use native.Mathlib.Nat.{div-add-mod, mod-lt, div-eq-of-lt, div-le-self}
+use lib.Dec.{T}
 use lib.IntN.{ℤ, pos, negsuc, negℤ, natAbs, _+ℤ_, _*ℤ_, _-ℤ_}
-use lib.Signed.{mag, quotZ, remZ, mag-rem}
+use lib.Signed.{nonNeg, mag, quotZ, remZ, mag-rem}
 use mir.Syntax.{w16, w32}
 use mir.Val.{Fits, SFits, toZ, ofZ}
 use mir.Facts.{toZ-ofZ}
@@ -121,7 +122,7 @@ module _ {z : ℤ} (f : SFits w32 z) {top : ℕ} (t : Fits w16 top) where
   pub divisor-fits : SFits w32 (toZ w32 top +ℤ pos 1)
   divisor-fits = subst (SFits w32) (sym divisor-sum) (record { sfits = omega (arith, t .fits) })
 
-  divisor-is : divisor ≡ pos (top + 1)
+  pub divisor-is : divisor ≡ pos (top + 1)
   divisor-is = toZ-ofZ divisor-fits ∙ divisor-sum
 
   pub divides : (0 < ofZ w32 (toZ w32 top +ℤ pos 1)) × SFits w32 (quotZ number divisor)
@@ -130,57 +131,59 @@ module _ {z : ℤ} (f : SFits w32 z) {top : ℕ} (t : Fits w16 top) where
     rw divisor-is (rw (toZ-ofZ f) (record { sfits = omega (arith, quotient-size z d, f .sfits) })),
   )
 
-  rest-is : rest ≡ remZ z (pos d)
-  rest-is =
-      rw divisor-is (rw (toZ-ofZ f) (toZ-ofZ {w = w32} (record { sfits = omega (arith, mag-rem z (pos d), f .sfits) })))
+  pub quotient-read : toZ w32 (ofZ w32 (quotZ z (pos d))) ≡ quotZ z (pos d)
+  quotient-read = toZ-ofZ {w = w32} (record { sfits = omega (arith, quotient-size z d, f .sfits) })
+
+  pub rest-read : toZ w32 (ofZ w32 (remZ z (pos d))) ≡ remZ z (pos d)
+  rest-read = toZ-ofZ {w = w32} (record { sfits = omega (arith, mag-rem z (pos d), f .sfits) })
+
+  abbrev signOf : ℤ
+  signOf = floorDiv (remZ z (pos d)) 2147483648
 
   -- s is the sign of the remainder
-  module _ {s : ℤ} (e : s ≡ floorDiv rest 2147483648) where
-    abbrev signRead : ℤ
-    signRead = toZ w32 (ofZ w32 s)
+  pub sign-read : {s : ℤ} → s ≡ floorDiv rest 2147483648 → toZ w32 (ofZ w32 s) ≡ signOf
+  sign-read e =
+      rw (rw (divisor-is, toZ-ofZ f, rest-read) at e)
+      (toZ-ofZ {w = w32}
+      (record { sfits = omega (arith, floor-size (remZ z (pos d)) 2147483648, mag-rem z (pos d), f .sfits) }))
 
-    sign-is : signRead ≡ floorDiv (remZ z (pos d)) 2147483648
-    sign-is =
-        rw e
-        (rw rest-is
-        (toZ-ofZ {w = w32}
-        (record { sfits = omega (arith, floor-size (remZ z (pos d)) 2147483648, mag-rem z (pos d), f .sfits) })))
+  sign-size : natAbs signOf ≤ 1
+  sign-size = small-sign (remZ z (pos d)) 2147483648 (omega (arith, mag-rem z (pos d), f .sfits))
 
-    sign-size : natAbs signRead ≤ 1
-    sign-size = rw sign-is (small-sign (remZ z (pos d)) 2147483648 (omega (arith, mag-rem z (pos d), f .sfits)))
+  -- the sign times the divisor, taken off the remainder
+  pub product-fits : SFits w32 (signOf *ℤ pos d)
+  product-fits =
+      small-fits w32 65536 (signOf *ℤ pos d)
+      (omega (arith, size-of-product-at-most 1 65536 signOf (pos d) sign-size (omega (arith, t .fits))))
+      (omega arith)
 
-    pub product-fits : SFits w32 (signRead *ℤ divisor)
-    product-fits =
-        rw divisor-is
-        (small-fits w32 65536 (signRead *ℤ pos d)
-        (omega (arith, size-of-product-at-most 1 65536 signRead (pos d) sign-size (omega (arith, t .fits))))
-        (omega arith))
+  abbrev difference : ℤ
+  difference = remZ z (pos d) -ℤ toZ w32 (ofZ w32 (signOf *ℤ pos d))
 
-    abbrev difference : ℤ
-    difference = rest -ℤ toZ w32 (ofZ w32 (signRead *ℤ divisor))
+  difference-is : difference ≡ pos (floorMod z d)
+  difference-is = rw (toZ-ofZ product-fits) (remainder-to-floor z d 2147483648 (omega arith) (f .sfits))
 
-    difference-is : difference ≡ pos (floorMod z d)
-    difference-is =
-        rw (toZ-ofZ product-fits)
-        (rw rest-is (rw divisor-is (rw sign-is (remainder-to-floor z d 2147483648 (omega arith) (f .sfits)))))
+  pub difference-fits : SFits w32 difference
+  difference-fits =
+      subst (SFits w32) (sym difference-is) (record { sfits = omega (arith, remainder-below z d (omega arith), t .fits) })
 
-    pub difference-fits : SFits w32 difference
-    difference-fits =
-        subst (SFits w32) (sym difference-is) (record { sfits = omega (arith, remainder-below z d (omega arith), t .fits) })
+  difference-read : toZ w32 (ofZ w32 difference) ≡ pos (floorMod z d)
+  difference-read = toZ-ofZ difference-fits ∙ difference-is
 
-    pub difference-read : toZ w32 (ofZ w32 difference) ≡ pos (floorMod z d)
-    difference-read = toZ-ofZ difference-fits ∙ difference-is
+  pub unsigned-fits : T (nonNeg (toZ w32 (ofZ w32 difference))) × Fits w32 (natAbs (toZ w32 (ofZ w32 difference)))
+  unsigned-fits =
+      subst (λ (y : ℤ). T (nonNeg y) × Fits w32 (natAbs y)) (sym difference-read)
+      (tt, record { fits = omega (arith, remainder-below z d (omega arith), t .fits) })
 
-    abbrev sum : ℤ
-    sum = toZ w32 (ofZ w32 (quotZ number divisor)) +ℤ signRead
+  pub remainder-returned : natAbs (toZ w32 (ofZ w32 difference)) ≡ floorMod z d
+  remainder-returned = ap natAbs difference-read
 
-    sum-is : sum ≡ floorDiv z d
-    sum-is =
-        rw (toZ-ofZ (divides .1))
-        (rw divisor-is (rw (toZ-ofZ f) (rw sign-is (quotient-to-floor z d 2147483648 (omega arith) (f .sfits)))))
+  -- the sign added to the quotient
+  sum-is : quotZ z (pos d) +ℤ signOf ≡ floorDiv z d
+  sum-is = quotient-to-floor z d 2147483648 (omega arith) (f .sfits)
 
-    pub sum-fits : SFits w32 sum
-    sum-fits = subst (SFits w32) (sym sum-is) (record { sfits = omega (arith, floor-size z d, f .sfits) })
+  pub sum-fits : SFits w32 (quotZ z (pos d) +ℤ signOf)
+  sum-fits = subst (SFits w32) (sym sum-is) (record { sfits = omega (arith, floor-size z d, f .sfits) })
 
-    pub sum-read : toZ w32 (ofZ w32 sum) ≡ floorDiv z d
-    sum-read = toZ-ofZ sum-fits ∙ sum-is
+  pub quotient-returned : toZ w32 (ofZ w32 (quotZ z (pos d) +ℤ signOf)) ≡ floorDiv z d
+  quotient-returned = toZ-ofZ sum-fits ∙ sum-is

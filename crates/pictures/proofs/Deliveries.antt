@@ -3,13 +3,13 @@
 use Prim.Native.Nat.{ℕ, _≤_, _<_}
 use native.Mathlib.Omega.{arith}
 use mathlib.Core.Path.{_≡_, refl, sym, _∙_, ap, ap₂}
-use mathlib.Core.Bool.{Bool, true, false, not}
+use mathlib.Core.Bool.{Bool, true, false, not, false≢true}
 use mathlib.Core.Option.{Option, none, some}
 use mathlib.Core.List.{List, [], _∷_, map, List·Memᴰ, List·Memᴰ·head, List·Memᴰ·tail}
 use lib.IntN.{pos}
 use lib.ListN.{length}
 use Rattle.integers.proofs.Divisions.{remainder-of-small}
-use Rattle.scope.specs.Search.{firstOf, whenever}
+use Rattle.scope.specs.Search.{every, firstOf, whenever}
 use Rattle.scope.specs.Plans.{Pixel}
 use Rattle.scope.specs.Banks.{inside, wordIn, overStart, wrapped}
 use Rattle.scope.specs.Numbers.{outputTest}
@@ -24,6 +24,7 @@ use Rattle.scope.proofs.PlanFacts.{inside-means, inside-iff}
 use Rattle.scope.proofs.MethodAnswers.{demand-met, demand-fails}
 use Rattle.checks.proofs.Chains.{chain-refuses, chain-goes-on, chain-of-one, Gives, same-gives, value-given, refusal-given}
 use Rattle.checks.proofs.Deciding.{output-decides}
+use Rattle.checks.proofs.Searches.{holds-every}
 use Rattle.checks.proofs.Patterns.{same-coordinates}
 use Rattle.checks.proofs.Tests.{all-inside-iff}
 use Rattle.book.specs.Scan.{outcomeOf}
@@ -91,6 +92,15 @@ read-wrapped true p W H vs e = refl
 read-wrapped false p W H vs e =
     let all-inside = all-inside-iff W H vs .0 e in
     map-fixed (wrapped W H) vs (λ v m. inside-wrapped W H v (inside-iff W H v .1 (all-inside v m)))
+
+-- and of a plain fetch all are inside
+pub plain-inside :
+    (ring : Bool) (p : Plan) (W H : ℕ) (vs : List Pixel) → edgeTest ring p W H vs ≡ none → ring ≡ false
+    → every (inside W H) vs ≡ true
+unfolding edgeTest
+plain-inside true p W H vs e plain = absurd (false≢true (sym plain))
+plain-inside false p W H vs e plain =
+    holds-every (inside W H) vs (λ v m. inside-iff W H v .1 (all-inside-iff W H vs .0 e v m))
 
 -- What a fetch goes on with after its first tests, which found `start`.
 module _

@@ -5,7 +5,7 @@ use Prim.Native.Nat.{ℕ, _+_, _≤_, _<_}
 use native.Mathlib.Omega.{arith}
 use native.Mathlib.Decide.{ℕ-discrete}
 use mathlib.Core.Path.{_≡_, refl, sym, ap, subst, _∙_}
-use mathlib.Core.Bool.{true, false, and-false, false≢true}
+use mathlib.Core.Bool.{true, false, and-false, and-eq-true-iff, false≢true}
 use mathlib.Core.List.{List, [], _∷_, List·Memᴰ}
 use lib.ListN.{getD}
 use lib.IntN.{ℤ, pos, negsuc, _+ℤ_}
@@ -21,7 +21,7 @@ use Rattle.scope.specs.Plans.{Pixel, at, plus, pixelAt, pixels}
 use Rattle.scope.specs.Banks.{within, inside}
 use Rattle.scope.specs.declared.Pattern.{Pattern}
 use Rattle.scope.proofs.PlanFacts.{pixel-handed}
-use Rattle.checks.proofs.Searches.{holds-every, fails-every}
+use Rattle.checks.proofs.Searches.{every-holds, holds-every, fails-every}
 use Rattle.checks.proofs.Lists.{mem-map, map-mem}
 use Rattle.checks.proofs.Patterns.{pixels-mem, mem-pixels}
 use Rattle.scope.specs.Calls.{moved}
@@ -106,6 +106,20 @@ module _ (W H : ℕ) (t : Pattern) (o : Pixel) where
     row-outside h r =
         fails-every (inside W H) (moved t o) (plus o (pixelAt t e)) (moved-mem t o e h)
         (rw r (and-false (within column W)))
+
+    -- where it holds both coordinates are within their sides
+    module _ (all : every (inside W H) (moved t o) ≡ true) (h : e < t .used) where
+      both-within : (within column W ≡ true) × (within row H ≡ true)
+      unfolding inside plus pixelAt
+      both-within =
+          and-eq-true-iff (within column W) (within row H) .0
+          (every-holds (inside W H) (moved t o) all (plus o (pixelAt t e)) (moved-mem t o e h))
+
+      pub column-within : within column W ≡ true
+      column-within = both-within .0
+
+      pub row-within : within row H ≡ true
+      row-within = both-within .1
 
   -- where all are inside it holds
   pub every-inside : InsideBefore W H t o (t .used) → every (inside W H) (moved t o) ≡ true

@@ -17,7 +17,9 @@ ghost use mathlib.Core.Bool.{true, false};
 ghost use mathlib.Core.Option.{none};
 ghost use Prim.Native.Nat.{_≤_, _<_};
 ghost use lib.ListN.{length};
+ghost use Rattle.scope.specs.Search.{every};
 ghost use Rattle.scope.specs.Plans.{at, isPlan};
+ghost use Rattle.scope.specs.Banks.{inside};
 ghost use Rattle.scope.specs.Numbers.{isRing};
 ghost use Rattle.scope.specs.Calls.{pictureTest, moved, edgeTest, fetchRest, eitherFetch, fetch, ringFetch};
 ghost use Rattle.book.specs.Scan.{outcomeOf};
@@ -48,16 +50,16 @@ pub(crate) fn start_outcome(
     suits_outcome(p, n, t)
 }
 
-// Whether a ring fetch is allowed.
+// Whether a ring fetch is allowed. The bank count is formed in 32 bits, so that no division is wider.
 fn is_ring(p: Plan, w: u32, h: u32) -> bool
     requires { ⌜ isPlan p ≡ true ⌝ }
     ensures { λ r. ⌜ r ≡ isRing p w h ⌝ }
 {
-    let banks = p.banks();
-    if w as u64 % banks != 0 {
+    let banks = p.a * p.d;
+    if w % banks != 0 {
         return false;
     }
-    h as u64 % banks == 0
+    h % banks == 0
 }
 
 // The edge: 14 for a pattern moved to (i, j), or 18 for a ring fetch.
@@ -79,6 +81,7 @@ fn edge_outcome(ring: bool, t: Pattern, p: Plan, w: u32, h: u32, i: i16, j: i16)
 
 // Puts the words of a pattern moved to (i, j), wrapped, and tells how many, or 16 and the output as it was.
 fn deliver(
+    ring: bool,
     t: Pattern,
     p: Plan,
     w: u32,
@@ -88,14 +91,14 @@ fn deliver(
     j: i16,
     out: &mut [u16],
 ) -> Counted
-    requires { ⌜ (pictureTest p w h (length (now mem)) ≡ none) × (t .used ≤ 64) ⌝ }
+    requires { ⌜ (pictureTest p w h (length (now mem)) ≡ none) × (t .used ≤ 64) × (ring ≡ false → every (inside w h) (moved t (at i j)) ≡ true) ⌝ }
     ensures { λ r. ⌜ (r ≡ delivered p w h (now (mem .entry)) (moved t (at i j)) (now (out .entry)) .answer) × (now (out .exit) ≡ delivered p w h (now (mem .entry)) (moved t (at i j)) (now (out .entry)) .content) ⌝ }
 {
     let used = t.used;
     if out.len() < used {
         return Counted::Refused(Refusal::Output);
     }
-    put_words(t, p, w, h, mem, i, j, out);
+    put_words(ring, t, p, w, h, mem, i, j, out);
     Counted::Number(used as u64)
 }
 
@@ -122,7 +125,7 @@ pub(crate) fn fetch_rest(
     if let Outcome::Refused(r) = edge {
         return Counted::Refused(r);
     }
-    deliver(t, p, w, h, mem, i, j, out)
+    deliver(ring, t, p, w, h, mem, i, j, out)
 }
 
 // Either fetch of a book's pattern n.

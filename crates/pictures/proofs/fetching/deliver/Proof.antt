@@ -9,6 +9,11 @@ use Rattle.pictures.proofs.fetching.deliver.Tie as tie
 returns : tie.Need-returns
 returns c = too-short _ _ _ _ _ _ _ (c .if1 .taken)
 
+put-words-requires : tie.Need-put-words-requires
+put-words-requires c κs =
+    let s = c .before .before .before .before in
+    (s .pre .0, s .pre .1, c .before .if1 .left, λ plain. rw (pixel-handed (s .fits .i) (s .fits .j)) (s .pre .2 plain))
+
 returns-2 : tie.Need-returns-2
 returns-2 c =
     let w = c .before .before in
@@ -17,4 +22,4 @@ returns-2 c =
     enough-room _ _ _ _ _ _ _ (e .if1 .left) (pixel-handed (f .i) (f .j)) (w .put-words .ensures)
 
 pub deliver-spec : {M : Type 1} → statement M
-deliver-spec = tie.close (tie.spec returns (λ c κs. search needs) (λ c. search needs) returns-2)
+deliver-spec = tie.close (tie.spec returns put-words-requires (λ c. search needs) returns-2)

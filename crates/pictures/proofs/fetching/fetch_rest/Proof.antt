@@ -13,7 +13,7 @@ use Rattle.book.specs.Scan.{outcomeOf}
 use Rattle.book.proofs.Outcomes.{refused-found, done-found-nothing}
 use Rattle.pictures.specs.Fetching.{foundBy}
 use Rattle.pictures.proofs.CallTests.{picture-test-iff}
-use Rattle.pictures.proofs.Deliveries.{rest-turned-down, rest-at-edge, rest-delivers}
+use Rattle.pictures.proofs.Deliveries.{plain-inside, rest-turned-down, rest-at-edge, rest-delivers}
 use Rattle.pictures.proofs.fetching.fetch_rest.Statement.{statement}
 use Rattle.pictures.proofs.fetching.fetch_rest.Tie as tie
 
@@ -49,8 +49,21 @@ returns-2 c =
     let k = e .before .before in
     rest-at-edge _ _ _ _ _ _ _ _ _ (none-found (k .before)) _ (refused-found _ (edge-answer k) (e .edge .given .1))
 
+-- nor did the test of the edge
+none-at-edge :
+    (c : tie.After-enum-told2) →
+    let u = begun (c .before .before .before) .args in
+    edgeTest (u .ring) (u .p) (u .w) (u .h) (moved (u .t) (at (u .i) (u .j))) ≡ none
+none-at-edge c = done-found-nothing _ (edge-answer (c .before .before)) (c .enum-told2 .given .1)
+
 deliver-requires : tie.Need-deliver-requires
-deliver-requires c κs = shown (c .before .before .before .before)
+deliver-requires c κs =
+    let k = c .before .before .before in
+    let f = begun (k .before) .fits in (
+      shown (k .before) .0,
+      shown (k .before) .1,
+      λ plain. rw (pixel-handed (f .i) (f .j)) (plain-inside _ _ _ _ _ (none-at-edge (c .before)) plain),
+    )
 
 returns-3 : tie.Need-returns-3
 returns-3 c =
@@ -58,7 +71,7 @@ returns-3 c =
     let e = d .before .before in
     let k = e .before .before in
     let f = begun (k .before) .fits in
-    rest-delivers _ _ _ _ _ _ _ _ _ (none-found (k .before)) (done-found-nothing _ (edge-answer k) (e .enum-told2 .given .1))
+    rest-delivers _ _ _ _ _ _ _ _ _ (none-found (k .before)) (none-at-edge e)
     (pixel-handed (f .i) (f .j)) (d .deliver .ensures)
 
 pub fetch-rest-spec : {M : Type 1} → statement M

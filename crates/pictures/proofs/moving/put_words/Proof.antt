@@ -17,10 +17,10 @@ use Rattle.pictures.proofs.moving.put_words.Statement.{statement}
 use Rattle.pictures.proofs.moving.put_words.Tie as tie
 
 abbrev Inv-loop : tie.InvT-loop
-Inv-loop w h mem i j out₀ used places e₀ out e = (e ≤ used) × Put (wordsFrom mem places e) out₀ out
+Inv-loop ring w h mem i j out₀ used places e₀ out e = (e ≤ used) × Put (wordsFrom mem places e) out₀ out
 
 abbrev μ-loop : tie.MeasureT-loop
-μ-loop w h mem i j out₀ used places e₀ out e = used - e
+μ-loop ring w h mem i j out₀ used places e₀ out e = used - e
 
 -- where the places are known
 module _ (c : tie.After-find-places Inv-loop μ-loop) where
@@ -28,7 +28,7 @@ module _ (c : tie.After-find-places Inv-loop μ-loop) where
   start = c .before .before .before .before
 
   abbrev places : List ℕ
-  places = c .find-places .last .1 .1 .1 .1 .1 .1 .1 .0
+  places = c .find-places .last .1 .1 .1 .1 .1 .1 .1 .1 .0
 
   place-is : (e : ℕ) → e < start .args .t .used →
       let u = start .args in
@@ -77,7 +77,7 @@ put-words-spec =
     (tie.spec
     Inv-loop
     μ-loop
-    (λ c κs. let s = c .before .before .before in (s .pre .0, s .pre .1, refl))
+    (λ c κs. let s = c .before .before .before in (s .pre .0, s .pre .1, refl, λ plain. rw (pixel-handed (s .fits .i) (s .fits .j)) (s .pre .3 plain)))
     (λ c. (omega arith, no-words (start c .args .mem .now) (places c) _))
     (λ c. search needs)
     (λ c. omega (arith, start (c .before .before) .pre .1))

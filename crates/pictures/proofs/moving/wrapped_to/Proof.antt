@@ -3,7 +3,6 @@
 use Prim.Native.Nat.{ℕ, _+_, _-_, _≤_}
 use native.Mathlib.Omega.{arith}
 use mathlib.Core.Path.{_≡_, sym, _∙_, ap, ap₂, subst}
-use mathlib.Core.Bool.{Bool, true}
 use lib.IntN.{ℤ, pos, _+ℤ_}
 use mir.Syntax.{w8, w16, w32}
 use mir.Val.{SFits, toZ, ofZ}
@@ -12,7 +11,6 @@ use borrow.Author.Needs.{needs}
 use Rattle.integers.specs.Division.{floorMod}
 use Rattle.integers.proofs.Raised.{widened-fits, widened-is}
 use Rattle.integers.proofs.Sizes.{small-fits, size-of-sum, fitting-size}
-use Rattle.scope.specs.Banks.{within}
 use Rattle.pictures.proofs.Moved.{own-remainder, remainder-fits}
 use Rattle.pictures.proofs.moving.wrapped_to.Statement.{statement}
 use Rattle.pictures.proofs.moving.wrapped_to.Tie as tie
@@ -33,15 +31,7 @@ module _ {z c : ℤ} (fz : SFits w16 z) (fc : SFits w8 c) where
   sum-read : toZ w32 (ofZ w32 sum) ≡ z +ℤ c
   sum-read = toZ-ofZ sum-fits ∙ sum-is
 
-  -- within the side it is its own remainder
-  own : {r : Bool} (side : ℕ) → r ≡ within (toZ w16 (ofZ w16 z) +ℤ toZ w8 (ofZ w8 c)) side → r ≡ true
-      → toZ w32 (ofZ w32 sum) ≡ pos (floorMod (z +ℤ c) side)
-  own side e h =
-      sum-read
-      ∙ own-remainder (z +ℤ c) side
-      (ap₂ (λ (x y : ℤ). within (x +ℤ y) side) (sym (toZ-ofZ fz)) (sym (toZ-ofZ fc)) ∙ sym e ∙ h)
-
-  -- else the code forms the remainder
+  -- of a ring the code forms its remainder
   formed : {r : ℕ} (side : ℕ) → 1 ≤ side → r ≡ floorMod (toZ w32 (ofZ w32 sum)) (side - 1 + 1)
       → pos r ≡ pos (floorMod (z +ℤ c) side)
   formed side h e =
@@ -61,31 +51,32 @@ add-x c = sum-fits (c .fits .z) (c .fits .c)
 abbrev right : tie.Start → ℤ
 right s = pos (floorMod (s .args .z +ℤ s .args .c) (s .args .side))
 
--- it is, where the sum is within the side
-within-is : (c : tie.Then1) → let s = c .before .before in toZ w32 (ofZ w32 (sum (s .fits .z) (s .fits .c))) ≡ right s
-within-is c =
+sides : (s : tie.Start) → (1 ≤ s .args .side) × (s .args .side ≤ 4096)
+sides s = (s .pre .0, s .pre .1)
+
+remainder-is : (c : tie.After-remainder) → pos (c .remainder .result) ≡ right (c .before .before)
+remainder-is c =
     let s = c .before .before in
-    own (s .fits .z) (s .fits .c) (s .args .side) (c .before .is-within .ensures) (c .if1 .taken)
+    formed (s .fits .z) (s .fits .c) (s .args .side) (s .pre .0) (c .remainder .ensures)
 
 cast-result : tie.Need-cast-result
-cast-result c = remainder-fits _ _ (c .before .before .pre) (within-is c)
+cast-result c = remainder-fits _ _ (sides (c .before .before)) (remainder-is c)
 
 returns : tie.Need-returns
-returns c = toZ-ofZ (cast-result c) ∙ within-is c
+returns c = toZ-ofZ (cast-result c) ∙ remainder-is c
 
--- and where it is not
-module _ (c : tie.After-remainder) where
-  abbrev start : tie.Start
-  start = c .before .before .before
-
-  remainder-is : pos (c .remainder .result) ≡ right start
-  remainder-is = formed (start .fits .z) (start .fits .c) (start .args .side) (start .pre .0) (c .remainder .ensures)
+-- of a plain fetch it is within the side, and so its own remainder
+own : (c : tie.Else1) → let s = c .before in toZ w32 (ofZ w32 (sum (s .fits .z) (s .fits .c))) ≡ right s
+own c =
+    let s = c .before in
+    sum-read (s .fits .z) (s .fits .c)
+    ∙ own-remainder (s .args .z +ℤ s .args .c) (s .args .side) (s .pre .2 (c .if1 .left))
 
 cast-result-2 : tie.Need-cast-result-2
-cast-result-2 c = remainder-fits _ _ (start c .pre) (remainder-is c)
+cast-result-2 c = remainder-fits _ _ (sides (c .before)) (own c)
 
 returns-2 : tie.Need-returns-2
-returns-2 c = toZ-ofZ (cast-result-2 c) ∙ remainder-is c
+returns-2 c = toZ-ofZ (cast-result-2 c) ∙ own c
 
 pub wrapped-to-spec : {M : Type 1} → statement M
 wrapped-to-spec =
@@ -94,9 +85,8 @@ wrapped-to-spec =
     cast-x
     cast-x-2
     add-x
-    (λ c κs. search needs)
+    (λ c. search needs) (λ c. search needs) (λ c κs. search needs)
     cast-result
     returns
-    (λ c. search needs) (λ c. search needs) (λ c κs. search needs)
     cast-result-2
     returns-2)
