@@ -8,7 +8,7 @@ use std::fmt;
 use std::mem::{offset_of, size_of};
 
 /// The version of this file, and of the library that is built from the same tree.
-pub const VERSION: &str = "0.2.0";
+pub const VERSION: &str = "0.3.0";
 
 /// The banks of a plan, the finder's limit and a determinant's size, at most.
 pub const MAX_BANKS: u32 = 1024;

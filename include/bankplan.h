@@ -54,9 +54,9 @@ extern "C" {
 
 /* The version of this header, and of the library that is built from the same tree. */
 #define BANKPLAN_VERSION_MAJOR 0
-#define BANKPLAN_VERSION_MINOR 2
+#define BANKPLAN_VERSION_MINOR 3
 #define BANKPLAN_VERSION_PATCH 0
-#define BANKPLAN_VERSION "0.2.0"
+#define BANKPLAN_VERSION "0.3.0"
 
 /* The limits of document 01, and how long the arrays are that go with them. */
 enum bankplan_limit {

@@ -17,6 +17,8 @@ row x y = record { computed = x; stated = y }
 neg : ℕ → ℤ
 neg n = negℤ (pos n)
 
+-- The remainder has both edges of signed 32 bits and of a: "for every signed 32-bit number and every a from 1 to 1024" (document
+-- 02, Card 2).
 figures : List Row
 unfolding row neg floorDiv floorMod ceilDiv gcd
 figures =
@@ -28,6 +30,13 @@ figures =
     ∷ row (pos (floorMod (neg 1) 6)) (pos 5)
     ∷ row (pos (floorMod (neg 6) 6)) (pos 0)
     ∷ row (pos (floorMod (neg 7) 6)) (pos 5)
+    ∷ row (pos (floorMod (neg 1) 1)) (pos 0)
+    ∷ row (pos (floorMod (neg 1) 1024)) (pos 1023)
+    ∷ row (pos (floorMod (neg 2147483648) 1)) (pos 0)
+    ∷ row (pos (floorMod (neg 2147483648) 1023)) (pos 1021)
+    ∷ row (pos (floorMod (neg 2147483648) 1024)) (pos 0)
+    ∷ row (pos (floorMod (neg 2147483647) 1024)) (pos 1)
+    ∷ row (pos (floorMod (pos 2147483647) 1024)) (pos 1023)
     ∷ row (pos (ceilDiv 7 5)) (pos 2)
     ∷ row (pos (ceilDiv 10 5)) (pos 2)
     ∷ row (pos (gcd 12 18)) (pos 6)

@@ -37,8 +37,9 @@ fn sign(z: i32) -> i32
     z >> 31
 }
 
-// z mod (top + 1), the remainder from 0 to top, with no jump: the machine's remainder has z's sign, and a divisor is added where
-// its sign bit is set. A divisor is given as the one less, so it is never 0.
+// z mod (top + 1), the remainder from 0 to top, without a jump (document 02, Card 2: "It becomes arithmetic on the remainder"): the
+// machine's remainder has z's sign, and the divisor is added where its sign bit is set. A divisor is given as the one less, so it
+// is never 0.
 pub fn remainder(z: i32, top: u16) -> u32
     ensures { λ r. ⌜ r ≡ floorMod z (top + 1) ⌝ }
 {
@@ -47,7 +48,7 @@ pub fn remainder(z: i32, top: u16) -> u32
     (r - sign(r) * d) as u32
 }
 
-// z/(top + 1) rounded down, with no jump: the machine's quotient, less 1 where its remainder is negative.
+// z/(top + 1) rounded down, without a jump: the machine's quotient, less 1 where its remainder is negative.
 pub fn quotient(z: i32, top: u16) -> i32
     ensures { λ r. ⌜ r ≡ floorDiv z (top + 1) ⌝ }
 {

@@ -42,9 +42,9 @@ element-copy-out-wrapped-to c = omega (arith, c .before .before .pre .1)
 wrapped-to-requires : tie.Need-wrapped-to-requires Inv-loop μ-loop
 wrapped-to-requires c κs =
     let l = c .before .before in
-    let side = picture (l .before) .W-side in (
-      side .0,
-      side .1,
+    let sides = picture (l .before) in (
+      omega (arith, sides),
+      omega (arith, sides),
       λ plain.
           rw (number-handed w8 (c .wrapped-to-arg .given))
           (column-within _ _ _ _ (l .loop .e) (all-inside (l .before) plain) (c .before .loop-test .taken)),
@@ -54,9 +54,9 @@ wrapped-to-requires-2 : tie.Need-wrapped-to-requires-2 Inv-loop μ-loop
 wrapped-to-requires-2 c κs =
     let i = c .before .before .before in
     let l = i .before in
-    let side = picture (l .before) .H-side in (
-      side .0,
-      side .1,
+    let sides = picture (l .before) in (
+      omega (arith, sides),
+      omega (arith, sides),
       λ plain.
           rw (number-handed w8 (c .wrapped-to-arg2 .given))
           (row-within _ _ _ _ (l .loop .e) (all-inside (l .before) plain) (i .loop-test .taken)),
