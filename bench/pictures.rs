@@ -109,13 +109,13 @@ fn mixed(k: u32) -> u32 {
 
 // Pixels of both signs, for a bank.
 fn anywhere() -> Vec<(i16, i16)> {
-    (1..=1000).map(|k| (mixed(k) as i16, mixed(k + 1000) as i16)).collect()
+    (1..=50_000).map(|k| (mixed(k) as i16, mixed(k + 50_000) as i16)).collect()
 }
 
 // Positions at the left edge: columns from 0 to 3, or from -4 to 3 around the edge.
 fn at_left_edge(ring: bool, h: u32) -> Vec<(i16, i16)> {
     let column = |k| if ring { (mixed(k) % 8) as i16 - 4 } else { (mixed(k) % 4) as i16 };
-    (1..=1000).map(|k| (column(k), (16 + k * 104_729 % (h - 32)) as i16)).collect()
+    (1..=50_000).map(|k| (column(k), (16 + mixed(k + 50_000) % (h - 32)) as i16)).collect()
 }
 
 /// One row: what is done so many times, and the time of one.
