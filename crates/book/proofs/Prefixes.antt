@@ -102,7 +102,7 @@ module _
   pub pixels-before-within : gather 0 (length t) (pixelIn s (length ts)) ≡ t
   pixels-before-within = pixels-of-within .0
 
-  pixel-of-within : (e : ℕ) → e < length t → getD t e origin ≡ pixelIn s (length ts) e
+  pub pixel-of-within : (e : ℕ) → e < length t → getD t e origin ≡ pixelIn s (length ts) e
   pixel-of-within e h =
       ap (λ vs. getD vs e origin) (sym pixels-before-within) ∙ getD-gather 0 (length t) (pixelIn s (length ts)) e origin h
       ∙ ap (pixelIn s (length ts)) (zero-add e)

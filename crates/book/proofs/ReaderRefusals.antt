@@ -3,37 +3,38 @@
 -- Assumes nothing.
 use Prim.Native.Nat.{ℕ, suc, _+_, _≤_, _<_}
 use native.Mathlib.Omega.{arith}
-use mathlib.Core.Path.{_≡_, refl, sym, _∙_, ap}
+use mathlib.Core.Path.{_≡_, refl, sym, _∙_, ap, subst}
 use mathlib.Core.Logic.{_⊎_, inl, inr}
 use mathlib.Core.Option.{Option, none, some}
 use mathlib.Core.List.{List, [], _∷_, _++_, List·Memᴰ}
 use lib.Dec.{leb}
-use lib.ListN.{length}
+use lib.ListN.{length, getD}
 use Rattle.integers.proofs.Comparisons.{leb-iff, leb-false-iff}
-use Rattle.scope.specs.Search.{first, whenever, firstOf}
+use Rattle.scope.specs.Search.{first, gather, whenever, firstOf}
 use Rattle.scope.specs.Plans.{Pixel, at}
 use Rattle.scope.specs.Books.{byte, signed, start, bookOf}
 use Rattle.scope.specs.Numbers.{refusal, turnedDown, ofOutcome, countTest, pixelTest, countRead, patternRead}
 use Rattle.scope.specs.Numbers.{extraTest, bytesTest, numberTest}
 use Rattle.scope.specs.Calls.{readBook, partTest, partOutcome}
-use Rattle.scope.specs.promises.Meaning.{InRange}
+use Rattle.scope.specs.promises.Meaning.{InRange, Lower}
 use Rattle.scope.specs.promises.RefusalPromises.{bytesSoFar, PatternsSoFar, bytesWithin, PixelsSoFar, readAnswer, ReaderRefuses}
 use Rattle.scope.specs.declared.Clash.{Clash}
 use Rattle.scope.specs.declared.Outcome.{Outcome}
 use Rattle.scope.specs.declared.Reading.{Reading}
 use Rattle.scope.specs.declared.Refusal.{Refusal}
 use Rattle.scope.specs.declared.Refusal.the-variants.{Ends, Count, Coordinate, Repeat, Extra, NoPattern}
-use Rattle.checks.proofs.Searches.{At, mem-gather, none-whenever, some-whenever}
+use Rattle.checks.proofs.Searches.{At, mem-gather, gather-mem, none-whenever, some-whenever}
 use Rattle.checks.proofs.Lists.{append-nil}
+use Rattle.checks.proofs.Patterns.{origin}
 use Rattle.checks.proofs.Chains.{value-not-refusal, chain-refuses, chain-goes-on, answered-some, RefusedBy, answered-refusal}
-use Rattle.checks.proofs.BookRefusals.{count-refused, column-refused, row-refused, repeat-refused}
+use Rattle.checks.proofs.BookRefusals.{count-refused, column-refused, row-refused, repeat-refused, lower-refused}
 use Rattle.book.proofs.Bytes.{Rest, length-of-rest, first-of-rest, place, pixelIn}
 use Rattle.book.proofs.Written.{pixel-of-bytes}
 use Rattle.book.proofs.Reading.{FromTo}
 use Rattle.book.proofs.ReadWrite.{read-taken-iff}
 use Rattle.book.proofs.Parts.{count-read}
 use Rattle.book.proofs.Prefixes.{rest-so-far, length-so-far, next-pattern-decides}
-use Rattle.book.proofs.Prefixes.{rest-of-within, length-of-within, pixels-before-within, next-pixel-decides}
+use Rattle.book.proofs.Prefixes.{rest-of-within, length-of-within, pixels-before-within, pixel-of-within, next-pixel-decides}
 use Rattle.book.proofs.Longer.{more-after-taken}
 use Rattle.book.proofs.Scanning.{ends-early, both-there, count-decides-from}
 
@@ -187,6 +188,23 @@ module _ (m : ℕ) (ts : List (List Pixel)) (c : ℕ) (t : List Pixel) (legal : 
             mem-gather 0 (length t) pixel (at (signed x) (signed y))
             (rw (pixels-before-within whole m ts c t (x ∷ y ∷ rest) legal (from-start whole)) among)
 
+    falling :
+        InRange (signed x) → InRange (signed y) → (List·Memᴰ (at (signed x) (signed y)) t → ⊥)
+        → (l : ℕ) → suc l ≡ length t → Lower (at (signed x) (signed y)) (getD t l origin) → readAnswer whole ≡ refusal 19 here none
+    unfolding at
+    falling column row new l next below =
+        bad-pixel (Refusal.Lower here)
+        (lower-refused here (suc here) pixel (length t) (rw pixel-is column) (rw pixel-is row) unlike l next
+        (rw (pixel-is, sym (pixel-of-within whole m ts c t (x ∷ y ∷ rest) legal (from-start whole) l (omega arith))) below))
+      where
+        unlike : (e : ℕ) → e < length t → pixel e ≡ pixel (length t) → ⊥
+        unlike e h same =
+            new
+            (subst (λ (ws : List Pixel). List·Memᴰ (at (signed x) (signed y)) ws)
+            (pixels-before-within whole m ts c t (x ∷ y ∷ rest) legal (from-start whole))
+            (subst (λ (v : Pixel). List·Memᴰ v (gather 0 (length t) pixel)) (same ∙ pixel-is)
+            (gather-mem 0 (length t) pixel e (omega arith) (omega arith))))
+
 -- A pattern's part is refused as the book is, and by 17 where the book has no such pattern.
 module _ (s : List ℕ) (k : ℕ) where
   part-refused : (r : Refusal) → partTest s k ≡ some r → ofOutcome (partOutcome s k) ≡ turnedDown r
@@ -218,6 +236,7 @@ reader-refuses =
       column-3 = λ m ts c t x y rest legal. bad-column m ts c t legal x y rest;
       row-3 = λ m ts c t x y rest legal. bad-row m ts c t legal x y rest;
       repeat-4 = λ m ts c t x y rest legal. repeated m ts c t legal x y rest;
+      lower-19 = λ m ts c t x y rest legal. falling m ts c t legal x y rest;
       extra-5 = λ s rest e more.
           read-refused (s ++ rest) (Extra (length s)) (more-after-taken s rest (read-taken-iff s .0 e) more);
       record-of-none = no-record;

@@ -1,17 +1,17 @@
 -- The unused entries of a record count neither in its tests nor in its patterns, and the reader sets them to 0.
 -- Assumes nothing.
-use Prim.Native.Nat.{ℕ, _≤_, _<_}
+use Prim.Native.Nat.{ℕ, zero, suc, _≤_, _<_}
 use native.Mathlib.Omega.{arith}
 use native.Mathlib.Decide.{decLt}
-use mathlib.Core.Path.{_≡_, sym, _∙_, ap, ap₂}
+use mathlib.Core.Path.{_≡_, refl, sym, _∙_, ap, ap₂}
 use mathlib.Core.Option.{Option, none, some}
 use mathlib.Core.List.{List, []}
 use lib.IntN.{pos}
 use lib.ListN.{length, getD, List·getD-eq-default}
 use Rattle.scope.specs.Search.{first, gather}
-use Rattle.scope.specs.Plans.{Pixel, at, samePixel, pixelAt, noPattern, patternAt, pixels, patterns}
+use Rattle.scope.specs.Plans.{Pixel, at, samePixel, lower, pixelAt, noPattern, patternAt, pixels, patterns}
 use Rattle.scope.specs.Books.{patternOf, bookOf, bookIn}
-use Rattle.scope.specs.Numbers.{repeats, pixelTest, patternTest, recordTest, bytesTest}
+use Rattle.scope.specs.Numbers.{repeats, falls, pixelTest, patternTest, recordTest, bytesTest}
 use Rattle.scope.specs.Calls.{answered, readBook}
 use Rattle.scope.specs.promises.Meaning.{IsBook}
 use Rattle.scope.specs.promises.BookPromises.{SameUsed, ReaderSetsZero}
@@ -32,7 +32,7 @@ first-from-0-same :
 first-from-0-same {n} {f} {g} e same =
     first-same 0 n f g (λ i low high. same i (omega arith)) ∙ ap (λ count. first 0 count g) e
 
-gather-from-0-same :
+pub gather-from-0-same :
     {A : Type 0} {n m : ℕ} {f g : ℕ → A} → n ≡ m → ((i : ℕ) → i < n → f i ≡ g i) → gather 0 n f ≡ gather 0 m g
 gather-from-0-same {n} {f} {g} e same =
     gather-same 0 n f g (λ i low high. same i (omega arith)) ∙ ap (λ count. gather 0 count g) e
@@ -44,10 +44,15 @@ repeats-same e f g same =
     someBelow-same e (λ l. samePixel (f l) (f e)) (λ l. samePixel (g l) (g e))
     (λ l h. ap₂ samePixel (same l (omega arith)) (same e (omega arith)))
 
+falls-same : (e : ℕ) (f g : ℕ → Pixel) → ((l : ℕ) → l ≤ e → f l ≡ g l) → falls f e ≡ falls g e
+unfolding falls
+falls-same zero f g same = refl
+falls-same (suc e) f g same = ap₂ lower (same (suc e) (omega arith)) (same e (omega arith))
+
 pub pixelTest-same :
     (i j e : ℕ) (f g : ℕ → Pixel) → ((l : ℕ) → l ≤ e → f l ≡ g l) → pixelTest i j f e ≡ pixelTest i j g e
 unfolding pixelTest
-pixelTest-same i j e f g same = cc (same e (omega arith), repeats-same e f g same)
+pixelTest-same i j e f g same = cc (same e (omega arith), repeats-same e f g same, falls-same e f g same)
 
 -- Records that agree where it counts pass the same tests and have the same patterns.
 module _ (book other : Book) (same : SameUsed book other) where

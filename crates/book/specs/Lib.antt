@@ -1,2 +1,2 @@
 -- What the code on books goes by.
-pub mod Scan  -- a test's answer, a pattern's entry, the window's cells and flags
+pub mod Scan  -- a test's answer, a pattern's entry, the window's cells

@@ -1,14 +1,15 @@
--- What the code goes by: a test's answer, the entry for a pattern's number, the cells of the window and the flags of a
--- pattern's pixels there. The laws in proofs/ lead from them to the definitions of `scope`.
+-- What the code goes by: a test's answer, the entry for a pattern's number, and the cells of a pattern's pixels in the window.
+-- The laws in proofs/ lead from them to the definitions of `scope`.
 -- Assumes nothing.
-use Prim.Native.Nat.{ℕ, _+_, _*_, _<_}
+use Prim.Native.Nat.{ℕ, zero, suc, _+_, _*_, _<_}
 use mathlib.Core.Path.{_≡_}
 use mathlib.Core.Option.{Option}
 use mathlib.Core.List.{List}
 use mathlib.Core.Bool.{Bool, true, false, cond}
-use lib.Dec.{ltb}
+use lib.Dec.{ltb, eqb}
 use lib.IntN.{pos, natAbs, _+ℤ_}
 use lib.ListN.{length, getD}
+use Rattle.scope.specs.Search.{someBelow}
 use Rattle.scope.specs.Plans.{Pixel}
 use Rattle.scope.specs.Numbers.{small, pixelTest}
 use Rattle.scope.specs.Calls.{answered}
@@ -23,23 +24,33 @@ outcomeOf t = answered t Outcome.Refused Outcome.Done
 abbrev pub entryNumber : ℕ → ℕ
 entryNumber n = cond (ltb n 16) n 15
 
--- a pixel's cell, 0 to 1023, in the window of columns and rows from -16 to 15; 1024 where the column is outside, else 1025 where
--- the row is
+-- a pixel's cell, 0 to 1023, in the window of columns and rows from -16 to 15, row by row, so that cells ascend as pixels do by
+-- row, then column; 1024 where the column is outside, else 1025 where the row is
 unfoldable pub cellOf : Pixel → ℕ
 unfolding small
 cellOf v =
     cond (small (v .column))
-    (cond (small (v .row)) (32 * natAbs (v .column +ℤ pos 16) + natAbs (v .row +ℤ pos 16)) 1025)
+    (cond (small (v .row)) (32 * natAbs (v .row +ℤ pos 16) + natAbs (v .column +ℤ pos 16)) 1025)
     1024
 
--- the flags say which cells the pixels before position e have
-pub record Seen (flags : List Bool) (pixel : ℕ → Pixel) (e : ℕ) : Type 0 where
-  pub size : length flags ≡ 1024
-  pub marked : (l : ℕ) → l < e → getD flags (cellOf (pixel l)) false ≡ true
-  pub only : (k : ℕ) → k < 1024 → getD flags k false ≡ true → (l : ℕ) × (l < e) × (cellOf (pixel l) ≡ k)
+-- the cell k comes after the last of the first e, and is one of them
+unfoldable pub comesAfter : List ℕ → ℕ → ℕ → Bool
+comesAfter cells zero k = true
+comesAfter cells (suc e) k = ltb (getD cells e 0) k
 
--- the pixel v was tested by the flags of the pixels before it, whatever these and its position are: the outcome is that of its
--- tests, and where they find nothing the flags have it too
-pub record Tested (i j : ℕ) (v : Pixel) (flags after : List Bool) (outcome : Outcome) : Type 0 where
-  pub answer : (pixel : ℕ → Pixel) (e : ℕ) → Seen flags pixel e → pixel e ≡ v → outcome ≡ outcomeOf (pixelTest i j pixel e)
-  pub passed : (pixel : ℕ → Pixel) (e : ℕ) → Seen flags pixel e → pixel e ≡ v → outcome ≡ Outcome.Done → Seen after pixel (e + 1)
+unfoldable pub isAmong : List ℕ → ℕ → ℕ → Bool
+unfolding someBelow
+isAmong cells e k = someBelow e λ l. eqb (getD cells l 0) k
+
+-- the first e of 64 cells are those of the pixels before position e, all in the window, and ascend
+pub record Passed (cells : List ℕ) (pixel : ℕ → Pixel) (e : ℕ) : Type 0 where
+  pub size : length cells ≡ 64
+  pub cell : (l : ℕ) → l < e → getD cells l 0 ≡ cellOf (pixel l)
+  pub inside : (l : ℕ) → l < e → cellOf (pixel l) < 1024
+  pub ascend : (l m : ℕ) → l < m → m < e → cellOf (pixel l) < cellOf (pixel m)
+
+-- the pixel v at position e was tested by the cells of the pixels before it, whatever these are: the outcome is that of its
+-- tests, and where they find nothing the cells have its own too
+pub record Tested (i j e : ℕ) (v : Pixel) (cells after : List ℕ) (outcome : Outcome) : Type 0 where
+  pub answer : (pixel : ℕ → Pixel) → Passed cells pixel e → pixel e ≡ v → outcome ≡ outcomeOf (pixelTest i j pixel e)
+  pub passed : (pixel : ℕ → Pixel) → Passed cells pixel e → pixel e ≡ v → outcome ≡ Outcome.Done → Passed after pixel (e + 1)

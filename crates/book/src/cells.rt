@@ -1,18 +1,19 @@
-// The window of a pattern's pixels, columns and rows from -16 to 15, and the test of one pixel by its flags.
+// The window of a pattern's pixels, columns and rows from -16 to 15, and the test of one pixel by the cells of those before it.
 use integers::raised8;
 use scope::Outcome;
 use scope::Refusal;
 ghost use mathlib.Core.Path.{_≡_};
+ghost use Prim.Native.Nat.{_≤_, _<_};
 ghost use lib.ListN.{length};
 ghost use Rattle.scope.specs.Plans.{at};
-ghost use Rattle.book.specs.Scan.{cellOf, Tested};
+ghost use Rattle.book.specs.Scan.{cellOf, comesAfter, isAmong, Tested};
 
-// A pixel's place in the window, from 0 to 1023; 1024 where its column is outside, else 1025 where its row is.
-fn cell(i: i8, j: i8) -> usize
+// A pixel's place in the window, row by row, from 0 to 1023; 1024 where its column is outside, else 1025 where its row is.
+fn cell(i: i8, j: i8) -> u16
     ensures { λ r. ⌜ r ≡ cellOf (at i j) ⌝ }
 {
-    let x = raised8(i) as usize;
-    let y = raised8(j) as usize;
+    let x = raised8(i) as u16;
+    let y = raised8(j) as u16;
     if x < 112 {
         return 1024;
     }
@@ -25,14 +26,48 @@ fn cell(i: i8, j: i8) -> usize
     if 143 < y {
         return 1025;
     }
-    32 * (x - 112) + (y - 112)
+    32 * (y - 112) + (x - 112)
 }
 
-// The tests of the pixel (x, y); i and j are the places of its column and its row. `seen` has the flags of the pixels before
-// it in its pattern, and gets its own.
-pub(crate) fn pixel_outcome(x: i8, y: i8, i: usize, j: usize, seen: &mut [bool]) -> Outcome
-    requires { ⌜ length (now seen) ≡ 1024 ⌝ }
-    ensures { λ r. ⌜ Tested i j (at x y) (now (seen .entry)) (now (seen .exit)) r ⌝ }
+// Whether the cell k comes after the last of the first e.
+fn comes_after(cells: &[u16], e: usize, k: u16) -> bool
+    requires { ⌜ e ≤ length (now cells) ⌝ }
+    ensures { λ r. ⌜ r ≡ comesAfter (now (cells .entry)) e k ⌝ }
+{
+    if e == 0 {
+        return true;
+    }
+    cells[e - 1] < k
+}
+
+// Whether k is one of the first e cells.
+fn is_among(cells: &[u16], e: usize, k: u16) -> bool
+    requires { ⌜ e ≤ length (now cells) ⌝ }
+    ensures { λ r. ⌜ r ≡ isAmong (now (cells .entry)) e k ⌝ }
+{
+    let mut l = 0;
+    while l < e {
+        if cells[l] == k {
+            return true;
+        }
+        l += 1;
+    }
+    false
+}
+
+// The tests of the pixel (x, y) at position e of its pattern; i and j are the places of its column and its row. The first e of
+// `cells` are those of the pixels before it, which ascend, so a pixel that comes after the last of them is neither a repeat nor
+// lower. It gets its own.
+pub(crate) fn pixel_outcome(
+    x: i8,
+    y: i8,
+    i: usize,
+    j: usize,
+    e: usize,
+    cells: &mut [u16],
+) -> Outcome
+    requires { ⌜ (length (now cells) ≡ 64) × (e < 64) ⌝ }
+    ensures { λ r. ⌜ Tested i j e (at x y) (now (cells .entry)) (now (cells .exit)) r ⌝ }
 {
     let k = cell(x, y);
     if k == 1024 {
@@ -41,9 +76,12 @@ pub(crate) fn pixel_outcome(x: i8, y: i8, i: usize, j: usize, seen: &mut [bool])
     if k == 1025 {
         return Outcome::Refused(Refusal::Coordinate(j));
     }
-    if seen[k] {
+    if comes_after(cells, e, k) {
+        cells[e] = k;
+        return Outcome::Done;
+    }
+    if is_among(cells, e, k) {
         return Outcome::Refused(Refusal::Repeat(i));
     }
-    seen[k] = true;
-    Outcome::Done
+    Outcome::Refused(Refusal::Lower(i))
 }

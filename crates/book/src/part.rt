@@ -24,7 +24,7 @@ fn start_of(s: &[u8], n: usize) -> usize
     at
 }
 
-// Whether pattern n has a part of these bytes, or 1 to 5, 17.
+// Whether pattern n has a part of these bytes, or 1 to 5, 19, 17.
 pub fn part_outcome(s: &[u8], n: usize) -> Outcome
     ensures { λ r. ⌜ r ≡ partOutcome (now (s .entry)) n ⌝ }
 {

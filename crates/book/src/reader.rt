@@ -79,7 +79,7 @@ fn book_at(s: &[u8]) -> Book
     Book { patterns, count }
 }
 
-// Reads a book's bytes into a record, or 1 to 5 with the empty record.
+// Reads a book's bytes into a record, or 1 to 5, 19 with the empty record.
 pub fn read_book(s: &[u8]) -> Reading
     ensures { λ r. ⌜ r ≡ readBook (now (s .entry)) ⌝ }
 {

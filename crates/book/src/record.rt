@@ -1,4 +1,4 @@
-// The validity of a book record: 2, 3, 4 in book order, with place 0.
+// The validity of a book record: 2, 3, 4, 19 in book order, with place 0.
 use crate::cells::pixel_outcome;
 use scope::Book;
 use scope::Outcome;
@@ -27,10 +27,10 @@ fn pixels_outcome(t: Pattern) -> Outcome
     let columns = t.columns;
     let rows = t.rows;
     let used = t.used;
-    let mut seen = [false; 1024];
+    let mut cells = [0u16; 64];
     let mut e = 0;
     while e < used {
-        let outcome = pixel_outcome(columns[e], rows[e], 0, 0, &mut seen);
+        let outcome = pixel_outcome(columns[e], rows[e], 0, 0, e, &mut cells);
         if let Outcome::Refused(_) = outcome {
             return outcome;
         }
@@ -53,7 +53,7 @@ fn pattern_outcome(t: Pattern) -> Outcome
     pixels_outcome(t)
 }
 
-// Whether a record is a book, or 2, 3, 4.
+// Whether a record is a book, or 2, 3, 4, 19.
 pub fn record_outcome(book: Book) -> Outcome
     ensures { λ r. ⌜ r ≡ recordOutcome book ⌝ }
 {

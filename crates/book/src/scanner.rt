@@ -1,4 +1,4 @@
-// The tests of a book's bytes, 1 to 5, left to right.
+// The tests of a book's bytes, 1 to 5 and 19, left to right.
 use crate::cells::pixel_outcome;
 use scope::Outcome;
 use scope::Refusal;
@@ -26,7 +26,7 @@ fn pixels_outcome(s: &[u8], at: usize, count: usize) -> Outcome
     requires { ⌜ (at ≤ length (now s)) × (count ≤ 64) ⌝ }
     ensures { λ r. ⌜ r ≡ outcomeOf (first 0 count (pixelRead (now (s .entry)) at)) ⌝ }
 {
-    let mut seen = [false; 1024];
+    let mut cells = [0u16; 64];
     let mut e = 0;
     while e < count {
         let i = at + 2 * e;
@@ -38,7 +38,8 @@ fn pixels_outcome(s: &[u8], at: usize, count: usize) -> Outcome
             signed_byte(s[i + 1]),
             i,
             i + 1,
-            &mut seen,
+            e,
+            &mut cells,
         );
         if let Outcome::Refused(_) = outcome {
             return outcome;

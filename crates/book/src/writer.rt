@@ -73,7 +73,7 @@ fn put_book(book: Book, out: &mut [u8])
     }
 }
 
-// Writes a record's bytes to the start of the output and tells how many, or 2, 3, 4, 16 and the output as it was.
+// Writes a record's bytes to the start of the output and tells how many, or 2, 3, 4, 19, 16 and the output as it was.
 pub fn write_book(book: Book, out: &mut [u8]) -> Counted
     ensures { λ r. ⌜ (r ≡ writeBook book (now (out .entry)) .answer) × (now (out .exit) ≡ writeBook book (now (out .entry)) .content) ⌝ }
 {

@@ -1,6 +1,6 @@
 -- What the tests of a book record give where it is not legal: the number of the first condition that holds, and its place.
 -- Assumes nothing.
-use Prim.Native.Nat.{ℕ, _≤_, _<_}
+use Prim.Native.Nat.{ℕ, suc, _≤_, _<_}
 use native.Mathlib.Omega.{arith}
 use mathlib.Core.Path.{_≡_, refl, sym, _∙_}
 use mathlib.Core.Logic.{_↔_}
@@ -11,8 +11,8 @@ use lib.Dec.{leb}
 use lib.IntN.{ℤ}
 use Rattle.scope.specs.Search.{first, whenever, firstOf}
 use Rattle.scope.specs.Plans.{Pixel, pixelAt, patternAt}
-use Rattle.scope.specs.Numbers.{countTest, small, repeats, pixelTest, patternTest, recordTest}
-use Rattle.scope.specs.promises.Meaning.{InRange}
+use Rattle.scope.specs.Numbers.{countTest, small, repeats, falls, pixelTest, patternTest, recordTest}
+use Rattle.scope.specs.promises.Meaning.{InRange, Lower}
 use Rattle.scope.specs.promises.RefusalPromises.{LegalUpTo, PixelsUpTo, RecordRefuses}
 use Rattle.scope.specs.declared.Pattern.{Pattern}
 use Rattle.scope.specs.declared.Book.{Book}
@@ -21,6 +21,7 @@ use Rattle.scope.specs.declared.Refusal.the-variants.{Count, Coordinate, Repeat
 use Rattle.checks.proofs.Searches.{true-not-false, whenever-not-none, found-from-0}
 use Rattle.checks.proofs.Chains.{chain-refuses, chain-goes-on}
 use Rattle.checks.proofs.Booleans.{refuses-iff, demands-iff}
+use Rattle.checks.proofs.Orders.{no-fall-iff}
 use Rattle.checks.proofs.BookTests.{small-iff, count-legal-iff, no-repeat-iff, pixel-legal-iff, pattern-legal-iff}
 
 -- 2: a count that is not from 1 to the most
@@ -35,7 +36,7 @@ coordinate-test-iff i z = demands-iff (small z) (Coordinate i) (small-iff z)
 coordinate-refused : (i : ℕ) (z : ℤ) → (InRange z → ⊥) → whenever (not (small z)) (Coordinate i) ≡ some (Coordinate i)
 coordinate-refused i z h = whenever-not-none (not (small z)) (Coordinate i) (λ e. h (coordinate-test-iff i z .0 e))
 
--- 3 and 4 at a position: its column, its row, then repetition, whatever the places
+-- 3, 4 and 19 at a position: its column, its row, repetition, then its order, whatever the places
 module _ (i j : ℕ) (pixel : ℕ → Pixel) (e : ℕ) where
   pixel-chain :
       pixelTest i j pixel e
@@ -43,6 +44,7 @@ module _ (i j : ℕ) (pixel : ℕ → Pixel) (e : ℕ) where
       (whenever (not (small (pixel e .column))) (Coordinate i)
       ∷ whenever (not (small (pixel e .row))) (Coordinate j)
       ∷ whenever (repeats pixel e) (Repeat i)
+      ∷ whenever (falls pixel e) (Refusal.Lower i)
       ∷ [])
   unfolding pixelTest
   pixel-chain = refl
@@ -67,6 +69,19 @@ module _ (i j : ℕ) (pixel : ℕ → Pixel) (e : ℕ) where
     where
       not-none : whenever (repeats pixel e) (Repeat i) ≡ none → ⊥
       not-none t = refuses-iff (repeats pixel e) (Repeat i) (no-repeat-iff pixel e) .0 t l earlier same
+
+  pub lower-refused :
+      InRange (pixel e .column) → InRange (pixel e .row) → ((l : ℕ) → l < e → pixel l ≡ pixel e → ⊥)
+      → (l : ℕ) → suc l ≡ e → Lower (pixel e) (pixel l) → pixelTest i j pixel e ≡ some (Refusal.Lower i)
+  lower-refused column row new l next falling =
+      pixel-chain
+      ∙ chain-goes-on _ _ (coordinate-test-iff i (pixel e .column) .1 column)
+      ∙ chain-goes-on _ _ (coordinate-test-iff j (pixel e .row) .1 row)
+      ∙ chain-goes-on _ _ (refuses-iff (repeats pixel e) (Repeat i) (no-repeat-iff pixel e) .1 new)
+      ∙ chain-refuses _ _ _ (whenever-not-none (falls pixel e) (Refusal.Lower i) not-none)
+    where
+      not-none : whenever (falls pixel e) (Refusal.Lower i) ≡ none → ⊥
+      not-none t = refuses-iff (falls pixel e) (Refusal.Lower i) (no-fall-iff pixel e) .0 t l next falling
 
 -- the column or the row, where both have the same place
 either-refused :
@@ -126,6 +141,10 @@ record-refuses =
       repeat-4 =
           λ book n e l up pixels-up column row earlier same. pattern-decides book n (Repeat 0) up
           (pixel-decides (patternAt book n) e (Repeat 0) pixels-up (repeat-refused 0 0 (pixel book n) e column row l earlier same));
+      lower-19 =
+          λ book n l up pixels-up column row new falling. pattern-decides book n (Refusal.Lower 0) up
+          (pixel-decides (patternAt book n) (suc l) (Refusal.Lower 0) pixels-up
+          (lower-refused 0 0 (pixel book n) (suc l) column row new l refl falling));
     }
   where
     used : Book → ℕ → ℕ

@@ -2,7 +2,7 @@
 -- Assumes nothing.
 use Prim.Native.Nat.{ℕ, suc, _≤_, _<_}
 use native.Mathlib.Omega.{arith}
-use mathlib.Core.Path.{_≡_, sym, _∙_, ap}
+use mathlib.Core.Path.{_≡_, refl, sym, _∙_, ap}
 use mathlib.Core.Logic.{_↔_, Iff·trans}
 use mathlib.Core.Bool.{Bool, true, false, _&&_}
 use mathlib.Core.Option.{none}
@@ -11,13 +11,15 @@ use lib.IntN.{ℤ, pos, negsuc}
 use Rattle.integers.proofs.Divisions.{same-number-means}
 use Rattle.integers.proofs.Comparisons.{leb-iff, and-iff}
 use Rattle.scope.specs.Plans.{Pixel, samePixel, pixelAt, patternAt}
-use Rattle.scope.specs.Numbers.{countTest, small, repeats, pixelTest, patternTest, recordTest}
-use Rattle.scope.specs.promises.Meaning.{InRange, PixelLegal, IsPattern, IsBook}
+use Rattle.scope.specs.Numbers.{countTest, small, repeats, falls, pixelTest, patternTest, recordTest}
+use Rattle.scope.specs.promises.Meaning.{InRange, Lower, PixelLegal, IsPattern, IsBook}
 use Rattle.scope.specs.declared.Pattern.{Pattern}
 use Rattle.scope.specs.declared.Book.{Book}
+use Rattle.scope.specs.declared.Refusal.{Refusal}
 use Rattle.scope.specs.declared.Refusal.the-variants.{Count, Coordinate, Repeat}
 use Rattle.checks.proofs.Searches.{true-not-false, not-true-is-false, someBelow-none, none-someBelow}
 use Rattle.checks.proofs.Patterns.{same-coordinates}
+use Rattle.checks.proofs.Orders.{not-lower-than-itself, lower-goes-on, lower-or, no-fall-iff}
 use Rattle.checks.proofs.Booleans.{refuses-iff, demands-iff, last-test, test-before, first-iff}
 
 -- the same pixel is an equal one
@@ -55,7 +57,7 @@ no-repeat-iff pixel e = (
     same : ℕ → Bool
     same l = samePixel (pixel l) (pixel e)
 
--- 3 and 4 at a position, whatever the places
+-- 3, 4 and 19 at a position, whatever the places
 pub pixel-legal-iff :
     (i j : ℕ) (pixel : ℕ → Pixel) (e : ℕ) → (pixelTest i j pixel e ≡ none) ↔ PixelLegal pixel e
 unfolding pixelTest
@@ -63,10 +65,22 @@ pixel-legal-iff i j pixel e =
     Iff·trans
     (test-before (demands-iff _ (Coordinate i) (small-iff (pixel e .column)))
     (test-before (demands-iff _ (Coordinate j) (small-iff (pixel e .row)))
-    (last-test (refuses-iff _ (Repeat i) (no-repeat-iff pixel e)))) .iff)
-    (λ h. record { column = h .0; row = h .1 .0; new = h .1 .1 }, λ h. (h .column, (h .row, h .new)))
+    (test-before (refuses-iff _ (Repeat i) (no-repeat-iff pixel e))
+    (last-test (refuses-iff _ (Refusal.Lower i) (no-fall-iff pixel e))))) .iff) (
+      λ h. record { column = h .0; row = h .1 .0; new = h .1 .1 .0; ascends = above (h .1 .1 .0) (h .1 .1 .1) },
+      λ h. (h .column, (h .row, (h .new, not-below (h .ascends)))),
+    )
+  where
+    -- a new pixel that is not lower than the one before it is higher
+    above :
+        ((l : ℕ) → l < e → pixel l ≡ pixel e → ⊥) → ((l : ℕ) → suc l ≡ e → Lower (pixel e) (pixel l) → ⊥)
+        → (l : ℕ) → suc l ≡ e → Lower (pixel l) (pixel e)
+    above new no-fall l next = lower-or (pixel l) (pixel e) (new l (omega arith)) (no-fall l next)
 
--- 2, 3, 4 of a pattern
+    not-below : ((l : ℕ) → suc l ≡ e → Lower (pixel l) (pixel e)) → (l : ℕ) → suc l ≡ e → Lower (pixel e) (pixel l) → ⊥
+    not-below ascends l next h = not-lower-than-itself (pixel e) (pixel e) refl (lower-goes-on h (ascends l next))
+
+-- 2, 3, 4, 19 of a pattern
 pub pattern-legal-iff : (t : Pattern) → (patternTest t ≡ none) ↔ IsPattern t
 unfolding patternTest
 pattern-legal-iff t =
@@ -75,7 +89,7 @@ pattern-legal-iff t =
     (last-test (first-iff (t .used) (pixelTest 0 0 (pixelAt t)) _ (pixel-legal-iff 0 0 (pixelAt t)))) .iff)
     (λ h. record { least = h .0 .0; most = h .0 .1; each = h .1 }, λ h. ((h .least, h .most), h .each))
 
--- 2, 3, 4 of a book record
+-- 2, 3, 4, 19 of a book record
 pub book-legal-iff : (book : Book) → (recordTest book ≡ none) ↔ IsBook book
 unfolding recordTest
 book-legal-iff book =

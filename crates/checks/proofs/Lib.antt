@@ -3,6 +3,8 @@ pub mod Searches  -- what `first`, `gather`, `every` and the like give
 pub mod Lists  -- membership, entries by index, `flatMap`
 pub mod FilledArrays  -- a loop that fills an array
 pub mod Patterns  -- a record's pixels and patterns by index
+pub mod Orders  -- the order by row, then column
+pub mod SortedPatterns  -- a legal pattern is sorted, and settled by the set of its pixels
 pub mod Outputs  -- what stands in an output after a call; a loop that puts words there
 pub mod Chains  -- chains of tests, and a call by its tests
 pub mod Booleans  -- what a chain that finds nothing says

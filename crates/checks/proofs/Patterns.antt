@@ -74,6 +74,7 @@ legal-same e f g same legal =
       column = rw here at (legal .column);
       row = rw here at (legal .row);
       new = λ l earlier again. legal .new l earlier (same l (omega arith) ∙ again ∙ sym here);
+      ascends = λ l next. rw (same l (omega arith), here) at (legal .ascends l next);
     }
 
 -- a list of pixels without a repetition

@@ -10,7 +10,7 @@ use mathlib.Core.List.{List, [], _∷_}
 use lib.Dec.{leb}
 use Rattle.scope.specs.Search.{first, whenever, firstOf}
 use Rattle.scope.specs.Plans.{Pixel, pixelAt, patternAt}
-use Rattle.scope.specs.Numbers.{numberOf, countTest, small, repeats, pixelTest, patternTest, recordTest}
+use Rattle.scope.specs.Numbers.{numberOf, countTest, small, repeats, falls, pixelTest, patternTest, recordTest}
 use Rattle.scope.specs.Calls.{findTest}
 use Rattle.scope.specs.declared.Pattern.{Pattern}
 use Rattle.scope.specs.declared.Book.{Book}
@@ -55,8 +55,8 @@ module _ {these : ℕ → Type 0} where
   first-numbers : (k n : ℕ) (f : ℕ → Option Refusal) → ((i : ℕ) → Numbers these (f i)) → Numbers these (first k n f)
   first-numbers k n f h = record { each = λ r e. let t = first-found k n f r e in h (t .where-is) .each r (t .here) }
 
-  -- a book record gives 2, 3 and 4
-  module _ (two : these 2) (three : these 3) (four : these 4) where
+  -- a book record gives 2, 3, 4 and 19
+  module _ (two : these 2) (three : these 3) (four : these 4) (nineteen : these 19) where
     count-numbers : (most n i : ℕ) → Numbers these (countTest most n i)
     unfolding countTest
     count-numbers most n i = whenever-numbers (not (leb 1 n && leb n most)) (Count i) two
@@ -66,7 +66,8 @@ module _ {these : ℕ → Type 0} where
     pixel-numbers i j pixel e =
         numbers-before (whenever-numbers (not (small (pixel e .column))) (Coordinate i) three)
         (numbers-before (whenever-numbers (not (small (pixel e .row))) (Coordinate j) three)
-        (last-numbers (whenever-numbers (repeats pixel e) (Repeat i) four))) .chain
+        (numbers-before (whenever-numbers (repeats pixel e) (Repeat i) four)
+        (last-numbers (whenever-numbers (falls pixel e) (Refusal.Lower i) nineteen)))) .chain
 
     pattern-numbers : (t : Pattern) → Numbers these (patternTest t)
     unfolding patternTest
@@ -87,7 +88,7 @@ module _ {these : ℕ → Type 0} where
         numbers-before (record-numbers book)
         (last-numbers (decided-numbers (limit-decides limit) six)) .chain
 
--- so none of them is above 6
-pub find-refusals : (book : Book) (limit : ℕ) (r : Refusal) → findTest book limit ≡ some r → numberOf r ≤ 6
+-- so none of them is 7
+pub find-refusals : (book : Book) (limit : ℕ) (r : Refusal) → findTest book limit ≡ some r → numberOf r ≡ 7 → ⊥
 find-refusals book limit r e =
-    find-numbers {these = λ n. n ≤ 6} (omega arith) (omega arith) (omega arith) (omega arith) book limit .each r e
+    find-numbers {these = λ n. n ≡ 7 → ⊥} (λ h. omega arith) (λ h. omega arith) (λ h. omega arith) (λ h. omega arith) (λ h. omega arith) book limit .each r e

@@ -129,7 +129,7 @@ module _
     fetch-refused : FetchRefused book p W H words n r
     fetch-refused =
         record {
-          book-2-3-4 = refused-by-first chain;
+          book-2-3-4-19 = refused-by-first chain;
           first = λ legal. picture-refused (after-book chain legal);
           number-17 = λ legal here above.
               refused-unless (after-picture (after-book chain legal) here) (number-decides (book .count) n) (λ below. omega arith);
@@ -213,14 +213,14 @@ calls-refuse =
     record {
       normal-8 = λ x y. refused-unless (normal-follows x y) (independent-decides x y);
       normal-9 = λ x y. large-refused x y (normal-follows x y);
-      find-2-3-4 = λ book limit. refused-by-first (find-follows book limit);
+      find-2-3-4-19 = λ book limit. refused-by-first (find-follows book limit);
       find-6 = λ book limit legal. refused-unless (after-book (find-follows book limit) legal) (limit-decides limit);
-      count-2-3-4 = λ book f e. ap ofCounted (answered-some (recordTest book) Counted.Refused _ f e);
-      check-2-3-4 = λ book x y. refused-by-first (check-follows book x y);
+      count-2-3-4-19 = λ book f e. ap ofCounted (answered-some (recordTest book) Counted.Refused _ f e);
+      check-2-3-4-19 = λ book x y. refused-by-first (check-follows book x y);
       check-8 = λ book x y legal. refused-unless (after-book (check-follows book x y) legal) (independent-decides x y);
       check-9 = λ book x y legal. large-refused x y (after-book (check-follows book x y) legal);
-      record-2-3-4 = λ book f e. ap ofOutcome (answered-some (recordTest book) Outcome.Refused Outcome.Done f e);
-      write-2-3-4 = λ book out. refused-by-first (write-follows book out);
+      record-2-3-4-19 = λ book f e. ap ofOutcome (answered-some (recordTest book) Outcome.Refused Outcome.Done f e);
+      write-2-3-4-19 = λ book out. refused-by-first (write-follows book out);
       write-16 = λ book out legal. output-refused (length (bookBytes book)) (length out) (after-book (write-follows book out) legal);
       bank-11 = λ p v fails. ap ofCounted (answered-some (planTest p) Counted.Refused _ NotPlan (plan-decides p .refuses fails));
       depths = λ p W H. plan-refused {ts = []} (answered-follows ofCounted _ (λ r. refl));

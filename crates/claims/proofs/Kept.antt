@@ -5,6 +5,7 @@ use Rattle.integers.proofs.Bezout.{euclids-rule, gcd-is-greatest}
 use Rattle.scope.specs.promises.Promises.{Promises}
 use Rattle.scope.proofs.PlanFacts.{inside-iff}
 use Rattle.checks.proofs.Chains.{chain-is-first}
+use Rattle.checks.proofs.Orders.{lower-iff}
 use Rattle.checks.proofs.BookRefusals.{record-refuses}
 use Rattle.checks.proofs.Legal.{legal-calls-answer, refusals-change-nothing}
 use Rattle.lattice.proofs.Membership.{lattice-means}
@@ -22,6 +23,7 @@ use Rattle.text.proofs.Decimal.{decimal-means}
 use Rattle.text.proofs.ProgramText.{program-writes}
 use Rattle.book.proofs.Bytes.{twos-complement}
 use Rattle.book.proofs.ReadWrite.{bytes-mean, read-after-write, write-after-read}
+use Rattle.book.proofs.SameBooks.{pixels-ascend}
 use Rattle.book.proofs.Parts.{parts-are}
 use Rattle.book.proofs.ReaderRefusals.{reader-refuses}
 use Rattle.finder.proofs.Least.{finder-is-least, finder-none, finder-decides, finder-order}
@@ -48,6 +50,7 @@ promises-kept =
       patterns-are = patterns-are;
       lattice-means = lattice-means;
       suits-means = suits-means;
+      lower-means = lower-iff;
       inside-means = inside-iff;
       chain-is-first = chain-is-first;
       tests-mean = tests-mean;
@@ -78,6 +81,7 @@ promises-kept =
       bytes-mean = bytes-mean;
       read-after-write = read-after-write;
       write-after-read = write-after-read;
+      pixels-ascend = pixels-ascend;
       parts-are = parts-are;
       unused-dont-count = unused-dont-count;
       reader-sets-zero = reader-sets-zero;

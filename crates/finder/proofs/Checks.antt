@@ -41,13 +41,13 @@ pub check-legal-iff :
 unfolding checkTest
 check-legal-iff book x y = test-before (book-legal-iff book) (test-before (independent-iff x y) (last-test (size-within-iff x y))) .iff
 
--- What they find has a number up to 9.
-pub check-refusals : (book : Book) (x y : Pixel) (r : Refusal) → checkTest book x y ≡ some r → numberOf r ≤ 9
+-- What they find is not 10.
+pub check-refusals : (book : Book) (x y : Pixel) (r : Refusal) → checkTest book x y ≡ some r → numberOf r ≡ 10 → ⊥
 unfolding checkTest
 check-refusals book x y r e =
-    numbers-before {these = λ n. n ≤ 9} (record-numbers (omega arith) (omega arith) (omega arith) book)
-    (numbers-before (decided-numbers (independent-decides x y) (omega arith))
-    (last-numbers (decided-numbers (size-decides x y) (omega arith)))) .chain .each r e
+    numbers-before {these = λ n. n ≡ 10 → ⊥} (record-numbers (λ h. omega arith) (λ h. omega arith) (λ h. omega arith) (λ h. omega arith) book)
+    (numbers-before (decided-numbers (independent-decides x y) (λ h. omega arith))
+    (last-numbers (decided-numbers (size-decides x y) (λ h. omega arith)))) .chain .each r e
 
 -- The verdict on a plan is its clash, if it has one, and else its surplus.
 module _ (ts : List (List Pixel)) (p : Plan) where

@@ -57,7 +57,7 @@ clash-of-check book x y c h =
         RefusedBy (checkTest book x y) 10 0 (some c)
         ⊎ ((checkTest book x y ≡ none) × (ofVerdict (judged ts p) ≡ refusal 10 0 (some c)))
         → Independent x y × (clash p ts ≡ some c) × (check book x y ≡ Verdict.Clashes c)
-    by-source (inl k) = absurd (omega (arith, check-refusals book x y (k .0) (k .1), k .2))
+    by-source (inl k) = absurd (check-refusals book x y (k .0) (k .1) (k .2))
     by-source (inr (passed, v)) =
         let is : clash p ts ≡ some c = found (clash p ts) refl v in (
           check-legal-iff book x y .0 passed .1 .0,
@@ -87,7 +87,7 @@ module _ (book : Book) (p : Plan) (W H words n : ℕ) (c : Clash) where
       → FirstClashIn book p c × (c .pattern ≡ n)
   clash-of-tests ts others k =
       let (_, after-book) =
-      after-other (recordTest book) _ c (record-numbers (λ e. omega arith) (λ e. omega arith) (λ e. omega arith) book) k in
+      after-other (recordTest book) _ c (record-numbers (λ e. omega arith) (λ e. omega arith) (λ e. omega arith) (λ e. omega arith) book) k in
       let (is-plan, after-plan) = after-other (planTest p) _ c (decided-numbers (plan-decides p) (λ e. omega arith)) after-book in
       let (_, after-sides) = after-other (sidesTest W H) _ c (decided-numbers (sides-decide W H) (λ e. omega arith)) after-plan in
       let (_, after-memory) =

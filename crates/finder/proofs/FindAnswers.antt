@@ -97,7 +97,7 @@ module _ (book : Book) (limit : ℕ) where
           RefusedBy (findTest book limit) 7 0 none
           ⊎ ((findTest book limit ≡ none) × (ofPlanned answer ≡ refusal 7 0 none))
           → LegalFind book limit × (leastPlan (patterns book) limit ≡ none)
-      there (inl t) = absurd (omega (arith, find-refusals book limit (t .0) (t .1), t .2))
+      there (inl t) = absurd (find-refusals book limit (t .0) (t .1) (t .2))
       there (inr t) = (legal-find-iff book limit .0 (t .0), found-refusal (leastPlan (patterns book) limit) (t .1))
 
       back : LegalFind book limit × (leastPlan (patterns book) limit ≡ none) → ofPlanned (find book limit) ≡ refusal 7 0 none

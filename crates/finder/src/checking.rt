@@ -57,7 +57,7 @@ fn judge(p: Plan, book: Book) -> Verdict
     }
 }
 
-// The verdict on the vectors (x1, x2) and (y1, y2) for a book, or 2, 3, 4, 8, 9.
+// The verdict on the vectors (x1, x2) and (y1, y2) for a book, or 2, 3, 4, 19, 8, 9.
 pub fn check(book: Book, x1: i16, x2: i16, y1: i16, y2: i16) -> Verdict
     ensures { λ r. ⌜ r ≡ check book (at x1 x2) (at y1 y2) ⌝ }
 {

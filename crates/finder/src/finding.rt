@@ -189,7 +189,7 @@ fn least_plan(marks: &[u8], limit: usize) -> Planned
     Planned::Refused(Refusal::NoPlan)
 }
 
-// The plan with the fewest banks within the limit, of several the one with least b, then least d; or 2, 3, 4, 6, 7.
+// The plan with the fewest banks within the limit, of several the one with least b, then least d; or 2, 3, 4, 19, 6, 7.
 pub fn find(book: Book, limit: u32) -> Planned
     ensures { λ r. ⌜ r ≡ find book limit ⌝ }
 {
@@ -208,7 +208,7 @@ pub fn find(book: Book, limit: u32) -> Planned
     least_plan(&marks, limit as usize)
 }
 
-// The least count of a book, the N of the finder's plan at limit 1024, or 2, 3, 4.
+// The least count of a book, the N of the finder's plan at limit 1024, or 2, 3, 4, 19.
 pub fn least_count(book: Book) -> Counted
     ensures { λ r. ⌜ r ≡ fewest book ⌝ }
 {

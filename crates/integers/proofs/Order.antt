@@ -1,16 +1,18 @@
 -- Linear facts of ℤ: both sides of an equation or an inequality as naturals, which `omega` reads. A goal goes through
--- `le-by ρ (search reify depth 40) (omega (arith, ..))`, a hypothesis h through `of-le ρ h (search reify depth 40)`.
+-- `le-by ρ (search reify depth 40) (omega (arith, ..))`, a hypothesis h through `of-le ρ h (search reify depth 40)`; of <ℤ
+-- through `lt-by` and `of-lt`.
 -- Assumes nothing.
 use Prim.Native.Nat.{ℕ, _+_, _*_, _≤_, _<_}
-use mathlib.Core.Path.{_≡_}
-use mathlib.Core.Logic.{_⊎_, inl, inr}
-use mathlib.Core.Bool.{Bool, true, false}
+use mathlib.Core.Path.{_≡_, refl, sym, subst}
+use mathlib.Core.Logic.{_↔_, _⊎_, inl, inr}
+use mathlib.Core.Bool.{Bool, true, false, not}
 use mathlib.Core.List.{List, [], _∷_}
 use native.Mathlib.Omega.{arith}
 use native.Mathlib.Nat.{mul-le-mul-left}
 use native.Mathlib.Decide.{decLt}
 use lib.IntN.{ℤ, pos, negℤ, _+ℤ_, _*ℤ_}
-use lib.Signed.{_≤ℤ_}
+use lib.Dec.{T}
+use lib.Signed.{ltZ, _≤ℤ_, _<ℤ_, ltZ-no, clashℤ}
 use Rattle.integers.proofs.Integers.{Difference, above, below, own-parts, same-integer, same-difference, parts-add, parts-mul, parts-neg, le-by-parts, parts-of-le}
 use Rattle.integers.proofs.Polynomials.{Expr, var, con, _⊕_, _⊗_, neg, valueAt, meaning}
 use Rattle.integers.proofs.Ring.{Read, read, expr, Sides, sides, reify}
@@ -59,6 +61,33 @@ module _ {x y : ℤ} (ρ : List ℤ) where
 
   pub of-eq : x ≡ y → (s : Sides ρ x y) → lesser s ≡ greater s
   of-eq h (sides a b) = same-difference h (parts-of-read a) (parts-of-read b)
+
+  -- the same of <: it fails exactly where y ≤ x
+  pub lt-by : (s : Sides ρ x y) → lesser s < greater s → x <ℤ y
+  lt-by (sides a b) h = by-test (ltZ x y) refl
+    where
+      by-test : (t : Bool) → ltZ x y ≡ t → x <ℤ y
+      by-test true e = record { lt = subst T (sym e) tt }
+      by-test false e =
+          let over : y ≤ℤ x = ltZ-no (subst (λ t. T (not t)) (sym e) tt) in
+          absurd (omega (arith, parts-of-le over (parts-of-read b) (parts-of-read a)))
+
+  pub of-lt : x <ℤ y → (s : Sides ρ x y) → lesser s < greater s
+  of-lt h (sides a b) = by-test (decLt _ _)
+    where
+      by-test :
+          Dec (part true ρ (expr a) + part false ρ (expr b) < part true ρ (expr b) + part false ρ (expr a))
+          → part true ρ (expr a) + part false ρ (expr b) < part true ρ (expr b) + part false ρ (expr a)
+      by-test (yes k) = k
+      by-test (no k) = clashℤ h (le-by-parts (parts-of-read b) (parts-of-read a) (omega arith))
+
+-- the test of <
+pub less-iff : (x y : ℤ) → (ltZ x y ≡ true) ↔ (x <ℤ y)
+less-iff x y = (λ e. record { lt = subst T (sym e) tt }, λ h. by-test (ltZ x y) refl (h .lt))
+  where
+    by-test : (t : Bool) → ltZ x y ≡ t → T (ltZ x y) → ltZ x y ≡ true
+    by-test true e h = e
+    by-test false e h = absurd (subst T e h)
 
 -- ≤ is a linear order
 pub le-transitive : (x y z : ℤ) → x ≤ℤ y → y ≤ℤ z → x ≤ℤ z

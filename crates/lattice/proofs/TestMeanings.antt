@@ -55,7 +55,7 @@ suits-pattern-iff t p n legal is-plan =
 pub tests-mean : TestsMean
 tests-mean =
     record {
-      book-2-3-4 = book-legal-iff;
+      book-2-3-4-19 = book-legal-iff;
       limit-6 = limit-legal-iff;
       dependent-8 = independent-iff;
       large-9 = size-within-iff;

@@ -12,7 +12,7 @@ use Rattle.scope.specs.code.RefusalRows.{clashIf}
 use Rattle.scope.specs.promises.Demand.{Reply, wrote, loaded, fetched}
 use Rattle.scope.specs.declared.Clash.{Clash}
 use Rattle.scope.specs.declared.Refusal.{Refusal}
-use Rattle.scope.specs.declared.Refusal.the-variants.{Ends, Count, Coordinate, Repeat, Extra, Limit, NoPlan, Dependent, Large, Unsuited, NotPlan, Sides, Memory, Outside, Cell, Output, NoPattern, Ring}
+use Rattle.scope.specs.declared.Refusal.the-variants.{Ends, Count, Coordinate, Repeat, Extra, Limit, NoPlan, Dependent, Large, Unsuited, NotPlan, Sides, Memory, Outside, Cell, Output, NoPattern, Ring, Lower}
 use Rattle.scope.specs.declared.Outcome.{Outcome}
 use Rattle.scope.specs.declared.Loaded.{Loaded}
 use Rattle.scope.specs.declared.Counted.{Counted}
@@ -77,6 +77,7 @@ module _ {A : Type 0} (from : ℕ → A) where
   refusal-read values Output = refl
   refusal-read values NoPattern = refl
   refusal-read values Ring = refl
+  refusal-read values (Lower i) = refl
 
 outcome-read : (o : Outcome) → answerIn (λ n. tt) (twelve (answerNumbers (λ x. []) (ofOutcome o))) ≡ ofOutcome o
 unfolding answerIn twelve answerNumbers

@@ -151,7 +151,7 @@ fn either_fetch(
     fetch_rest(start, ring, t, p, w, h, mem, i, j, out)
 }
 
-// Fetches pattern n moved to (i, j) and tells how many words, or 2, 3, 4, 11, 12, 13, 17, 10, 14, 16 and the output as it was.
+// Fetches pattern n moved to (i, j) and tells how many words, or 2, 3, 4, 19, 11, 12, 13, 17, 10, 14, 16 and the output as it was.
 pub fn fetch(
     book: Book,
     p: Plan,

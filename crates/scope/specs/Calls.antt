@@ -1,5 +1,5 @@
 -- Every call of document 01: the checks that concern it, in the order "book 1-5, 6, 8, 9, 11, 12, 13, 17, then 10, 18, 14,
--- 15, 16, with 7 last", its answer, and the final content of what it was lent. "buffers and lists stay unchanged" on a refusal.
+-- 15, 16, with 7 last", 19 among those of the book (document 02, Card 3: "wherever a book is taken"), its answer, and the final content of what it was lent. "buffers and lists stay unchanged" on a refusal.
 -- Assumes nothing.
 use Prim.Native.Nat.{ℕ, _+_, _-_}
 use mathlib.Core.Bool.{Bool, true, false}
@@ -40,14 +40,14 @@ unfoldable pub changed : {A B : Type 0} → Option Refusal → (Refusal → A) �
 changed none refused old x new = record { answer = x; content = new }
 changed (some r) refused old x new = record { answer = refused r; content = old }
 
--- Read a book's bytes into a record: 1 to 5. On a refusal the record is that of no pattern.
+-- Read a book's bytes into a record: 1 to 5, 19. On a refusal the record is that of no pattern.
 unfoldable pub readBook : List ℕ → Reading
 unfolding answered bytesTest bookIn bookOf
 readBook s =
     answered (bytesTest s) (λ r. record { book = bookOf []; outcome = Outcome.Refused r })
     (record { book = bookIn s; outcome = Outcome.Done })
 
--- A pattern's part of the bytes: 1 to 5, 17. "on a refusal the part is empty, and a second call with the same input gives
+-- A pattern's part of the bytes: 1 to 5, 19, 17. "on a refusal the part is empty, and a second call with the same input gives
 -- the number and place"
 unfoldable pub partTest : List ℕ → ℕ → Option Refusal
 unfolding firstOf bytesTest numberTest byte
@@ -66,12 +66,12 @@ unfoldable pub partPlace : List ℕ → ℕ → ℕ
 unfolding answered partTest start
 partPlace s n = answered (partTest s n) (λ r. 0) (start s n + 1)
 
--- "A call given a book record tests 2, 3, 4 in book order": that test by itself
+-- "A call given a book record tests 2, 3, 4 in book order", and 19: that test by itself
 unfoldable pub recordOutcome : Book → Outcome
 unfolding answered recordTest
 recordOutcome book = answered (recordTest book) Outcome.Refused Outcome.Done
 
--- Write a record, and tell how many bytes: 2, 3, 4, "the writer then 16".
+-- Write a record, and tell how many bytes: 2, 3, 4, 19, "the writer then 16".
 unfoldable pub writeBook : Book → List ℕ → Result Counted (List ℕ)
 unfolding changed firstOf recordTest outputTest bookBytes overStart
 writeBook book out =
@@ -85,7 +85,7 @@ unfolding answered firstOf dependentTest largeTest normalForm
 normal x y =
     answered (firstOf (dependentTest x y ∷ largeTest x y ∷ [])) Planned.Refused (Planned.Plan (normalForm x y))
 
--- Find: 2, 3, 4, 6, "with 7 last".
+-- Find: 2, 3, 4, 19, 6, "with 7 last".
 unfoldable pub findTest : Book → ℕ → Option Refusal
 unfolding firstOf recordTest limitTest
 findTest book limit = firstOf (recordTest book ∷ limitTest limit ∷ [])
@@ -98,12 +98,12 @@ unfoldable pub find : Book → ℕ → Planned
 unfolding answered findTest found leastOf suitsAll patterns
 find book limit = answered (findTest book limit) Planned.Refused (found (leastPlan (patterns book) limit))
 
--- "the least count" of a book: 2, 3, 4.
+-- "the least count" of a book: 2, 3, 4, 19.
 unfoldable pub fewest : Book → Counted
 unfolding answered recordTest leastCount patterns
 fewest book = answered (recordTest book) Counted.Refused (Counted.Number (leastCount (patterns book)))
 
--- Check a supplier's vectors: 2, 3, 4, 8, 9, then the clash, which is 10. "the normal form together with the surplus, N
+-- Check a supplier's vectors: 2, 3, 4, 19, 8, 9, then the clash, which is 10. "the normal form together with the surplus, N
 -- minus the least count, or a clash, or a refusal"
 unfoldable pub checkTest : Book → Pixel → Pixel → Option Refusal
 unfolding firstOf recordTest dependentTest largeTest
@@ -199,7 +199,7 @@ unfoldable pub ringMoved : ℕ → ℕ → Pattern → Pixel → List Pixel
 unfolding wrapped moved
 ringMoved W H t o = map (wrapped W H) (moved t o)
 
--- The tests that both fetches begin with: 2, 3, 4, 11, 12, 13, 17, "10 for its own pattern only".
+-- The tests that both fetches begin with: 2, 3, 4, 19, 11, 12, 13, 17, "10 for its own pattern only".
 unfoldable pub fetchStart : Book → Plan → ℕ → ℕ → ℕ → ℕ → Option Refusal
 unfolding firstOf recordTest pictureTest numberTest suitsTest patternAt
 fetchStart book p W H words n =
@@ -232,7 +232,7 @@ fetchRest start ring t p W H mem o out =
     (Counted.Number (length (pixelsRead ring W H (moved t o))))
     (overStart (map (wordIn p W H mem) (pixelsRead ring W H (moved t o))) out)
 
--- Fetch, and tell how many words: 2, 3, 4, 11, 12, 13, 17, 10, 14, 16. Ring fetch: 18 in the place of 14.
+-- Fetch, and tell how many words: 2, 3, 4, 19, 11, 12, 13, 17, 10, 14, 16. Ring fetch: 18 in the place of 14.
 unfoldable pub fetchTest : (ring : Bool) → Book → Plan → ℕ → ℕ → ℕ → ℕ → Pixel → ℕ → Option Refusal
 unfolding restTest fetchStart patternAt
 fetchTest ring book p W H words n o room = restTest (fetchStart book p W H words n) ring (patternAt book n) p W H o room

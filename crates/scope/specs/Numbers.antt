@@ -1,7 +1,7 @@
 -- Document 01, "Numbers for what is turned down": the number and the place of every refusal, what an answer says in
 -- this paper's numbers and values, and the table's conditions. Calls.antt has the order in which a call tests them.
 -- Assumes nothing.
-use Prim.Native.Nat.{ℕ, suc, _+_, _*_, _%_}
+use Prim.Native.Nat.{ℕ, zero, suc, _+_, _*_, _%_}
 use mathlib.Core.Bool.{Bool, true, false, not, _&&_, _||_}
 use mathlib.Core.Option.{Option, none, some}
 use mathlib.Core.List.{List, [], _∷_, map}
@@ -9,7 +9,7 @@ use lib.Dec.{leb, ltb, eqb}
 use lib.IntN.{ℤ, pos, negsuc}
 use lib.ListN.{length}
 use Rattle.scope.specs.Search.{first, whenever, firstOf, every, someBelow}
-use Rattle.scope.specs.Plans.{Pixel, at, samePixel, pixelAt, patternAt, pixels, banks, isPlan, determinantSize}
+use Rattle.scope.specs.Plans.{Pixel, at, samePixel, lower, pixelAt, patternAt, pixels, banks, isPlan, determinantSize}
 use Rattle.scope.specs.Finding.{clashIn}
 use Rattle.scope.specs.Banks.{inside, depthOf, pixelOf}
 use Rattle.scope.specs.Books.{byte, start, pixelFrom}
@@ -19,7 +19,7 @@ use Rattle.scope.specs.declared.Book.{Book}
 use Rattle.scope.specs.declared.Pattern.{Pattern}
 use Rattle.scope.specs.declared.Clash.{Clash}
 use Rattle.scope.specs.declared.Refusal.{Refusal}
-use Rattle.scope.specs.declared.Refusal.the-variants.{Ends, Count, Coordinate, Repeat, Extra, Limit, NoPlan, Dependent, Large, Unsuited, NotPlan, Sides, Memory, Outside, Cell, Output, NoPattern, Ring}
+use Rattle.scope.specs.declared.Refusal.the-variants.{Ends, Count, Coordinate, Repeat, Extra, Limit, NoPlan, Dependent, Large, Unsuited, NotPlan, Sides, Memory, Outside, Cell, Output, NoPattern, Ring, Lower}
 use Rattle.scope.specs.declared.Checked.{Checked}
 use Rattle.scope.specs.declared.Verdict.{Verdict}
 use Rattle.scope.specs.declared.Planned.{Planned}
@@ -29,7 +29,8 @@ use Rattle.scope.specs.declared.Located.{Located}
 use Rattle.scope.specs.declared.Outcome.{Outcome}
 
 -- The column "No." of the table, the place and the clash. "The place is a byte offset for 1 to 5 where the call was given
--- a book's bytes [..]. It is 0 elsewhere. 10 also carries its clash."
+-- a book's bytes [..]. It is 0 elsewhere. 10 also carries its clash." Document 02, Card 3: 19, "its place in a book's bytes
+-- being the pixel's first byte"
 abbrev pub rowOf : Refusal → ℕ × ℕ × Option Clash
 rowOf (Ends i) = (1, i, none)
 rowOf (Count i) = (2, i, none)
@@ -49,6 +50,7 @@ rowOf Cell = (15, 0, none)
 rowOf Output = (16, 0, none)
 rowOf NoPattern = (17, 0, none)
 rowOf Ring = (18, 0, none)
+rowOf (Lower i) = (19, i, none)
 
 abbrev pub numberOf : Refusal → ℕ
 numberOf r = rowOf r .0
@@ -109,17 +111,25 @@ unfoldable pub repeats : (ℕ → Pixel) → ℕ → Bool
 unfolding someBelow samePixel
 repeats pixel e = someBelow e λ l. samePixel (pixel l) (pixel e)
 
--- 3 and 4: "its column, its row, then repetition are tested"; i and j are the places of column and row
+-- 19 (document 02, Card 3): "a pixel lower in that order than the one before it"; position 0 has none before it
+unfoldable pub falls : (ℕ → Pixel) → ℕ → Bool
+unfolding lower
+falls pixel zero = false
+falls pixel (suc e) = lower (pixel (suc e)) (pixel e)
+
+-- 3, 4 and 19: "its column, its row, then repetition are tested", and 19 is "tested after 4 wherever a book is taken"; i and j
+-- are the places of column and row
 unfoldable pub pixelTest : ℕ → ℕ → (ℕ → Pixel) → ℕ → Option Refusal
-unfolding firstOf whenever small repeats
+unfolding firstOf whenever small repeats falls
 pixelTest i j pixel e =
     firstOf
     (whenever (not (small (pixel e .column))) (Coordinate i)
     ∷ whenever (not (small (pixel e .row))) (Coordinate j)
     ∷ whenever (repeats pixel e) (Repeat i)
+    ∷ whenever (falls pixel e) (Lower i)
     ∷ [])
 
--- "A call given a book record tests 2, 3, 4 in book order"; the place is 0
+-- "A call given a book record tests 2, 3, 4 in book order", and 19 after 4; the place is 0
 unfoldable pub patternTest : Pattern → Option Refusal
 unfolding firstOf first countTest pixelTest pixelAt
 patternTest t = firstOf (countTest 64 (t .used) 0 ∷ first 0 (t .used) (pixelTest 0 0 (pixelAt t)) ∷ [])
@@ -134,8 +144,8 @@ unfoldable pub countRead : List ℕ → ℕ → ℕ → Option Refusal
 unfolding firstOf whenever countTest byte
 countRead s most i = firstOf (whenever (leb (length s) i) (Ends (length s)) ∷ countTest most (byte s i) i ∷ [])
 
--- "both bytes of a pixel must be there before its column, its row, then repetition are tested": the pixel at position e of
--- those that begin at place i
+-- "both bytes of a pixel must be there before its column, its row, then repetition are tested", and then its order: the pixel
+-- at position e of those that begin at place i
 unfoldable pub pixelRead : List ℕ → ℕ → ℕ → Option Refusal
 unfolding firstOf whenever pixelTest pixelFrom
 pixelRead s i e =

@@ -2,10 +2,11 @@
 -- Assumes nothing.
 use Prim.Native.Nat.{ℕ, zero, suc, _+_, _*_, _/_}
 use mathlib.Core.Path.{_≡_}
-use mathlib.Core.Bool.{Bool, true, false, not, cond, _&&_}
+use mathlib.Core.Bool.{Bool, true, false, not, cond, _&&_, _||_}
 use mathlib.Core.List.{List, [], _∷_, flatMap}
 use lib.Dec.{leb, ltb, eqb}
 use lib.IntN.{ℤ, pos, negsuc, negℤ, natAbs, _+ℤ_, _-ℤ_, _*ℤ_}
+use lib.Signed.{ltZ}
 use lib.ListN.{getD}
 use Rattle.integers.specs.Division.{floorDiv, floorMod, divides, sameNumber}
 use Rattle.integers.specs.Gcd.{gcd}
@@ -26,6 +27,11 @@ at i j = record { column = i; row = j }
 unfoldable pub samePixel : Pixel → Pixel → Bool
 unfolding sameNumber
 samePixel p q = sameNumber (p .column) (q .column) && sameNumber (p .row) (q .row)
+
+-- Document 02, Card 3: "Pixels in a pattern now ascend by row, then column." p is lower in that order than q
+unfoldable pub lower : Pixel → Pixel → Bool
+unfolding sameNumber
+lower p q = ltZ (p .row) (q .row) || (sameNumber (p .row) (q .row) && ltZ (p .column) (q .column))
 
 -- p + q, p - q and n × p, coordinate by coordinate
 unfoldable pub plus : Pixel → Pixel → Pixel

@@ -44,8 +44,8 @@ pub struct PixelRecord {
     pub address: u32,
 }
 
-// The 18 refusals in document 01's order. The number in the first five is the place: a byte offset where the call was
-// given a book's bytes, and 0 where it was given a record.
+// The refusals in the order of their numbers, 1 to 19. The number in the first five and the last is the place: a byte offset
+// where the call was given a book's bytes, and 0 where it was given a record.
 pub enum Refusal {
     Ends(usize),
     Count(usize),
@@ -65,6 +65,7 @@ pub enum Refusal {
     Output,
     NoPattern,
     Ring,
+    Lower(usize),
 }
 
 // A plan and how many banks it has above the least count.

@@ -36,6 +36,7 @@ pub fn row_of(r: Refusal) -> Row
         Refusal::Output => Row(16, 0, no),
         Refusal::NoPattern => Row(17, 0, no),
         Refusal::Ring => Row(18, 0, no),
+        Refusal::Lower(i) => Row(19, i as u64, no),
     }
 }
 

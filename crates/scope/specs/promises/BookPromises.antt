@@ -7,14 +7,15 @@ use mathlib.Core.Option.{Option, none}
 use mathlib.Core.List.{List, [], _∷_, _++_, flatMap, List·Memᴰ}
 use lib.IntN.{ℤ, pos, _-ℤ_}
 use lib.ListN.{length, getD, take, drop}
-use Rattle.scope.specs.Plans.{Pixel, pixelAt, patternAt, pixels, patterns, banks}
+use Rattle.scope.specs.Plans.{Pixel, at, pixelAt, patternAt, pixels, patterns, banks}
 use Rattle.scope.specs.Banks.{overStart}
 use Rattle.scope.specs.Books.{byte, signed, unsigned, bookOf, pixelBytes, patternBytes, bookBytes}
 use Rattle.scope.specs.Numbers.{value, refusal, ofPlanned, ofCounted, ofOutcome, recordTest}
-use Rattle.scope.specs.Calls.{readBook, patternPart, partOutcome, partPlace, writeBook, find, fewest, check, fetch, ringFetch}
+use Rattle.scope.specs.Calls.{readBook, patternPart, partOutcome, partPlace, writeBook, find, fewest, check, moved, fetch, ringFetch}
 use Rattle.scope.specs.Program.{ascii, decimal, programText}
-use Rattle.scope.specs.promises.Meaning.{IsBook}
+use Rattle.scope.specs.promises.Meaning.{InRange, Lower, IsPattern, IsBook}
 use Rattle.scope.specs.declared.Plan.{Plan}
+use Rattle.scope.specs.declared.Pattern.{Pattern}
 use Rattle.scope.specs.declared.Book.{Book}
 use Rattle.scope.specs.declared.Clash.{Clash}
 
@@ -53,6 +54,33 @@ pub record WritesBack (s : List ℕ) : Type 0 where
 
 abbrev pub WriteAfterRead : Type 0
 WriteAfterRead = (s : List ℕ) → Bytes s → ofOutcome (readBook s .outcome) ≡ value tt → WritesBack s
+
+-- Document 02, Card 3: "Pixels in a pattern now ascend by row, then column." A pattern is legal exactly if it is sorted: each
+-- pixel is lower than all that follow it, so it is there once
+pub record Sorted (t : Pattern) : Type 0 where
+  pub least : 1 ≤ t .used
+  pub most : t .used ≤ 64
+  pub in-range : (e : ℕ) → e < t .used → InRange (pixelAt t e .column) × InRange (pixelAt t e .row)
+  pub ascending : (e l : ℕ) → e < l → l < t .used → Lower (pixelAt t e) (pixelAt t l)
+
+-- "the same patterns under the same numbers", each as a set of pixels
+pub record SameSets (book other : Book) : Type 0 where
+  pub count : book .count ≡ other .count
+  pub each :
+      (n : ℕ) → n < book .count → (v : Pixel)
+      → List·Memᴰ v (pixels (patternAt book n)) ↔ List·Memᴰ v (pixels (patternAt other n))
+
+pub record PixelsAscend : Type 0 where
+  pub sorted : (t : Pattern) → IsPattern t ↔ Sorted t
+  -- "Two books with the same patterns under the same numbers are then the same bytes", as records and as bytes that were read
+  pub same-bytes : (book other : Book) → IsBook book → IsBook other → SameSets book other → bookBytes book ≡ bookBytes other
+  pub same-read :
+      (s t : List ℕ) → Bytes s → Bytes t → ofOutcome (readBook s .outcome) ≡ value tt → ofOutcome (readBook t .outcome) ≡ value tt
+      → SameSets (readBook s .book) (readBook t .book) → s ≡ t
+  -- "Fetched words follow the new order": so do the pixels of a moved pattern, whose words a fetch gives (PictureCalls.fetches)
+  pub fetched :
+      (book : Book) (n : ℕ) (o : Pixel) (e l : ℕ) → IsBook book → n < book .count → e < l → l < patternAt book n .used
+      → Lower (getD (moved (patternAt book n) o) e (at (pos 0) (pos 0))) (getD (moved (patternAt book n) o) l (at (pos 0) (pos 0)))
 
 -- a pattern's part of the bytes is taken exactly if the book is and has that pattern, and is the bytes of its pixels
 pub record PartsAre : Type 0 where

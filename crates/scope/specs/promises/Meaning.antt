@@ -1,7 +1,7 @@
 -- What the lists and tests of the definitions mean, in plain numbers, and that a legal call is never refused. Statements;
 -- Promises.antt has them all. A small letter is a test that computes, as `isPlan`, a capital what it means, as `IsPlan`.
 -- Assumes nothing.
-use Prim.Native.Nat.{ℕ, _+_, _*_, _≤_, _<_}
+use Prim.Native.Nat.{ℕ, suc, _+_, _*_, _≤_, _<_}
 use mathlib.Core.Path.{_≡_}
 use mathlib.Core.Logic.{_↔_}
 use mathlib.Core.Bool.{Bool, true, false}
@@ -9,10 +9,10 @@ use mathlib.Core.Option.{Option, none, some}
 use mathlib.Core.List.{List, [], _∷_, _++_, List·Memᴰ}
 use lib.IntN.{ℤ, pos, negsuc, _+ℤ_}
 use lib.ListN.{length, getD}
-use lib.Signed.{_≤ℤ_}
+use lib.Signed.{_≤ℤ_, _<ℤ_}
 use Rattle.integers.specs.Gcd.{Multiple}
 use Rattle.scope.specs.Search.{firstOf}
-use Rattle.scope.specs.Plans.{Pixel, at, minus, pixelAt, patternAt, pixels, patterns, differences, banks, InLattice, latticeTest, suits, suitsAll, determinant, determinantSize, normalForm}
+use Rattle.scope.specs.Plans.{Pixel, at, lower, minus, pixelAt, patternAt, pixels, patterns, differences, banks, InLattice, latticeTest, suits, suitsAll, determinant, determinantSize, normalForm}
 use Rattle.scope.specs.Banks.{bankOf, addressOf, depthOf, pixelOf, inside}
 use Rattle.scope.specs.Books.{bookBytes}
 use Rattle.scope.specs.Numbers.{value, ofPlanned, ofCounted, ofOutcome, recordTest, limitTest, dependentTest, largeTest, suitsTest, planTest, sidesTest, memoryTest, outsideTest, bankTest, cellTest, outputTest, numberTest, ringTest}
@@ -56,11 +56,19 @@ pub record IsPicture (p : Plan) (W H words : ℕ) : Type 0 where
 abbrev pub InRange : ℤ → Type 0
 InRange z = (negsuc 15 ≤ℤ z) × (z ≤ℤ pos 15)
 
--- "different pixels, each coordinate from -16 to 15": the pixel at position e is a legal one after those before it
+-- Document 02, Card 3: "ascend by row, then column". p is lower in that order than q: its row is less, or the rows are the same
+-- and its column is less
+pub data Lower (p q : Pixel) : Type 0 where
+  by-row : p .row <ℤ q .row → Lower p q
+  by-column : p .row ≡ q .row → p .column <ℤ q .column → Lower p q
+
+-- "different pixels, each coordinate from -16 to 15", and "Pixels in a pattern now ascend": the pixel at position e is a legal
+-- one after those before it
 pub record PixelLegal (pixel : ℕ → Pixel) (e : ℕ) : Type 0 where
   pub column : InRange (pixel e .column)
   pub row : InRange (pixel e .row)
   pub new : (l : ℕ) → l < e → pixel l ≡ pixel e → ⊥
+  pub ascends : (l : ℕ) → suc l ≡ e → Lower (pixel l) (pixel e)
 
 -- "A pattern is 1 to 64 different pixels"
 pub record IsPattern (t : Pattern) : Type 0 where
@@ -107,6 +115,10 @@ SuitsMeans =
     (p : Plan) → 1 ≤ p .a → 1 ≤ p .d → (t : List Pixel)
     → (suits p t ≡ true) ↔ ((v w : Pixel) → List·Memᴰ v t → List·Memᴰ w t → (v ≡ w → ⊥) → InLattice p (minus v w) → ⊥)
 
+-- the test of the order by row, then column
+abbrev pub LowerMeans : Type 0
+LowerMeans = (p q : Pixel) → (lower p q ≡ true) ↔ Lower p q
+
 abbrev pub InsideMeans : Type 0
 InsideMeans = (W H : ℕ) (v : Pixel) → (inside W H v ≡ true) ↔ Inside W H v
 
@@ -123,7 +135,7 @@ pub record ChainIsFirst : Type 0 where
 -- For each number but 1 and 5 (BytesMean, ReaderRefuses) and 7 (FinderNone), its test finds nothing exactly where the condition
 -- does not hold. (That it then gives that number: RefusalPromises.antt.)
 pub record TestsMean : Type 0 where
-  pub book-2-3-4 : (book : Book) → (recordTest book ≡ none) ↔ IsBook book
+  pub book-2-3-4-19 : (book : Book) → (recordTest book ≡ none) ↔ IsBook book
   pub limit-6 : (limit : ℕ) → (limitTest limit ≡ none) ↔ ((1 ≤ limit) × (limit ≤ 1024))
   pub dependent-8 : (x y : Pixel) → (dependentTest x y ≡ none) ↔ Independent x y
   pub large-9 : (x y : Pixel) → (largeTest x y ≡ none) ↔ (determinantSize x y ≤ 1024)
@@ -142,7 +154,7 @@ pub record TestsMean : Type 0 where
 -- A legal call is never refused: the test of a record, the writer, and plans. (The finder and the check: PlanPromises; calls on
 -- a picture: PicturePromises; the reader and a pattern's part: BookPromises, BytesMean and PartsAre.)
 pub record LegalCallsAnswer : Type 0 where
-  -- "A call given a book record tests 2, 3, 4": that test by itself
+  -- "A call given a book record tests 2, 3, 4", and 19: that test by itself
   pub record-outcome : (book : Book) → IsBook book → ofOutcome (recordOutcome book) ≡ value tt
   pub write :
       (book : Book) (out : List ℕ) → IsBook book → length (bookBytes book) ≤ length out

@@ -2,12 +2,12 @@
 -- Assumes nothing.
 use Rattle.integers.specs.Division.{FloorDivision, Divisibility, CeilingDivision, SameNumberMeans}
 use Rattle.integers.specs.Gcd.{EuclidsRule, GcdIsGreatest}
-use Rattle.scope.specs.promises.Meaning.{PatternsAre, LatticeMeans, SuitsMeans, InsideMeans, ChainIsFirst, TestsMean, LegalCallsAnswer}
+use Rattle.scope.specs.promises.Meaning.{PatternsAre, LatticeMeans, SuitsMeans, LowerMeans, InsideMeans, ChainIsFirst, TestsMean, LegalCallsAnswer}
 use Rattle.scope.specs.promises.Demand.{LastStoredMeans, Demand3}
 use Rattle.scope.specs.promises.PlanPromises.{NormalFormIsOnly, FinderIsLeast, FinderNone, FinderDecides, FinderOrder, BoxIsGreatest, FinderStaysWithin, LimitIsEnough, CountIsLeast, SurplusIsExcess, ClashIsFirst, CheckDecides}
 use Rattle.scope.specs.promises.PicturePromises.{FormulasAre, BanksAreClasses, PixelsHaveWords, ReverseMap, PictureCalls, RefusalsChangeNothing, RingKeepsBanks}
 use Rattle.scope.specs.promises.RefusalPromises.{CallsRefuse, RecordRefuses, ReaderRefuses}
-use Rattle.scope.specs.promises.BookPromises.{TwosComplement, BytesMean, ReadAfterWrite, WriteAfterRead, PartsAre, UnusedDontCount, ReaderSetsZero, DecimalMeans, ProgramWrites}
+use Rattle.scope.specs.promises.BookPromises.{TwosComplement, BytesMean, ReadAfterWrite, WriteAfterRead, PixelsAscend, PartsAre, UnusedDontCount, ReaderSetsZero, DecimalMeans, ProgramWrites}
 
 pub record Promises : Type 0 where
   -- whole numbers
@@ -21,6 +21,7 @@ pub record Promises : Type 0 where
   pub patterns-are : PatternsAre
   pub lattice-means : LatticeMeans
   pub suits-means : SuitsMeans
+  pub lower-means : LowerMeans
   pub inside-means : InsideMeans
   pub chain-is-first : ChainIsFirst
   pub tests-mean : TestsMean
@@ -55,6 +56,7 @@ pub record Promises : Type 0 where
   pub bytes-mean : BytesMean
   pub read-after-write : ReadAfterWrite
   pub write-after-read : WriteAfterRead
+  pub pixels-ascend : PixelsAscend
   pub parts-are : PartsAre
   pub unused-dont-count : UnusedDontCount
   pub reader-sets-zero : ReaderSetsZero

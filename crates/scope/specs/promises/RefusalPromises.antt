@@ -13,7 +13,7 @@ use Rattle.scope.specs.Banks.{depthOf}
 use Rattle.scope.specs.Books.{signed, patternOf, bookOf, pixelBytes, patternBytes, bookBytes}
 use Rattle.scope.specs.Numbers.{Answer, value, refusal, turnedDown, ofPlanned, ofCounted, ofLoaded, ofLocated, ofOutcome, ofVerdict, recordTest}
 use Rattle.scope.specs.Calls.{readBook, partOutcome, recordOutcome, writeBook, normal, find, fewest, check, bank, depth, address, locate, store, load, clear, sum, lent, moved, fetch, ringFetch, recordPixel, fillRecords}
-use Rattle.scope.specs.promises.Meaning.{IsPlan, IsSide, Inside, AllInside, IsPicture, InRange, PixelLegal, IsPattern, IsBook, Independent, RingAllowed}
+use Rattle.scope.specs.promises.Meaning.{IsPlan, IsSide, Inside, AllInside, IsPicture, InRange, Lower, PixelLegal, IsPattern, IsBook, Independent, RingAllowed}
 use Rattle.scope.specs.promises.PicturePromises.{LegalFetch}
 use Rattle.scope.specs.declared.Plan.{Plan}
 use Rattle.scope.specs.declared.Pattern.{Pattern}
@@ -42,9 +42,9 @@ pub record BankRefused {A : Type 0} (p : Plan) (W H words k : ℕ) (r : Answer A
   pub first : PictureRefused p W H words r
   pub bank-15 : IsPicture p W H words → banks p ≤ k → r ≡ refusal 15 0 none
 
--- 2, 3, 4, 11, 12, 13, 17, then 10: both fetches
+-- 2, 3, 4, 19, 11, 12, 13, 17, then 10: both fetches
 pub record FetchRefused (book : Book) (p : Plan) (W H words n : ℕ) (r : Answer ℕ) : Type 0 where
-  pub book-2-3-4 : (f : Refusal) → recordTest book ≡ some f → r ≡ turnedDown f
+  pub book-2-3-4-19 : (f : Refusal) → recordTest book ≡ some f → r ≡ turnedDown f
   pub first : IsBook book → PictureRefused p W H words r
   pub number-17 : IsBook book → IsPicture p W H words → book .count ≤ n → r ≡ refusal 17 0 none
   pub suits-10 :
@@ -56,18 +56,18 @@ pub record FetchRefused (book : Book) (p : Plan) (W H words n : ℕ) (r : Answer
 pub record CallsRefuse : Type 0 where
   pub normal-8 : (x y : Pixel) → (Independent x y → ⊥) → ofPlanned (normal x y) ≡ refusal 8 0 none
   pub normal-9 : (x y : Pixel) → 1024 < determinantSize x y → ofPlanned (normal x y) ≡ refusal 9 0 none
-  pub find-2-3-4 : (book : Book) (limit : ℕ) (f : Refusal) → recordTest book ≡ some f → ofPlanned (find book limit) ≡ turnedDown f
+  pub find-2-3-4-19 : (book : Book) (limit : ℕ) (f : Refusal) → recordTest book ≡ some f → ofPlanned (find book limit) ≡ turnedDown f
   pub find-6 :
       (book : Book) (limit : ℕ) → IsBook book → ((1 ≤ limit) × (limit ≤ 1024) → ⊥)
       → ofPlanned (find book limit) ≡ refusal 6 0 none
-  pub count-2-3-4 : (book : Book) (f : Refusal) → recordTest book ≡ some f → ofCounted (fewest book) ≡ turnedDown f
-  pub check-2-3-4 : (book : Book) (x y : Pixel) (f : Refusal) → recordTest book ≡ some f → ofVerdict (check book x y) ≡ turnedDown f
+  pub count-2-3-4-19 : (book : Book) (f : Refusal) → recordTest book ≡ some f → ofCounted (fewest book) ≡ turnedDown f
+  pub check-2-3-4-19 : (book : Book) (x y : Pixel) (f : Refusal) → recordTest book ≡ some f → ofVerdict (check book x y) ≡ turnedDown f
   pub check-8 : (book : Book) (x y : Pixel) → IsBook book → (Independent x y → ⊥) → ofVerdict (check book x y) ≡ refusal 8 0 none
   pub check-9 :
       (book : Book) (x y : Pixel) → IsBook book → 1024 < determinantSize x y → ofVerdict (check book x y) ≡ refusal 9 0 none
-  -- "A call given a book record tests 2, 3, 4": that test by itself
-  pub record-2-3-4 : (book : Book) (f : Refusal) → recordTest book ≡ some f → ofOutcome (recordOutcome book) ≡ turnedDown f
-  pub write-2-3-4 :
+  -- "A call given a book record tests 2, 3, 4", and 19: that test by itself
+  pub record-2-3-4-19 : (book : Book) (f : Refusal) → recordTest book ≡ some f → ofOutcome (recordOutcome book) ≡ turnedDown f
+  pub write-2-3-4-19 :
       (book : Book) (out : List ℕ) (f : Refusal) → recordTest book ≡ some f
       → ofCounted (writeBook book out .answer) ≡ turnedDown f
   pub write-16 :
@@ -117,7 +117,7 @@ pub record CallsRefuse : Type 0 where
       → (AllInside W H (map recordPixel rs) → ⊥)
       → ofOutcome (fillRecords p W H rs .answer) ≡ refusal 14 0 none
 
--- "A call given a book record tests 2, 3, 4 in book order": the patterns before number n are legal,
+-- "A call given a book record tests 2, 3, 4 in book order", and 19 "after 4": the patterns before number n are legal,
 pub record LegalUpTo (book : Book) (n : ℕ) : Type 0 where
   pub least : 1 ≤ book .count
   pub most : book .count ≤ 16
@@ -145,6 +145,13 @@ pub record RecordRefuses : Type 0 where
       → InRange (pixelAt (patternAt book n) e .column) → InRange (pixelAt (patternAt book n) e .row)
       → l < e → pixelAt (patternAt book n) l ≡ pixelAt (patternAt book n) e
       → recordTest book ≡ some (Refusal.Repeat 0)
+  -- Card 3: "a pixel lower in that order than the one before it, tested after 4"
+  pub lower-19 :
+      (book : Book) (n l : ℕ) → LegalUpTo book n → PixelsUpTo (patternAt book n) (suc l)
+      → InRange (pixelAt (patternAt book n) (suc l) .column) → InRange (pixelAt (patternAt book n) (suc l) .row)
+      → ((m : ℕ) → m < suc l → pixelAt (patternAt book n) m ≡ pixelAt (patternAt book n) (suc l) → ⊥)
+      → Lower (pixelAt (patternAt book n) (suc l)) (pixelAt (patternAt book n) l)
+      → recordTest book ≡ some (Refusal.Lower 0)
 
 -- "A book is read left to right". The bytes so far: the count m, and the patterns ts, whole and legal, of which more are due
 abbrev pub bytesSoFar : ℕ → List (List Pixel) → List ℕ
@@ -169,7 +176,8 @@ pub record PixelsSoFar (m : ℕ) (ts : List (List Pixel)) (c : ℕ) (t : List Pi
 abbrev pub readAnswer : List ℕ → Answer Unit
 readAnswer s = ofOutcome (readBook s .outcome)
 
--- "The place is a byte offset for 1 to 5 where the call was given a book's bytes": what comes next decides number and place
+-- "The place is a byte offset for 1 to 5 where the call was given a book's bytes", and for 19: what comes next decides number
+-- and place
 pub record ReaderRefuses : Type 0 where
   pub no-byte-1 : readAnswer [] ≡ refusal 1 0 none
   pub patterns-2 : (m : ℕ) (rest : List ℕ) → ((1 ≤ m) × (m ≤ 16) → ⊥) → readAnswer (m ∷ rest) ≡ refusal 2 0 none
@@ -193,6 +201,12 @@ pub record ReaderRefuses : Type 0 where
       (m : ℕ) (ts : List (List Pixel)) (c : ℕ) (t : List Pixel) (x y : ℕ) (rest : List ℕ) → PixelsSoFar m ts c t
       → InRange (signed x) → InRange (signed y) → List·Memᴰ (at (signed x) (signed y)) t
       → readAnswer (bytesWithin m ts c t ++ (x ∷ y ∷ rest)) ≡ refusal 4 (length (bytesWithin m ts c t)) none
+  -- Card 3: "its place in a book's bytes being the pixel's first byte"
+  pub lower-19 :
+      (m : ℕ) (ts : List (List Pixel)) (c : ℕ) (t : List Pixel) (x y : ℕ) (rest : List ℕ) → PixelsSoFar m ts c t
+      → InRange (signed x) → InRange (signed y) → (List·Memᴰ (at (signed x) (signed y)) t → ⊥)
+      → (l : ℕ) → suc l ≡ length t → Lower (at (signed x) (signed y)) (getD t l (at (pos 0) (pos 0)))
+      → readAnswer (bytesWithin m ts c t ++ (x ∷ y ∷ rest)) ≡ refusal 19 (length (bytesWithin m ts c t)) none
   pub extra-5 :
       (s rest : List ℕ) → readAnswer s ≡ value tt → 1 ≤ length rest → readAnswer (s ++ rest) ≡ refusal 5 (length s) none
   -- the record of a refused book is that of no pattern

@@ -13,13 +13,10 @@ use Rattle.scope.specs.Books.{bookOf}
 use Rattle.scope.specs.Numbers.{Answer, value}
 use Rattle.scope.specs.Calls.{readBook, patternPart, partPlace, recordOutcome, partOutcome, writeBook, normal, find, fewest, check, bank, depth, address, locate}
 use Rattle.scope.specs.Program.{ascii, decimal, programText}
-use Rattle.scope.specs.values.Rows.{Row, Hold, row, is, refused, clashes, planned, counted, located, done, neg, px, one, two, gap, threeAndThree, cross, finds, reads, checks, caseOf}
+use Rattle.scope.specs.values.Rows.{Row, Hold, row, is, refused, clashes, planned, counted, located, done, neg, px, one, two, gap, threeAndThree, cross, fivePixels, down, finds, reads, checks, caseOf}
 use Rattle.scope.specs.declared.Plan.{Plan}
 
--- A book's five pixels of the cross, and the book of two patterns of three pixels.
-book5 : List ℕ
-book5 = 1 ∷ 5 ∷ 0 ∷ 0 ∷ 0xff ∷ 0 ∷ 1 ∷ 0 ∷ 0 ∷ 0xff ∷ 0 ∷ 1 ∷ []
-
+-- The book of two patterns of three pixels.
 book33 : List ℕ
 book33 = 2 ∷ 3 ∷ 0 ∷ 0 ∷ 1 ∷ 0 ∷ 2 ∷ 0 ∷ 3 ∷ 0 ∷ 0 ∷ 0 ∷ 1 ∷ 0 ∷ 2 ∷ []
 
@@ -86,7 +83,7 @@ ties-hold = refl
 coordinates : List Row
 unfolding row refused writes one px at neg
 coordinates =
-    row (writes ((at (neg 16) (pos 15) ∷ at (pos 15) (neg 16) ∷ []) ∷ []) []) (refused 16 0)
+    row (writes ((at (pos 15) (neg 16) ∷ at (neg 16) (pos 15) ∷ []) ∷ []) []) (refused 16 0)
     ∷ row (writes ((px 16 0 ∷ []) ∷ []) []) (refused 3 0)
     ∷ row (writes ((at (pos 0) (neg 17) ∷ []) ∷ []) []) (refused 3 0)
     ∷ row (writes (one ∷ (px 0 0 ∷ px 1 0 ∷ px 1 0 ∷ []) ∷ []) []) (refused 4 0)
@@ -100,7 +97,7 @@ coordinates-hold = refl
 reading : List Row
 unfolding row is refused reads
 reading =
-    row (reads (1 ∷ 2 ∷ 0xf0 ∷ 0x0f ∷ 0x0f ∷ 0xf0 ∷ [])) (is [])
+    row (reads (1 ∷ 2 ∷ 0x0f ∷ 0xf0 ∷ 0xf0 ∷ 0x0f ∷ [])) (is [])
     ∷ row (reads (1 ∷ 1 ∷ 0 ∷ 0xef ∷ [])) (refused 3 3)
     ∷ row (reads (1 ∷ 1 ∷ 0x10 ∷ 0x10 ∷ [])) (refused 3 2)
     ∷ row (reads (1 ∷ 1 ∷ 0x10 ∷ [])) (refused 1 3)
@@ -141,6 +138,70 @@ bookOrders-hold : Hold bookOrders
 unfolding bookOrders
 bookOrders-hold = refl
 
+-- Card 3, 19 with its place: the same row and the next column is taken, the same row and a lower column is not, nor a row lower
+-- by one; a row higher by one is, whatever the column; the first pixel of a pattern always is. Each pixel is compared with the
+-- one just before it.
+ascending : List Row
+unfolding row is refused reads
+ascending =
+    row (reads (1 ∷ 2 ∷ 0 ∷ 0 ∷ 1 ∷ 0 ∷ [])) (is [])
+    ∷ row (reads (1 ∷ 2 ∷ 1 ∷ 0 ∷ 0 ∷ 0 ∷ [])) (refused 19 4)
+    ∷ row (reads (1 ∷ 2 ∷ 0 ∷ 1 ∷ 5 ∷ 0 ∷ [])) (refused 19 4)
+    ∷ row (reads (1 ∷ 2 ∷ 5 ∷ 0 ∷ 0 ∷ 1 ∷ [])) (is [])
+    ∷ row (reads (1 ∷ 2 ∷ 0x0f ∷ 0xf0 ∷ 0xf0 ∷ 0xf1 ∷ [])) (is [])
+    ∷ row (reads (1 ∷ 2 ∷ 0xf0 ∷ 0xf1 ∷ 0x0f ∷ 0xf0 ∷ [])) (refused 19 4)
+    ∷ row (reads (1 ∷ 2 ∷ 0 ∷ 0 ∷ 0xff ∷ 0 ∷ [])) (refused 19 4)
+    ∷ row (reads (1 ∷ 2 ∷ 0 ∷ 0 ∷ 0 ∷ 0xff ∷ [])) (refused 19 4)
+    ∷ row (reads (1 ∷ 1 ∷ 0xf0 ∷ 0xf0 ∷ [])) (is [])
+    ∷ row (reads (2 ∷ 1 ∷ 5 ∷ 5 ∷ 1 ∷ 0 ∷ 0 ∷ [])) (is [])
+    ∷ row (reads (1 ∷ 3 ∷ 0 ∷ 0 ∷ 2 ∷ 0 ∷ 1 ∷ 0 ∷ [])) (refused 19 6)
+    ∷ row (reads (2 ∷ 1 ∷ 0 ∷ 0 ∷ 2 ∷ 1 ∷ 0 ∷ 0 ∷ 0 ∷ [])) (refused 19 7)
+    ∷ []
+
+ascending-hold : Hold ascending
+unfolding ascending
+ascending-hold = refl
+
+-- 19 beside another condition of the book: 3 and 4 come before it, 1 where the pixel's bytes are not there; an earlier pixel's 19
+-- comes before a later one's 3 and 4, a later pattern's 2, and 5.
+ascendingOrders : List Row
+unfolding row refused reads
+ascendingOrders =
+    row (reads (1 ∷ 3 ∷ 0 ∷ 0 ∷ 1 ∷ 0 ∷ 0 ∷ 0 ∷ [])) (refused 4 6)
+    ∷ row (reads (1 ∷ 2 ∷ 0 ∷ 0 ∷ 0x10 ∷ 0xff ∷ [])) (refused 3 4)
+    ∷ row (reads (1 ∷ 2 ∷ 0 ∷ 0 ∷ 0 ∷ 0xef ∷ [])) (refused 3 5)
+    ∷ row (reads (1 ∷ 2 ∷ 1 ∷ 0 ∷ 0 ∷ [])) (refused 1 5)
+    ∷ row (reads (1 ∷ 3 ∷ 1 ∷ 0 ∷ 0 ∷ 0 ∷ 0x10 ∷ 0 ∷ [])) (refused 19 4)
+    ∷ row (reads (1 ∷ 3 ∷ 1 ∷ 0 ∷ 0 ∷ 0 ∷ 0 ∷ 0 ∷ [])) (refused 19 4)
+    ∷ row (reads (2 ∷ 2 ∷ 1 ∷ 0 ∷ 0 ∷ 0 ∷ 0 ∷ [])) (refused 19 4)
+    ∷ row (reads (1 ∷ 2 ∷ 1 ∷ 0 ∷ 0 ∷ 0 ∷ 7 ∷ [])) (refused 19 4)
+    ∷ []
+
+ascendingOrders-hold : Hold ascendingOrders
+unfolding ascendingOrders
+ascendingOrders-hold = refl
+
+-- 19 of the other calls that take a book, at place 0 of a record, and before 6, 8, 9, 16 and 17.
+ascendingCalls : List Row
+unfolding row is refused counted done finds fewest checks writes recordOutcome patternPart partOutcome partPlace programText ascii down bookOf px
+ascendingCalls =
+    row (finds (down ∷ []) 0) (refused 19 0)
+    ∷ row (counted (fewest (bookOf (down ∷ [])))) (refused 19 0)
+    ∷ row (checks (down ∷ []) (px 2 1) (px 4 2)) (refused 19 0)
+    ∷ row (checks (down ∷ []) (px 32 0) (px 0 33)) (refused 19 0)
+    ∷ row (writes (down ∷ []) []) (refused 19 0)
+    ∷ row (done (recordOutcome (bookOf (down ∷ [])))) (refused 19 0)
+    ∷ row (done (recordOutcome (bookOf ((px 0 0 ∷ px 1 0 ∷ px 0 0 ∷ []) ∷ [])))) (refused 4 0)
+    ∷ row (done (recordOutcome (bookOf ((px 1 0 ∷ px 0 16 ∷ []) ∷ [])))) (refused 3 0)
+    ∷ row (done (partOutcome (1 ∷ 2 ∷ 1 ∷ 0 ∷ 0 ∷ 0 ∷ []) 1)) (refused 19 4)
+    ∷ row (is (partPlace (1 ∷ 2 ∷ 1 ∷ 0 ∷ 0 ∷ 0 ∷ []) 0 ∷ patternPart (1 ∷ 2 ∷ 1 ∷ 0 ∷ 0 ∷ 0 ∷ []) 0)) (is (0 ∷ []))
+    ∷ row (is (programText (1 ∷ 2 ∷ 1 ∷ 0 ∷ 0 ∷ 0 ∷ []))) (is (ascii "refused 19\n"))
+    ∷ []
+
+ascendingCalls-hold : Hold ascendingCalls
+unfolding ascendingCalls
+ascendingCalls-hold = refl
+
 -- What was read, and a pattern's part of the bytes.
 parts : List Row
 unfolding row is refused planned find readBook done patternPart partPlace recordOutcome partOutcome book33 patternAt px bookOf
@@ -166,10 +227,10 @@ parts-hold = refl
 
 -- The writer: just enough room, more, and too little.
 writing : List Row
-unfolding row is writes writeBook bookOf cross book5
+unfolding row is writes writeBook bookOf cross fivePixels
 writing =
     row (writes cross (replicate 12 7)) (is (12 ∷ []))
-    ∷ row (is (writeBook (bookOf cross) (replicate 13 7) .content)) (is (book5 ++ (7 ∷ [])))
+    ∷ row (is (writeBook (bookOf cross) (replicate 13 7) .content)) (is (fivePixels ++ (7 ∷ [])))
     ∷ row (is (writeBook (bookOf cross) (replicate 11 7) .content)) (is (replicate 11 7))
     ∷ []
 
@@ -180,9 +241,9 @@ writing-hold = refl
 -- The program. Nine patterns (0,0), (i,0), i from 1 to 9, need 10 banks. The last two rows are document 01's "banks 5",
 -- "plan 5 2 1" and "refused 1", each letter in ASCII.
 programs : List Row
-unfolding row is programText ascii book5 gather flatMap decimal
+unfolding row is programText ascii fivePixels gather flatMap decimal
 programs =
-    row (is (programText book5)) (is (ascii "banks 5\nplan 5 2 1\n"))
+    row (is (programText fivePixels)) (is (ascii "banks 5\nplan 5 2 1\n"))
     ∷ row (is (programText [])) (is (ascii "refused 1\n"))
     ∷ row (is (programText (9 ∷ flatMap (λ i. 2 ∷ 0 ∷ 0 ∷ i ∷ 0 ∷ []) (gather 1 9 λ i. i)))) (is (ascii "banks 10\nplan 10 0 1\n"))
     ∷ row (is (programText (6 ∷ flatMap (λ v. 2 ∷ 0 ∷ 0 ∷ v) ((0 ∷ 1 ∷ []) ∷ (1 ∷ 1 ∷ []) ∷ (2 ∷ 1 ∷ []) ∷ (0xff ∷ 1 ∷ []) ∷ (1 ∷ 2 ∷ []) ∷ (1 ∷ 0 ∷ []) ∷ [])))) (is (ascii "banks 4\nplan 2 0 2\n"))
@@ -270,7 +331,7 @@ unfolding row is clashes checks caseOfTwo one two px
 verdicts =
     row (checks (two ∷ []) (px 3 0) (px 1 2)) (is (3 ∷ 1 ∷ 2 ∷ 4 ∷ []))
     ∷ row (checks (one ∷ (px 0 0 ∷ px 1 0 ∷ px 2 1 ∷ []) ∷ []) (px 5 0) (px 2 1)) (clashes 1 0 2)
-    ∷ row (checks ((px 0 0 ∷ px 1 0 ∷ px 3 0 ∷ px 2 0 ∷ []) ∷ two ∷ []) (px 2 0) (px 0 1)) (clashes 0 0 3)
+    ∷ row (checks ((px 0 0 ∷ px 1 0 ∷ px 3 0 ∷ px 4 0 ∷ []) ∷ two ∷ []) (px 2 0) (px 0 1)) (clashes 0 0 3)
     ∷ row (is (caseOfTwo (px 2 0) (px 0 1) ∷ caseOfTwo (px 1 0) (px 0 2) ∷ caseOfTwo (px 2 0) (px 1 0) ∷ [])) (is (1 ∷ 2 ∷ 3 ∷ []))
     ∷ []
 

@@ -1,5 +1,6 @@
--- Document 01, "Figures to agree with": the starred figures and the examples of the table of refusals, row by row, and the
--- one theorem that checks the definitions on them by computation. BookEdges.antt and PictureEdges.antt have more rows.
+-- Document 01, "Figures to agree with": the starred figures and the examples of the table of refusals, row by row, the figures
+-- that document 02 changes or adds, and the one theorem that checks the definitions on them by computation. BookEdges.antt and
+-- PictureEdges.antt have more rows.
 -- Card 1: "The 2 by 2 square of pixels moves from 4, 2, 1 to 2, 0, 2; the other figures in document 01 are unaffected."
 -- Assumes nothing.
 use Prim.Native.Nat.{ℕ}
@@ -7,8 +8,9 @@ use mathlib.Core.Path.{refl}
 use mathlib.Core.List.{List, [], _∷_, _++_}
 use lib.IntN.{pos}
 use Rattle.scope.specs.Plans.{at, plan}
-use Rattle.scope.specs.Calls.{normal, bank, depth, address, locate, load}
-use Rattle.scope.specs.values.Rows.{Row, Hold, row, is, refused, clashes, planned, counted, loaded, located, neg, px, one, two, three, threeAndThree, gap, square, cross, sixPairs, finds, reads, checks, fetches, rings}
+use Rattle.scope.specs.Calls.{readBook, normal, find, bank, depth, address, locate, load}
+use Rattle.scope.specs.Program.{ascii, programText}
+use Rattle.scope.specs.values.Rows.{Row, Hold, row, is, refused, clashes, planned, counted, loaded, located, neg, px, one, two, three, threeAndThree, gap, square, cross, fivePixels, sixPairs, finds, reads, checks, fetches, rings}
 
 starred : List Row
 unfolding row is refused finds planned counted located normal bank depth address locate plan one three threeAndThree gap square cross sixPairs px at neg
@@ -54,9 +56,19 @@ examples =
     ∷ row (rings (one ∷ []) 7 5 0 (0 ∷ [])) (refused 18 0)
     ∷ []
 
+-- Document 02, Card 3: "The five-pixel figure becomes 01 05 00 FF FF 00 00 00 01 00 00 01, with the same output." Document 01 had
+-- these pixels in another order, which is now refused by 19 at the first byte of its second pixel.
+card3 : List Row
+unfolding row is refused reads planned find readBook programText ascii fivePixels
+card3 =
+    row (is (programText fivePixels)) (is (ascii "banks 5\nplan 5 2 1\n"))
+    ∷ row (planned (find (readBook fivePixels .book) 1024)) (is (5 ∷ 2 ∷ 1 ∷ []))
+    ∷ row (reads (1 ∷ 5 ∷ 0 ∷ 0 ∷ 0xff ∷ 0 ∷ 1 ∷ 0 ∷ 0 ∷ 0xff ∷ 0 ∷ 1 ∷ [])) (refused 19 4)
+    ∷ []
+
 figures : List Row
-unfolding starred examples
-figures = starred ++ examples
+unfolding starred examples card3
+figures = starred ++ examples ++ card3
 
 figures-hold : Hold figures
 unfolding figures

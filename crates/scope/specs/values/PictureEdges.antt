@@ -12,7 +12,7 @@ use Rattle.scope.specs.Numbers.{Answer, value, refusal}
 use Rattle.scope.specs.Calls.{bank, depth, address, locate, lent, store, load, clear, sum, fetch, ringFetch, fillRecords}
 use Rattle.scope.specs.code.Words.{word}
 use Rattle.scope.specs.promises.Demand as Demand
-use Rattle.scope.specs.values.Rows.{Row, Hold, row, is, refused, clashes, counted, loaded, located, done, records, neg, px, one, two, finds, checks}
+use Rattle.scope.specs.values.Rows.{Row, Hold, row, is, refused, clashes, counted, loaded, located, done, records, neg, px, one, two, down, finds, checks}
 use Rattle.scope.specs.declared.Plan.{Plan}
 use Rattle.scope.specs.declared.Book.{Book}
 use Rattle.scope.specs.declared.PixelRecord.{PixelRecord}
@@ -191,9 +191,10 @@ orders-hold = refl
 
 -- The same for a fetch.
 fetchOrders : List Row
-unfolding row refused clashes plan one two px fetchAnswer fetch unusedTwo counted
+unfolding row refused clashes plan one two down px fetchAnswer fetch unusedTwo counted
 fetchOrders =
     row (fetchAnswer [] (plan 0 0 1) 0 0 0 0 (px 0 0) []) (refused 2 0)
+    ∷ row (fetchAnswer (down ∷ []) (plan 0 0 1) 0 0 0 0 (px 0 0) []) (refused 19 0)
     ∷ row (fetchAnswer (one ∷ []) (plan 0 0 1) 0 0 0 0 (px 0 0) []) (refused 11 0)
     ∷ row (fetchAnswer (one ∷ []) (plan 1 0 1) 5000 1 0 0 (px 0 0) []) (refused 12 0)
     ∷ row (fetchAnswer (one ∷ []) (plan 2 0 1) 2 2 3 1 (px 0 0) []) (refused 13 0)
@@ -211,9 +212,10 @@ fetchOrders-hold = refl
 
 -- And for a ring fetch.
 ringOrders : List Row
-unfolding row refused clashes plan one two px ringAnswer ringFetch unusedTwo counted
+unfolding row refused clashes plan one two down px ringAnswer ringFetch unusedTwo counted
 ringOrders =
     row (ringAnswer [] (plan 0 0 1) 0 0 0 0 (px 0 0) []) (refused 2 0)
+    ∷ row (ringAnswer (down ∷ []) (plan 0 0 1) 0 0 0 0 (px 0 0) []) (refused 19 0)
     ∷ row (ringAnswer (one ∷ []) (plan 0 0 1) 0 0 0 0 (px 0 0) []) (refused 11 0)
     ∷ row (ringAnswer (one ∷ []) (plan 1 0 1) 5000 1 0 0 (px 0 0) []) (refused 12 0)
     ∷ row (ringAnswer (one ∷ []) (plan 2 0 1) 2 2 3 1 (px 0 0) []) (refused 13 0)

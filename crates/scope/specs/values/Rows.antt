@@ -79,7 +79,7 @@ unfoldable pub records : List PixelRecord → Answer (List ℤ)
 unfolding flatMap
 records rs = value (flatMap (λ r. r .column ∷ r .row ∷ pos (r .bank) ∷ pos (r .address) ∷ []) rs)
 
--- -n, the pixel (i, j), and the patterns
+-- -n, the pixel (i, j), and the patterns, each by row, then column
 unfoldable pub neg : ℕ → ℤ
 neg n = negℤ (pos n)
 
@@ -94,6 +94,11 @@ one = px 0 0 ∷ []
 unfoldable pub two : List Pixel
 unfolding px
 two = px 0 0 ∷ px 1 0 ∷ []
+
+-- two pixels that fall
+unfoldable pub down : List Pixel
+unfolding px
+down = px 1 0 ∷ px 0 0 ∷ []
 
 unfoldable pub three : List (List Pixel)
 unfolding px
@@ -113,7 +118,11 @@ square = (px 0 0 ∷ px 1 0 ∷ px 0 1 ∷ px 1 1 ∷ []) ∷ []
 
 unfoldable pub cross : List (List Pixel)
 unfolding px at neg
-cross = (px 0 0 ∷ at (neg 1) (pos 0) ∷ px 1 0 ∷ at (pos 0) (neg 1) ∷ px 0 1 ∷ []) ∷ []
+cross = (at (pos 0) (neg 1) ∷ at (neg 1) (pos 0) ∷ px 0 0 ∷ px 1 0 ∷ px 0 1 ∷ []) ∷ []
+
+-- Card 3: "The five-pixel figure becomes 01 05 00 FF FF 00 00 00 01 00 00 01"
+unfoldable pub fivePixels : List ℕ
+fivePixels = 1 ∷ 5 ∷ 0 ∷ 0xff ∷ 0xff ∷ 0 ∷ 0 ∷ 0 ∷ 1 ∷ 0 ∷ 0 ∷ 1 ∷ []
 
 unfoldable pub sixPairs : List (List Pixel)
 unfolding px at neg

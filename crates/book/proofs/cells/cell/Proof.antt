@@ -43,7 +43,7 @@ module _ (c : tie.After-raised82) where
   unfolding at
   row-outside a h = sym (cell-above (at i j) a h)
 
-  both-inside : InRange i → InRange j → 32 * (x - 112) + (y - 112) ≡ cellOf (at i j)
+  both-inside : InRange i → InRange j → 32 * (y - 112) + (x - 112) ≡ cellOf (at i j)
   unfolding at
   both-inside a b =
       omega (arith, cell-inside (at i j) a b, offset-of-raised x i column a, offset-of-raised y j row b)
@@ -80,7 +80,7 @@ pub cell-spec : {M : Type 1} → statement M
 cell-spec =
     tie.close
     (tie.spec
-    (λ c κs. search needs) (λ c κs. search needs)
+    (λ c κs. search needs) (λ c. search needs) (λ c κs. search needs) (λ c. search needs)
     returns
     returns-2
     returns-3

@@ -1,15 +1,16 @@
--- `book::cells::pixel_outcome` meets its contract: the cell tells whether column and row are in range, and its flag whether an
--- earlier pixel has it.
+-- `book::cells::pixel_outcome` meets its contract: the cell tells whether column and row are in range, and the cells before it
+-- whether an earlier pixel has it and whether the one before it is higher.
 -- Assumes nothing.
 use Prim.Native.Nat.{_<_}
 use native.Mathlib.Omega.{arith}
-use mathlib.Core.Path.{_≡_, _∙_, ap₂}
+use mathlib.Core.Path.{_≡_, sym, _∙_, ap₂}
 use lib.IntN.{ℤ}
 use mir.Facts.{toZ-ofZ}
 use borrow.Author.Needs.{needs}
 use Rattle.scope.specs.Plans.{Pixel, at}
 use Rattle.book.specs.Scan.{cellOf}
-use Rattle.book.proofs.Window.{cell-at-most, column-tested, row-tested, repeat-tested, new-tested}
+use Rattle.book.proofs.Window.{cell-at-most}
+use Rattle.book.proofs.PixelTests.{column-tested, row-tested, new-tested, repeat-tested, lower-tested}
 use Rattle.book.proofs.cells.pixel_outcome.Statement.{statement}
 use Rattle.book.proofs.cells.pixel_outcome.Tie as tie
 
@@ -38,19 +39,23 @@ inside c =
     let k = c .before .before in
     omega (arith, cell-is k, cell-at-most (v k), c .before .if1 .left, c .if2 .left)
 
-slice-read-if3 : tie.Need-slice-read-if3
-slice-read-if3 c = omega (arith, inside (c .before))
-
 returns-3 : tie.Need-returns-3
 returns-3 c =
-    let k = c .before .before in repeat-tested (cell-is (k .before .before)) (inside k) (c .if3 .taken)
-
-slice-write-seen : tie.Need-slice-write-seen
-slice-write-seen c = omega (arith, inside (c .before .before))
+    let k = c .before .before .before in
+    new-tested (cell-is (k .before .before)) (k .before .before .before .before .pre .1) (inside k)
+    (sym (c .before .comes-after .ensures) ∙ c .if3 .taken)
 
 returns-4 : tie.Need-returns-4
 returns-4 c =
-    let k = c .before .before in new-tested (cell-is (k .before .before)) (inside k) (c .if3 .left)
+    let k = c .before .before .before .before .before .before in
+    repeat-tested (cell-is (k .before .before)) (inside k) (sym (c .before .is-among .ensures) ∙ c .if4 .taken)
+
+returns-5 : tie.Need-returns-5
+returns-5 c =
+    let k = c .before .before .before .before .before .before in
+    lower-tested (cell-is (k .before .before)) (inside k)
+    (sym (c .before .before .before .before .comes-after .ensures) ∙ c .before .before .before .if3 .left)
+    (sym (c .before .is-among .ensures) ∙ c .if4 .left)
 
 pub pixel-outcome-spec : {M : Type 1} → statement M
 pixel-outcome-spec =
@@ -59,8 +64,9 @@ pixel-outcome-spec =
     (λ c κs. search needs)
     returns
     returns-2
-    slice-read-if3
+    (λ c κs. search needs) (λ c. search needs) (λ c. search needs) (λ c. search needs)
     returns-3
-    slice-write-seen
+    (λ c κs. search needs) (λ c. search needs)
+    returns-4
     (λ c. search needs)
-    returns-4)
+    returns-5)

@@ -1,5 +1,5 @@
 -- `book::record::pixels_outcome` meets its contract. The loop's invariant: the pixels before position e pass their tests, and
--- the flags are theirs. The measure is what is left of the count.
+-- the cells are theirs. The measure is what is left of the count.
 -- Assumes nothing.
 use Prim.Native.Nat.{ℕ, _-_, _≤_}
 use native.Mathlib.Omega.{arith}
@@ -23,12 +23,12 @@ abbrev pattern : List ℤ → List ℤ → ℕ → Pattern
 pattern columns rows used = record { columns = columns; rows = rows; used = used }
 
 abbrev Inv-loop : tie.InvT-loop
-Inv-loop columns rows used seen₀ e₀ seen e =
+Inv-loop columns rows used cells₀ e₀ cells e =
     let t : Pattern = pattern columns rows used in
-    (e ≤ used) × PixelsPassed (pixelTest 0 0 (pixelAt t)) (pixelAt t) seen e
+    (e ≤ used) × PixelsPassed (pixelTest 0 0 (pixelAt t)) (pixelAt t) cells e
 
 abbrev μ-loop : tie.MeasureT-loop
-μ-loop columns rows used seen₀ e₀ seen e = used - e
+μ-loop columns rows used cells₀ e₀ cells e = used - e
 
 loop-holds : tie.Need-loop-holds Inv-loop μ-loop
 loop-holds c = (omega arith, no-pixel-passed _ _)
@@ -71,7 +71,7 @@ pixels-outcome-spec =
     Inv-loop
     μ-loop
     loop-holds
-    (λ c. omega arith) (λ c. omega arith) (λ c. search needs) (λ c κs. c .before .before .before .before .loop .inv .1 .seen .size) (λ c. search needs)
+    (λ c. omega arith) (λ c. omega arith) (λ c. search needs) (λ c κs. (c .before .before .before .before .loop .inv .1 .passed .size, omega arith)) (λ c. search needs)
     returns
     (λ c. search needs) (λ c. omega arith) (λ c. omega arith)
     loop-again

@@ -1,5 +1,5 @@
 -- `book::scanner::pixels_outcome` meets its contract. The loop's invariant: the bytes of the pixels before position e are there,
--- these pixels pass their tests, and the flags are theirs. The measure is what is left of the count.
+-- these pixels pass their tests, and the cells are theirs. The measure is what is left of the count.
 -- Assumes nothing.
 use Prim.Native.Nat.{ℕ, _+_, _-_, _*_, _≤_}
 use native.Mathlib.Omega.{arith}
@@ -20,11 +20,11 @@ use Rattle.book.proofs.scanner.pixels_outcome.Statement.{statement}
 use Rattle.book.proofs.scanner.pixels_outcome.Tie as tie
 
 abbrev Inv-loop : tie.InvT-loop
-Inv-loop s at count seen₀ e₀ seen e =
-    (e ≤ count) × (at + 2 * e ≤ length s) × PixelsPassed (pixelRead s at) (pixelFrom s at) seen e
+Inv-loop s at count cells₀ e₀ cells e =
+    (e ≤ count) × (at + 2 * e ≤ length s) × PixelsPassed (pixelRead s at) (pixelFrom s at) cells e
 
 abbrev μ-loop : tie.MeasureT-loop
-μ-loop s at count seen₀ e₀ seen e = count - e
+μ-loop s at count cells₀ e₀ cells e = count - e
 
 loop-holds : tie.Need-loop-holds Inv-loop μ-loop
 loop-holds c = (omega arith, omega arith, no-pixel-passed _ _)
@@ -93,7 +93,7 @@ pixels-outcome-spec =
     (λ c. search needs) (λ c. search needs) (λ c. search needs)
     returns
     (λ c. search needs) (λ c κs. search needs) (λ c. search needs) (λ c. search needs) (λ c κs. search needs)
-    (λ c. search needs) (λ c. search needs) (λ c κs. c .before .before .before .before .before .before .before .loop .inv .2 .seen .size) (λ c. search needs)
+    (λ c. search needs) (λ c. search needs) (λ c κs. (c .before .before .before .before .before .before .before .loop .inv .2 .passed .size, omega arith)) (λ c. search needs)
     returns-2
     (λ c. search needs) (λ c. search needs) (λ c. search needs)
     loop-again
