@@ -35,6 +35,7 @@ answers =
     ∷ row (told pixelRow (value (at (pos 6) (pos 3)))) (0 ∷ 6 ∷ 3 ∷ replicate 10 9)
     ∷ row (told planRow (turnedDown Refusal.Dependent)) (8 ∷ 0 ∷ replicate 11 9)
     ∷ row (told numberRow (turnedDown (Refusal.Repeat 4))) (4 ∷ 4 ∷ replicate 11 9)
+    ∷ row (told numberRow (turnedDown (Refusal.Lower 6))) (19 ∷ 6 ∷ replicate 11 9)
     ∷ row (told numberRow (turnedDown (Refusal.Unsuited (record { pattern = 1; earlier = 2; later = 3 }))))
     (10 ∷ 0 ∷ 1 ∷ 2 ∷ 3 ∷ replicate 8 9)
     ∷ row (told checkedRow (ofVerdict (Verdict.Suits (record { plan = plan 6 4 2; surplus = 7 }))))
@@ -59,6 +60,7 @@ lists =
     ∷ row (told planRow (ofFoundRun (FoundRun.Ran (plan 5 2 1) (Listed.NotCalls 10)))) (255 ∷ 10 ∷ replicate 11 9)
     ∷ row (told planRow (ofFoundRun (FoundRun.Ran (plan 5 2 1) Listed.Short))) (16 ∷ 0 ∷ replicate 11 9)
     ∷ row (told planRow (ofFoundRun (FoundRun.Refused (Refusal.Repeat 4)))) (4 ∷ 4 ∷ replicate 11 9)
+    ∷ row (told planRow (ofFoundRun (FoundRun.Refused (Refusal.Lower 0)))) (19 ∷ 0 ∷ replicate 11 9)
     ∷ []
 
 lists-hold : map (λ r. r .computed) lists ≡ map (λ r. r .stated) lists

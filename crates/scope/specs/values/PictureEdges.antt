@@ -51,6 +51,11 @@ setting : Demand.Setting
 unfolding bookOf two plan
 setting = record { book = bookOf (two ∷ []); plan = plan 2 0 1; W = 2; H = 2 }
 
+-- the same with its pixels in the other order, by which only a fetch is turned down
+falling : Demand.Setting
+unfolding bookOf down plan
+falling = record { book = bookOf (down ∷ []); plan = plan 2 0 1; W = 2; H = 2 }
+
 calls : List Demand.Call
 unfolding px
 calls =
@@ -147,11 +152,12 @@ filling-hold = refl
 
 -- Demand 3's list: what the memory holds after the calls, what they and the reads reply, and the words last stored.
 lists : List Row
-unfolding row is px setting calls reads replied flatMap Demand.run Demand.replies Demand.lastStored
+unfolding row is px setting falling calls reads replied flatMap Demand.run Demand.replies Demand.lastStored
 lists =
     row (is (Demand.run setting (0 ∷ 0 ∷ 0 ∷ 0 ∷ 4 ∷ []) calls)) (is (0 ∷ 8 ∷ 0 ∷ 9 ∷ 4 ∷ []))
     ∷ row (is (flatMap replied (Demand.replies setting (0 ∷ 0 ∷ 0 ∷ 0 ∷ 4 ∷ []) (calls ++ reads)))) (is (0 ∷ 0 ∷ 14 ∷ 15 ∷ 0 ∷ 16 ∷ 0 ∷ 0 ∷ 0 ∷ 8 ∷ 0 ∷ 2 ∷ 8 ∷ 9 ∷ 3 ∷ []))
     ∷ row (is (map (Demand.lastStored setting 5 calls) (px 1 0 ∷ px 0 1 ∷ px 1 1 ∷ px 2 0 ∷ []))) (is (0 ∷ 8 ∷ 9 ∷ 0 ∷ []))
+    ∷ row (is (flatMap replied (Demand.replies falling (0 ∷ 0 ∷ 0 ∷ 0 ∷ []) reads))) (is (0 ∷ 0 ∷ 19 ∷ []))
     ∷ []
 
 lists-hold : Hold lists
