@@ -16,18 +16,18 @@ use Rattle.book.specs.Scan.{outcomeOf, Passed, Tested}
 use Rattle.book.proofs.Outcomes.{done-found-nothing, refused-found, refused-at, done-after}
 use Rattle.book.proofs.PixelTests.{none-passed}
 
--- The pixels before position e have passed their tests, and the cells are theirs.
-pub record PixelsPassed (test : ℕ → Option Refusal) (pixel : ℕ → Pixel) (cells : List ℕ) (e : ℕ) : Type 0 where
+-- The pixels before position e have passed their tests, and the entries are theirs.
+pub record PixelsPassed (test : ℕ → Option Refusal) (pixel : ℕ → Pixel) (least : List ℕ) (e : ℕ) : Type 0 where
   pub before : (l : ℕ) → l < e → test l ≡ none
-  pub passed : Passed cells pixel e
+  pub passed : Passed least pixel e
 
-pub no-pixel-passed : (test : ℕ → Option Refusal) (pixel : ℕ → Pixel) → PixelsPassed test pixel (replicate 64 0) 0
+pub no-pixel-passed : (test : ℕ → Option Refusal) (pixel : ℕ → Pixel) → PixelsPassed test pixel (replicate 65 0) 0
 no-pixel-passed test pixel = record { before = below-none _; passed = none-passed pixel }
 
 -- The pixel at position e was tested, and its test is that of the pattern at e.
 module _
-    {test : ℕ → Option Refusal} {pixel : ℕ → Pixel} {cells after : List ℕ} {e i j : ℕ} {v : Pixel} {outcome : Outcome}
-    (before : PixelsPassed test pixel cells e) (tested : Tested i j e v cells after outcome) (is : pixel e ≡ v)
+    {test : ℕ → Option Refusal} {pixel : ℕ → Pixel} {least after : List ℕ} {e i j : ℕ} {v : Pixel} {outcome : Outcome}
+    (before : PixelsPassed test pixel least e) (tested : Tested i j e v least after outcome) (is : pixel e ≡ v)
     (here : test e ≡ pixelTest i j pixel e) where
   of-test : outcome ≡ outcomeOf (test e)
   of-test = tested .answer pixel (before .passed) is ∙ ap outcomeOf (sym here)
@@ -45,6 +45,6 @@ module _
       }
 
 pub all-pixels-passed :
-    {test : ℕ → Option Refusal} {pixel : ℕ → Pixel} {cells : List ℕ} {n e : ℕ} → PixelsPassed test pixel cells e → n ≤ e
+    {test : ℕ → Option Refusal} {pixel : ℕ → Pixel} {least : List ℕ} {n e : ℕ} → PixelsPassed test pixel least e → n ≤ e
     → Outcome.Done ≡ outcomeOf (first 0 n test)
 all-pixels-passed passed over = done-after (λ l h. passed .before l (omega arith))

@@ -1,7 +1,7 @@
 -- What the code goes by: a test's answer, the entry for a pattern's number, and the cells of a pattern's pixels in the window.
 -- The laws in proofs/ lead from them to the definitions of `scope`.
 -- Assumes nothing.
-use Prim.Native.Nat.{ℕ, zero, suc, _+_, _*_, _<_}
+use Prim.Native.Nat.{ℕ, suc, _+_, _*_, _<_}
 use mathlib.Core.Path.{_≡_}
 use mathlib.Core.Option.{Option}
 use mathlib.Core.List.{List}
@@ -33,24 +33,22 @@ cellOf v =
     (cond (small (v .row)) (32 * natAbs (v .row +ℤ pos 16) + natAbs (v .column +ℤ pos 16)) 1025)
     1024
 
--- the cell k comes after the last of the first e, and is one of them
-unfoldable pub comesAfter : List ℕ → ℕ → ℕ → Bool
-comesAfter cells zero k = true
-comesAfter cells (suc e) k = ltb (getD cells e 0) k
-
+-- k is one of the entries 1 to e
 unfoldable pub isAmong : List ℕ → ℕ → ℕ → Bool
 unfolding someBelow
-isAmong cells e k = someBelow e λ l. eqb (getD cells l 0) k
+isAmong least e k = someBelow e λ l. eqb (getD least (l + 1) 0) k
 
--- the first e of 64 cells are those of the pixels before position e, all in the window, and ascend
-pub record Passed (cells : List ℕ) (pixel : ℕ → Pixel) (e : ℕ) : Type 0 where
-  pub size : length cells ≡ 64
-  pub cell : (l : ℕ) → l < e → getD cells l 0 ≡ cellOf (pixel l)
+-- the pixels before position e are in the window and their cells ascend; of 65 entries the first is 0, and each up to e is one
+-- more than the cell of the pixel before it: the least that a pixel may have there
+pub record Passed (least : List ℕ) (pixel : ℕ → Pixel) (e : ℕ) : Type 0 where
+  pub size : length least ≡ 65
+  pub first : getD least 0 0 ≡ 0
+  pub next : (l : ℕ) → l < e → getD least (l + 1) 0 ≡ suc (cellOf (pixel l))
   pub inside : (l : ℕ) → l < e → cellOf (pixel l) < 1024
   pub ascend : (l m : ℕ) → l < m → m < e → cellOf (pixel l) < cellOf (pixel m)
 
 -- the pixel v at position e was tested by the cells of the pixels before it, whatever these are: the outcome is that of its
--- tests, and where they find nothing the cells have its own too
-pub record Tested (i j e : ℕ) (v : Pixel) (cells after : List ℕ) (outcome : Outcome) : Type 0 where
-  pub answer : (pixel : ℕ → Pixel) → Passed cells pixel e → pixel e ≡ v → outcome ≡ outcomeOf (pixelTest i j pixel e)
-  pub passed : (pixel : ℕ → Pixel) → Passed cells pixel e → pixel e ≡ v → outcome ≡ Outcome.Done → Passed after pixel (e + 1)
+-- tests, and where they find nothing the entries go on with its own
+pub record Tested (i j e : ℕ) (v : Pixel) (least after : List ℕ) (outcome : Outcome) : Type 0 where
+  pub answer : (pixel : ℕ → Pixel) → Passed least pixel e → pixel e ≡ v → outcome ≡ outcomeOf (pixelTest i j pixel e)
+  pub passed : (pixel : ℕ → Pixel) → Passed least pixel e → pixel e ≡ v → outcome ≡ Outcome.Done → Passed after pixel (e + 1)

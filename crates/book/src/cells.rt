@@ -3,10 +3,10 @@ use integers::raised8;
 use scope::Outcome;
 use scope::Refusal;
 ghost use mathlib.Core.Path.{_≡_};
-ghost use Prim.Native.Nat.{_≤_, _<_};
+ghost use Prim.Native.Nat.{_<_};
 ghost use lib.ListN.{length};
 ghost use Rattle.scope.specs.Plans.{at};
-ghost use Rattle.book.specs.Scan.{cellOf, comesAfter, isAmong, Tested};
+ghost use Rattle.book.specs.Scan.{cellOf, isAmong, Tested};
 
 // A pixel's place in the window, row by row, from 0 to 1023; 1024 where its column is outside, else 1025 where its row is.
 fn cell(i: i8, j: i8) -> u16
@@ -29,25 +29,14 @@ fn cell(i: i8, j: i8) -> u16
     32 * (y - 112) + (x - 112)
 }
 
-// Whether the cell k comes after the last of the first e.
-fn comes_after(cells: &[u16], e: usize, k: u16) -> bool
-    requires { ⌜ e ≤ length (now cells) ⌝ }
-    ensures { λ r. ⌜ r ≡ comesAfter (now (cells .entry)) e k ⌝ }
-{
-    if e == 0 {
-        return true;
-    }
-    cells[e - 1] < k
-}
-
-// Whether k is one of the first e cells.
-fn is_among(cells: &[u16], e: usize, k: u16) -> bool
-    requires { ⌜ e ≤ length (now cells) ⌝ }
-    ensures { λ r. ⌜ r ≡ isAmong (now (cells .entry)) e k ⌝ }
+// Whether k is one of the entries 1 to e.
+fn is_among(least: &[u16], e: usize, k: u16) -> bool
+    requires { ⌜ e < length (now least) ⌝ }
+    ensures { λ r. ⌜ r ≡ isAmong (now (least .entry)) e k ⌝ }
 {
     let mut l = 0;
     while l < e {
-        if cells[l] == k {
+        if least[l + 1] == k {
             return true;
         }
         l += 1;
@@ -55,19 +44,19 @@ fn is_among(cells: &[u16], e: usize, k: u16) -> bool
     false
 }
 
-// The tests of the pixel (x, y) at position e of its pattern; i and j are the places of its column and its row. The first e of
-// `cells` are those of the pixels before it, which ascend, so a pixel that comes after the last of them is neither a repeat nor
-// lower. It gets its own.
+// The tests of the pixel (x, y) at position e of its pattern; i and j are the places of its column and its row. `least` has the
+// least cell that a pixel may have at each position up to e: 0 at first, and then one more than the cell before. Cells ascend,
+// so a pixel from there on is neither a repeat nor lower. It gets the next entry.
 pub(crate) fn pixel_outcome(
     x: i8,
     y: i8,
     i: usize,
     j: usize,
     e: usize,
-    cells: &mut [u16],
+    least: &mut [u16],
 ) -> Outcome
-    requires { ⌜ (length (now cells) ≡ 64) × (e < 64) ⌝ }
-    ensures { λ r. ⌜ Tested i j e (at x y) (now (cells .entry)) (now (cells .exit)) r ⌝ }
+    requires { ⌜ (length (now least) ≡ 65) × (e < 64) ⌝ }
+    ensures { λ r. ⌜ Tested i j e (at x y) (now (least .entry)) (now (least .exit)) r ⌝ }
 {
     let k = cell(x, y);
     if k == 1024 {
@@ -76,11 +65,11 @@ pub(crate) fn pixel_outcome(
     if k == 1025 {
         return Outcome::Refused(Refusal::Coordinate(j));
     }
-    if comes_after(cells, e, k) {
-        cells[e] = k;
+    if least[e] <= k {
+        least[e + 1] = k + 1;
         return Outcome::Done;
     }
-    if is_among(cells, e, k) {
+    if is_among(least, e, k + 1) {
         return Outcome::Refused(Refusal::Repeat(i));
     }
     Outcome::Refused(Refusal::Lower(i))

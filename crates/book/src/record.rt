@@ -27,10 +27,10 @@ fn pixels_outcome(t: Pattern) -> Outcome
     let columns = t.columns;
     let rows = t.rows;
     let used = t.used;
-    let mut cells = [0u16; 64];
+    let mut least = [0u16; 65];
     let mut e = 0;
     while e < used {
-        let outcome = pixel_outcome(columns[e], rows[e], 0, 0, e, &mut cells);
+        let outcome = pixel_outcome(columns[e], rows[e], 0, 0, e, &mut least);
         if let Outcome::Refused(_) = outcome {
             return outcome;
         }

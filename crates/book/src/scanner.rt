@@ -26,7 +26,7 @@ fn pixels_outcome(s: &[u8], at: usize, count: usize) -> Outcome
     requires { ⌜ (at ≤ length (now s)) × (count ≤ 64) ⌝ }
     ensures { λ r. ⌜ r ≡ outcomeOf (first 0 count (pixelRead (now (s .entry)) at)) ⌝ }
 {
-    let mut cells = [0u16; 64];
+    let mut least = [0u16; 65];
     let mut e = 0;
     while e < count {
         let i = at + 2 * e;
@@ -39,7 +39,7 @@ fn pixels_outcome(s: &[u8], at: usize, count: usize) -> Outcome
             i,
             i + 1,
             e,
-            &mut cells,
+            &mut least,
         );
         if let Outcome::Refused(_) = outcome {
             return outcome;

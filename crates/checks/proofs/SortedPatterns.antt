@@ -62,20 +62,20 @@ sorted-iff t = (there, back)
           };
         }
 
+-- Where two patterns agree before position e, a pixel of the one at e stands in the other at e or later.
+not-earlier :
+    {f g : ℕ → Pixel} {m : ℕ} → Ascending f m → (e : ℕ) → e < m → ((l : ℕ) → l < e → f l ≡ g l)
+    → (k : ℕ) → g k ≡ f e → e ≤ k
+not-earlier {f} {g} up e inside before k is = by-place (decLt k e)
+  where
+    by-place : Dec (k < e) → e ≤ k
+    by-place (yes h) = absurd (not-lower-than-itself (f k) (f e) (before k h ∙ is) (up .lower-than k e h inside))
+    by-place (no h) = omega arith
+
 -- Two patterns whose pixels ascend: each pixel of either is one of the other.
 module _
-    {f g : ℕ → Pixel} {m n : ℕ} (up : Ascending f m) (down : Ascending g n)
+    {f g : ℕ → Pixel} {m n : ℕ} (f-ascends : Ascending f m) (g-ascends : Ascending g n)
     (in-g : (e : ℕ) → e < m → (k : ℕ) × (k < n) × (g k ≡ f e)) (in-f : (e : ℕ) → e < n → (k : ℕ) × (k < m) × (f k ≡ g e)) where
-  -- where they agree before position e, a pixel of the one at e stands in the other at e or later
-  not-earlier :
-      {f g : ℕ → Pixel} {m : ℕ} (up : Ascending f m) (e : ℕ) → e < m → ((l : ℕ) → l < e → f l ≡ g l)
-      → (k : ℕ) → g k ≡ f e → e ≤ k
-  not-earlier {f} {g} up e inside before k is = by-place (decLt k e)
-    where
-      by-place : Dec (k < e) → e ≤ k
-      by-place (yes h) = absurd (not-lower-than-itself (f k) (f e) (before k h ∙ is) (up .lower-than k e h inside))
-      by-place (no h) = omega arith
-
   agree-at : (e : ℕ) → e < m → e < n → ((l : ℕ) → l < e → f l ≡ g l) → f e ≡ g e
   agree-at e inside there before = by-places (in-g e inside) (in-f e there)
     where
@@ -86,10 +86,10 @@ module _
           by-place (yes h) same = sym is ∙ ap g h
           by-place (no h) (yes same) = ap f (sym same) ∙ is-l
           by-place (no h) (no other) =
-              let after : e ≤ k = not-earlier up e inside before k is in
-              let after-l : e ≤ l = not-earlier down e there (λ i p. sym (before i p)) l is-l in
-              let high : Lower (g e) (f e) = subst (Lower (g e)) is (down .lower-than e k (omega arith) below) in
-              let low : Lower (f e) (g e) = subst (Lower (f e)) is-l (up .lower-than e l (omega arith) below-l) in
+              let after : e ≤ k = not-earlier f-ascends e inside before k is in
+              let after-l : e ≤ l = not-earlier g-ascends e there (λ i p. sym (before i p)) l is-l in
+              let high : Lower (g e) (f e) = subst (Lower (g e)) is (g-ascends .lower-than e k (omega arith) below) in
+              let low : Lower (f e) (g e) = subst (Lower (f e)) is-l (f-ascends .lower-than e l (omega arith) below-l) in
               absurd (not-lower-than-itself (f e) (f e) refl (lower-goes-on low high))
 
   agree-before : (e l : ℕ) → l < e → l < m → l < n → f l ≡ g l
@@ -104,27 +104,27 @@ module _
 not-longer :
     {f g : ℕ → Pixel} {m n : ℕ} → Ascending f m → Ascending g n
     → ((e : ℕ) → e < m → (k : ℕ) × (k < n) × (g k ≡ f e)) → ((e : ℕ) → e < n → (k : ℕ) × (k < m) × (f k ≡ g e)) → n ≤ m
-not-longer {f} {g} {m} {n} up down in-g in-f = by-size (decLt m n)
+not-longer {f} {g} {m} {n} f-ascends g-ascends in-g in-f = by-size (decLt m n)
   where
     by-size : Dec (m < n) → n ≤ m
     by-size (no h) = omega arith
     by-size (yes h) =
         let (k, below, is) = in-f m h in
-        absurd (not-lower-than-itself (g k) (g m) (sym (agree up down in-g in-f k below (omega arith)) ∙ is) (down .lower-than k m below h))
+        absurd (not-lower-than-itself (g k) (g m) (sym (agree f-ascends g-ascends in-g in-f k below (omega arith)) ∙ is) (g-ascends .lower-than k m below h))
 
 pub same-set-same-list :
     (t u : Pattern) → IsPattern t → IsPattern u → ((v : Pixel) → List·Memᴰ v (pixels t) ↔ List·Memᴰ v (pixels u)) → pixels t ≡ pixels u
 unfolding pixels
 same-set-same-list t u legal other same =
-    let size : t .used ≡ u .used = omega (arith, not-longer down up in-t in-u, not-longer up down in-u in-t) in
-    gather-same 0 (t .used) (pixelAt t) (pixelAt u) (λ e low high. agree up down in-u in-t e (omega arith) (omega arith))
+    let size : t .used ≡ u .used = omega (arith, not-longer u-ascends t-ascends in-t in-u, not-longer t-ascends u-ascends in-u in-t) in
+    gather-same 0 (t .used) (pixelAt t) (pixelAt u) (λ e low high. agree t-ascends u-ascends in-u in-t e (omega arith) (omega arith))
     ∙ ap (λ count. gather 0 count (pixelAt u)) size
   where
-    up : Ascending (pixelAt t) (t .used)
-    up = pattern-ascends t legal
+    t-ascends : Ascending (pixelAt t) (t .used)
+    t-ascends = pattern-ascends t legal
 
-    down : Ascending (pixelAt u) (u .used)
-    down = pattern-ascends u other
+    u-ascends : Ascending (pixelAt u) (u .used)
+    u-ascends = pattern-ascends u other
 
     in-u : (e : ℕ) → e < t .used → (k : ℕ) × (k < u .used) × (pixelAt u k ≡ pixelAt t e)
     in-u e h = mem-pixels u (same (pixelAt t e) .0 (pixels-mem t e h))

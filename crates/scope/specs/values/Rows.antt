@@ -9,7 +9,7 @@ use lib.ListN.{replicate}
 use Rattle.scope.specs.Plans.{Pixel, at, plan}
 use Rattle.scope.specs.Books.{bookOf}
 use Rattle.scope.specs.Numbers.{Answer, value, refusal, ofPlanned, ofCounted, ofLoaded, ofLocated, ofOutcome, ofVerdict}
-use Rattle.scope.specs.Calls.{readBook, find, check, fetch, ringFetch}
+use Rattle.scope.specs.Calls.{readBook, writeBook, find, check, fetch, ringFetch}
 use Rattle.scope.specs.declared.PixelRecord.{PixelRecord}
 use Rattle.scope.specs.declared.Planned.{Planned}
 use Rattle.scope.specs.declared.Counted.{Counted}
@@ -131,6 +131,10 @@ sixPairs = map (λ v. px 0 0 ∷ v ∷ []) (px 0 1 ∷ px 1 1 ∷ px 2 1 ∷ at 
 unfoldable pub finds : List (List Pixel) → ℕ → Answer (List ℤ)
 unfolding planned find bookOf
 finds ts limit = planned (find (bookOf ts) limit)
+
+unfoldable pub writes : List (List Pixel) → List ℕ → Answer (List ℤ)
+unfolding counted writeBook bookOf
+writes ts out = counted (writeBook (bookOf ts) out .answer)
 
 unfoldable pub reads : List ℕ → Answer (List ℤ)
 unfolding done readBook

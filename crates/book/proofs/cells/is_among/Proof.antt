@@ -1,7 +1,7 @@
--- `book::cells::is_among` meets its contract. The loop's invariant: none of the first l cells is k. The measure is what is left of
--- the cells.
+-- `book::cells::is_among` meets its contract. The loop's invariant: none of the entries 1 to l is k. The measure is what is left of
+-- them.
 -- Assumes nothing.
-use Prim.Native.Nat.{ℕ, _-_, _≤_, _<_}
+use Prim.Native.Nat.{ℕ, _+_, _-_, _≤_, _<_}
 use native.Mathlib.Omega.{arith}
 use mathlib.Core.Path.{_≡_, sym}
 use lib.ListN.{getD}
@@ -12,10 +12,10 @@ use Rattle.book.proofs.cells.is_among.Statement.{statement}
 use Rattle.book.proofs.cells.is_among.Tie as tie
 
 abbrev Inv-loop : tie.InvT-loop
-Inv-loop cells e k l₀ l = (l ≤ e) × ((m : ℕ) → m < l → getD cells m 0 ≡ k → ⊥)
+Inv-loop least e k l₀ l = (l ≤ e) × ((m : ℕ) → m < l → getD least (m + 1) 0 ≡ k → ⊥)
 
 abbrev μ-loop : tie.MeasureT-loop
-μ-loop cells e k l₀ l = e - l
+μ-loop least e k l₀ l = e - l
 
 loop-holds : tie.Need-loop-holds Inv-loop μ-loop
 loop-holds c = (omega arith, below-none _)
@@ -38,7 +38,7 @@ is-among-spec =
     Inv-loop
     μ-loop
     loop-holds
-    (λ c. search needs) (λ c. omega arith)
+    (λ c. omega arith) (λ c. search needs) (λ c. omega arith)
     returns
     (λ c. search needs) (λ c. omega arith)
     loop-again

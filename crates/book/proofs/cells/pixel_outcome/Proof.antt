@@ -1,5 +1,5 @@
--- `book::cells::pixel_outcome` meets its contract: the cell tells whether column and row are in range, and the cells before it
--- whether an earlier pixel has it and whether the one before it is higher.
+-- `book::cells::pixel_outcome` meets its contract: the cell tells whether column and row are in range, its position's entry
+-- whether it comes after the pixels before it, and the entries before whether one of them has it.
 -- Assumes nothing.
 use Prim.Native.Nat.{_<_}
 use native.Mathlib.Omega.{arith}
@@ -39,22 +39,26 @@ inside c =
     let k = c .before .before in
     omega (arith, cell-is k, cell-at-most (v k), c .before .if1 .left, c .if2 .left)
 
+add-least : tie.Need-add-least
+add-least c = omega (arith, inside (c .before .before))
+
 returns-3 : tie.Need-returns-3
 returns-3 c =
-    let k = c .before .before .before in
-    new-tested (cell-is (k .before .before)) (k .before .before .before .before .pre .1) (inside k)
-    (sym (c .before .comes-after .ensures) ∙ c .if3 .taken)
+    let k = c .before .before in
+    new-tested (cell-is (k .before .before)) (k .before .before .before .before .pre .1) (inside k) (c .if3 .taken)
+
+add-is-among : tie.Need-add-is-among
+add-is-among c = omega (arith, inside (c .before .before .before))
 
 returns-4 : tie.Need-returns-4
 returns-4 c =
-    let k = c .before .before .before .before .before .before in
+    let k = c .before .before .before .before .before in
     repeat-tested (cell-is (k .before .before)) (inside k) (sym (c .before .is-among .ensures) ∙ c .if4 .taken)
 
 returns-5 : tie.Need-returns-5
 returns-5 c =
-    let k = c .before .before .before .before .before .before in
-    lower-tested (cell-is (k .before .before)) (inside k)
-    (sym (c .before .before .before .before .comes-after .ensures) ∙ c .before .before .before .if3 .left)
+    let k = c .before .before .before .before .before in
+    lower-tested (cell-is (k .before .before)) (inside k) (c .before .before .before .if3 .left)
     (sym (c .before .is-among .ensures) ∙ c .if4 .left)
 
 pub pixel-outcome-spec : {M : Type 1} → statement M
@@ -64,8 +68,11 @@ pixel-outcome-spec =
     (λ c κs. search needs)
     returns
     returns-2
-    (λ c κs. search needs) (λ c. search needs) (λ c. search needs) (λ c. search needs)
+    (λ c. search needs) (λ c. search needs)
+    add-least
+    (λ c. search needs) (λ c. search needs) (λ c. search needs) (λ c. search needs)
     returns-3
+    add-is-among
     (λ c κs. search needs) (λ c. search needs)
     returns-4
     (λ c. search needs)

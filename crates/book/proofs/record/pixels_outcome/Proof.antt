@@ -1,5 +1,5 @@
 -- `book::record::pixels_outcome` meets its contract. The loop's invariant: the pixels before position e pass their tests, and
--- the cells are theirs. The measure is what is left of the count.
+-- the entries are theirs. The measure is what is left of the count.
 -- Assumes nothing.
 use Prim.Native.Nat.{ℕ, _-_, _≤_}
 use native.Mathlib.Omega.{arith}
@@ -23,12 +23,12 @@ abbrev pattern : List ℤ → List ℤ → ℕ → Pattern
 pattern columns rows used = record { columns = columns; rows = rows; used = used }
 
 abbrev Inv-loop : tie.InvT-loop
-Inv-loop columns rows used cells₀ e₀ cells e =
+Inv-loop columns rows used least₀ e₀ least e =
     let t : Pattern = pattern columns rows used in
-    (e ≤ used) × PixelsPassed (pixelTest 0 0 (pixelAt t)) (pixelAt t) cells e
+    (e ≤ used) × PixelsPassed (pixelTest 0 0 (pixelAt t)) (pixelAt t) least e
 
 abbrev μ-loop : tie.MeasureT-loop
-μ-loop columns rows used cells₀ e₀ cells e = used - e
+μ-loop columns rows used least₀ e₀ least e = used - e
 
 loop-holds : tie.Need-loop-holds Inv-loop μ-loop
 loop-holds c = (omega arith, no-pixel-passed _ _)

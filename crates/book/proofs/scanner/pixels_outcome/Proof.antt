@@ -1,5 +1,5 @@
 -- `book::scanner::pixels_outcome` meets its contract. The loop's invariant: the bytes of the pixels before position e are there,
--- these pixels pass their tests, and the cells are theirs. The measure is what is left of the count.
+-- these pixels pass their tests, and the entries are theirs. The measure is what is left of the count.
 -- Assumes nothing.
 use Prim.Native.Nat.{ℕ, _+_, _-_, _*_, _≤_}
 use native.Mathlib.Omega.{arith}
@@ -20,11 +20,11 @@ use Rattle.book.proofs.scanner.pixels_outcome.Statement.{statement}
 use Rattle.book.proofs.scanner.pixels_outcome.Tie as tie
 
 abbrev Inv-loop : tie.InvT-loop
-Inv-loop s at count cells₀ e₀ cells e =
-    (e ≤ count) × (at + 2 * e ≤ length s) × PixelsPassed (pixelRead s at) (pixelFrom s at) cells e
+Inv-loop s at count least₀ e₀ least e =
+    (e ≤ count) × (at + 2 * e ≤ length s) × PixelsPassed (pixelRead s at) (pixelFrom s at) least e
 
 abbrev μ-loop : tie.MeasureT-loop
-μ-loop s at count cells₀ e₀ cells e = count - e
+μ-loop s at count least₀ e₀ least e = count - e
 
 loop-holds : tie.Need-loop-holds Inv-loop μ-loop
 loop-holds c = (omega arith, omega arith, no-pixel-passed _ _)
