@@ -60,6 +60,11 @@ fn record(book: &[Vec<(i8, i8)>]) -> Record {
     r
 }
 
+// By row, then column, as a book has them.
+fn in_order(t: &mut [(i8, i8)]) {
+    t.sort_unstable_by_key(|&(i, j)| (j, i));
+}
+
 fn block(w: i8, h: i8) -> Vec<(i8, i8)> {
     (0..h).flat_map(|j| (0..w).map(move |i| (i, j))).collect()
 }
@@ -83,7 +88,7 @@ fn full(w: i8, h: i8) -> Record {
     for y in &up {
         for x in &across {
             let mut t: Vec<(i8, i8)> = y.iter().flat_map(|&j| x.iter().map(move |&i| (i - 16, j - 16))).collect();
-            t.sort_unstable();
+            in_order(&mut t);
             t.dedup();
             book.push(t);
         }
@@ -108,10 +113,22 @@ fn random_book(seed: u64, patterns: usize, pixels: usize, width: u64, height: u6
                     t.push(v);
                 }
             }
+            in_order(&mut t);
             t
         })
         .collect();
     record(&book)
+}
+
+// What is no book is none to both: the cross shuffled, and a repeat that is lower too.
+fn same_refusals() {
+    for (t, number) in [(vec![(0, 0), (-1, 0), (1, 0), (0, -1), (0, 1)], 19), (vec![(0, 0), (1, 0), (0, 0)], 4)] {
+        let (r, refused) = (record(&[t]), answer(number, &[]));
+        assert_eq!(proved_find(&r), refused);
+        assert_eq!(told(unverified::find(&r, 1024)), refused);
+        assert_eq!(proved_check(&r, (32, 0), (0, 32)), refused);
+        assert_eq!(told_verdict(unverified::check(&r, (32, 0), (0, 32))), refused);
+    }
 }
 
 // ---- time
@@ -150,7 +167,7 @@ fn time(s: f64) -> String {
 fn main() {
     let books = [
         ("one pixel", record(&[block(1, 1)])),
-        ("cross of 5", record(&[vec![(0, 0), (-1, 0), (1, 0), (0, -1), (0, 1)]])),
+        ("cross of 5", record(&[vec![(0, -1), (-1, 0), (0, 0), (1, 0), (0, 1)]])),
         ("3 by 3 block", record(&[block(3, 3)])),
         ("random, 4 patterns of 9 in 8 by 8", random_book(1, 4, 9, 8, 8)),
         ("random, 8 patterns of 16 in 16 by 16", random_book(2, 8, 16, 16, 16)),
@@ -177,6 +194,7 @@ fn main() {
             assert_eq!(proved_check(r, x, y), told_verdict(unverified::check(r, x, y)), "{name}");
         }
     }
+    same_refusals();
     let mut fetched = Vec::from([2, 3, 4, 9].map(|k| {
         let [a, b, d, ..] = proved_find(&books[k].1).1.map(|x| x as u32);
         (books[k].0, &books[k].1, Plan { a, b, d })

@@ -6,7 +6,7 @@ fn small(z: i8) -> bool {
     (-16..=15).contains(&z)
 }
 
-/// 2, 3 or 4, or 0 for a legal record.
+/// 2, 3, 4 or 19, or 0 for a legal record.
 pub fn test_record(r: &Record) -> u64 {
     if !(1..=16).contains(&r.count) {
         return 2;
@@ -15,15 +15,15 @@ pub fn test_record(r: &Record) -> u64 {
         if !(1..=64).contains(&r.used[n]) {
             return 2;
         }
-        let mut seen = [false; 1024];
-        for e in 64 * n..64 * n + r.used[n] {
-            let (i, j) = (r.columns[e], r.rows[e]);
+        let pixel = |e: usize| (r.rows[64 * n + e], r.columns[64 * n + e]);
+        for e in 0..r.used[n] {
+            let (j, i) = pixel(e);
             if !small(i) || !small(j) {
                 return 3;
             }
-            let cell = 32 * (i + 16) as usize + (j + 16) as usize;
-            if std::mem::replace(&mut seen[cell], true) {
-                return 4;
+            // those before it ascend, so one that comes after the last of them is no repeat
+            if e > 0 && pixel(e) <= pixel(e - 1) {
+                return if (0..e).any(|k| pixel(k) == (j, i)) { 4 } else { 19 };
             }
         }
     }

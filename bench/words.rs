@@ -87,7 +87,7 @@ pub fn sum(p: &Plan, w: u32, h: u32, mem: &[u16], k: u64) -> Result<u64, u64> {
     Ok(mem[k as usize * l.depth..][..l.depth].iter().map(|x| u64::from(*x)).sum())
 }
 
-/// 2, 3, 4, 11, 12, 13, 17, 10.
+/// 2, 3, 4, 19, 11, 12, 13, 17, 10.
 fn start(r: &Record, p: &Plan, w: u32, h: u32, words: usize, n: usize) -> Result<Layout, u64> {
     match test_record(r) {
         0 => {}

@@ -1,14 +1,14 @@
 //! Bank plans for image buffers: safe functions over the static library `capi`. Its functions themselves are declared in `raw`;
 //! `include/bankplan.h` says what each is given and tells, and by which numbers it refuses, and in which order.
 //!
-//! Any numbers, bytes and records can be handed in: each call tests them itself, answers by `Refused` where document 01 turns it
-//! down, and then leaves what it was lent as it was. No function here panics.
+//! Any numbers, bytes and records can be handed in: each call tests them itself, answers by `Refused` where document 01 or a
+//! request of document 02 turns it down, and then leaves what it was lent as it was. No function here panics.
 
 use std::fmt;
 use std::mem::{offset_of, size_of};
 
 /// The version of this file, and of the library that is built from the same tree.
-pub const VERSION: &str = "0.3.0";
+pub const VERSION: &str = "0.4.0";
 
 /// The banks of a plan, the finder's limit and a determinant's size, at most.
 pub const MAX_BANKS: u32 = 1024;
@@ -135,7 +135,8 @@ pub struct Clash {
 }
 
 /// A book record. Pattern n has the entries 64 × n to 64 × n + 63 of columns and rows, of which the first used[n] count; of the
-/// patterns the first `count` count. Any numbers can stand here; a call refuses by 2, 3, 4 those that are no book.
+/// patterns the first `count` count. The pixels of a pattern ascend by row, then by column. Any numbers can stand here; a call
+/// refuses by 2, 3, 4, 19 those that are no book.
 #[derive(Clone, Debug, PartialEq, Eq)]
 pub struct Book {
     pub columns: [i8; ENTRIES],
@@ -191,7 +192,7 @@ pub enum Reply {
 /// Why a list was not made. Then nothing was changed, and no call of it was made.
 #[derive(Clone, Copy, Debug, PartialEq, Eq)]
 pub enum NotMade {
-    /// There is no plan: the finder's refusal, 2, 3, 4, 6 or 7.
+    /// There is no plan: the finder's refusal, 2, 3, 4, 19, 6 or 7.
     Refused(Refused),
     /// The five numbers from this place on are no call's, or fewer than five stand there. (255: document 01 has no number)
     NotCalls { place: usize },
@@ -210,8 +211,8 @@ pub const KIND_CLEAR: u64 = 1;
 pub const KIND_LOAD: u64 = 2;
 pub const KIND_FETCH: u64 = 3;
 
-/// A call turned down: document 01's number, 1 to 18; the place, a byte offset for 1 to 5 where the call was given bytes, else
-/// 0; and the clash of 10.
+/// A call turned down: document 01's number, 1 to 18, or 19 of document 02; the place, a byte offset for 1 to 5 and 19 where the
+/// call was given bytes, else 0; and the clash of 10.
 #[derive(Clone, Copy, Debug, PartialEq, Eq)]
 pub struct Refused {
     pub number: u64,
@@ -219,8 +220,8 @@ pub struct Refused {
     pub clash: Option<Clash>,
 }
 
-/// Document 01's conditions, from 1 to 18.
-pub const CONDITIONS: [&str; 18] = [
+/// The conditions from 1 to 19: document 01's, and the last of Card 3 in document 02.
+pub const CONDITIONS: [&str; 19] = [
     "book ends early",
     "pattern count not 1-16 or pixel count not 1-64",
     "coordinate not -16..15",
@@ -239,6 +240,7 @@ pub const CONDITIONS: [&str; 18] = [
     "output too short",
     "pattern number not in the book",
     "ring sides not multiples of N",
+    "pixel lower than the one before it, by row, then column",
 ];
 
 impl Refused {
@@ -308,7 +310,7 @@ fn plan_of(answer: [u64; ANSWER_NUMBERS]) -> Plan {
     Plan { a, b, d }
 }
 
-/// The book of these bytes; unused entries are 0. Refused by 1 to 5.
+/// The book of these bytes; unused entries are 0. Refused by 1 to 5 and 19.
 pub fn read_book(bytes: &[u8]) -> Result<Book, Refused> {
     let mut book = Book { columns: [0; ENTRIES], rows: [0; ENTRIES], used: [0; MAX_PATTERNS], count: 0 };
     let Book { columns, rows, used, .. } = &mut book;
@@ -317,7 +319,7 @@ pub fn read_book(bytes: &[u8]) -> Result<Book, Refused> {
     Ok(book)
 }
 
-/// The pixel bytes of pattern n, where they stand in the bytes of a book. Refused by 1 to 5 and 17.
+/// The pixel bytes of pattern n, where they stand in the bytes of a book. Refused by 1 to 5, 19 and 17.
 pub fn pattern_part(bytes: &[u8], n: usize) -> Result<&[u8], Refused> {
     let [place, length, ..] = told(|t| unsafe { raw::bankplan_pattern_part(bytes.as_ptr(), bytes.len(), n, t) })?;
     let part = bytes.get(place as usize..).and_then(|rest| rest.get(..length as usize));
@@ -342,7 +344,8 @@ impl Plan {
 }
 
 impl Book {
-    /// The book of patterns given by their pixels, column and row. Refused by 2, 3, 4.
+    /// The book of patterns given by their pixels, column and row. Refused by 2, 3, 4, 19. They are put as they are given: sort a
+    /// pattern's pixels first, by `pixels.sort_by_key(|&(column, row)| (row, column))`, or 19 turns down one that is out of order.
     pub fn new<P: AsRef<[(i8, i8)]>>(patterns: &[P]) -> Result<Book, Refused> {
         let mut book = Book { columns: [0; ENTRIES], rows: [0; ENTRIES], used: [0; MAX_PATTERNS], count: patterns.len() };
         for (n, pattern) in patterns.iter().take(MAX_PATTERNS).enumerate() {
@@ -364,12 +367,12 @@ impl Book {
         Some(entries.map(|e| (self.columns[e], self.rows[e])))
     }
 
-    /// Whether the record is a book. Refused by 2, 3, 4.
+    /// Whether the record is a book. Refused by 2, 3, 4, 19.
     pub fn test(&self) -> Result<(), Refused> {
         told(|t| unsafe { raw::bankplan_test_record(&self.columns, &self.rows, &self.used, self.count, t) }).map(|_| ())
     }
 
-    /// Puts the book's bytes at the start of the output, and gives their count. Refused by 2, 3, 4, 16.
+    /// Puts the book's bytes at the start of the output, and gives their count. Refused by 2, 3, 4, 19, 16.
     pub fn write(&self, out: &mut [u8]) -> Result<usize, Refused> {
         let Book { columns, rows, used, count } = self;
         let (out, length) = (out.as_mut_ptr(), out.len());
@@ -377,12 +380,12 @@ impl Book {
     }
 
     /// The plan with the fewest banks within the limit; of several the one with the least b, then the least d. Refused by 2, 3, 4,
-    /// 6, 7.
+    /// 19, 6, 7.
     pub fn find(&self, limit: u32) -> Result<Plan, Refused> {
         told(|t| unsafe { raw::bankplan_find(&self.columns, &self.rows, &self.used, self.count, limit, t) }).map(plan_of)
     }
 
-    /// The verdict on a supplier's two vectors: their plan and its surplus. Refused by 2, 3, 4, 8, 9, and by 10 with a clash.
+    /// The verdict on a supplier's two vectors: their plan and its surplus. Refused by 2, 3, 4, 19, 8, 9, and by 10 with a clash.
     pub fn check(&self, x: (i16, i16), y: (i16, i16)) -> Result<Checked, Refused> {
         let Book { columns, rows, used, count } = self;
         let answer = told(|t| unsafe { raw::bankplan_check(columns, rows, used, *count, x.0, x.1, y.0, y.1, t) })?;
@@ -436,7 +439,7 @@ impl Picture {
     }
 
     /// Puts the words of pattern n, moved to (i, j), at the start of the output in the book's pixel order, and gives their
-    /// count. Refused by 2, 3, 4, 11, 12, 13, 17, 10, 14, 16.
+    /// count. Refused by 2, 3, 4, 19, 11, 12, 13, 17, 10, 14, 16.
     pub fn fetch(self, book: &Book, mem: &[u16], n: usize, (i, j): (i16, i16), out: &mut [u16]) -> Result<usize, Refused> {
         let Picture { plan: Plan { a, b, d }, width: w, height: h } = self;
         let Book { columns, rows, used, count } = book;
@@ -447,7 +450,7 @@ impl Picture {
         told(call).map(|r| r[0] as usize)
     }
 
-    /// The same with columns modulo the width and rows modulo the height. Refused by 2, 3, 4, 11, 12, 13, 17, 10, 18, 16.
+    /// The same with columns modulo the width and rows modulo the height. Refused by 2, 3, 4, 19, 11, 12, 13, 17, 10, 18, 16.
     pub fn ring_fetch(self, book: &Book, mem: &[u16], n: usize, (i, j): (i16, i16), out: &mut [u16]) -> Result<usize, Refused> {
         let Picture { plan: Plan { a, b, d }, width: w, height: h } = self;
         let Book { columns, rows, used, count } = book;

@@ -1,6 +1,7 @@
 /*
  * A camera's buffer, from C: a filter of five pixels in a cross, the plan with the fewest banks for it, a picture of 7 by 4 under
- * that plan, what suppliers and wrong positions get, and a list of calls made at once. camera.rs does the same in Rust.
+ * that plan, what shuffled books, suppliers and wrong positions get, and a list of calls made at once. camera.rs does the same in
+ * Rust.
  *
  *   cc -std=c11 -o target/camera-c examples/camera.c target/staticlib/libcapi.a
  */
@@ -38,8 +39,10 @@ static void show(const uint64_t *numbers, const uint64_t *replies, const uint16_
 }
 
 int main(void) {
-    /* one pattern of five pixels, column then row: (0,0), (-1,0), (1,0), (0,-1), (0,1) */
-    static const uint8_t bytes[] = {1, 5, 0, 0, 0xff, 0, 1, 0, 0, 0xff, 0, 1};
+    /* one pattern of five pixels, which ascend by row, then column: (0,-1), (-1,0), (0,0), (1,0), (0,1); column byte first */
+    static const uint8_t bytes[] = {1, 5, 0, 0xff, 0xff, 0, 0, 0, 1, 0, 0, 1};
+    /* the same pixels, but (-1,0) behind (0,0) */
+    static const uint8_t shuffled[] = {1, 5, 0, 0, 0xff, 0, 1, 0, 0, 0xff, 0, 1};
     static int8_t columns[1024], rows[1024];
     static size_t used[16];
     uint16_t words[64];
@@ -50,6 +53,9 @@ int main(void) {
         return 1;
     size_t count = (size_t)answer[0];
     printf("book: %d pattern, %d pixels\n", (int)count, (int)used[0]);
+
+    /* shuffled pixels are no book; the record stays as it is */
+    said("shuffled", bankplan_read_book(shuffled, sizeof shuffled, columns, rows, used, answer), answer);
 
     /* the plan with the fewest banks */
     if (said("find", bankplan_find(columns, rows, used, count, 1024, answer), answer) != 0)

@@ -1,5 +1,6 @@
 //! A camera's buffer, from Rust: a filter of five pixels in a cross, the plan with the fewest banks for it, a picture of 7 by 4
-//! under that plan, what suppliers and wrong positions get, and a list of calls made at once. camera.c does the same in C.
+//! under that plan, what shuffled books, suppliers and wrong positions get, and a list of calls made at once. camera.c does the
+//! same in C.
 //!
 //!     rustc --edition 2021 -O --crate-type rlib --out-dir target -L native=target/staticlib -l static=capi bindings/bankplan.rs
 //!     rustc --edition 2021 -O --out-dir target --extern bankplan=target/libbankplan.rlib examples/camera.rs
@@ -7,8 +8,10 @@
 use bankplan::{read_book, Call, Picture, PixelRecord, Refused, Reply};
 use std::error::Error;
 
-// One pattern of five pixels, column then row: (0,0), (-1,0), (1,0), (0,-1), (0,1).
-const BYTES: [u8; 12] = [1, 5, 0, 0, 0xff, 0, 1, 0, 0, 0xff, 0, 1];
+// One pattern of five pixels, which ascend by row, then column: (0,-1), (-1,0), (0,0), (1,0), (0,1); column byte first.
+const BYTES: [u8; 12] = [1, 5, 0, 0xff, 0xff, 0, 0, 0, 1, 0, 0, 1];
+// The same pixels, but (-1,0) behind (0,0).
+const SHUFFLED: [u8; 12] = [1, 5, 0, 0, 0xff, 0, 1, 0, 0, 0xff, 0, 1];
 
 // Says what turned a call down.
 fn say(call: &str, refused: Refused) {
@@ -40,6 +43,11 @@ fn main() -> Result<(), Box<dyn Error>> {
     let book = read_book(&BYTES)?;
     let cross: Vec<(i8, i8)> = book.pattern(0).into_iter().flatten().collect();
     println!("book: {} pattern, {} pixels", book.count, cross.len());
+
+    // shuffled pixels are no book
+    if let Err(refused) = read_book(&SHUFFLED) {
+        say("shuffled", refused);
+    }
 
     // the plan with the fewest banks
     let plan = book.find(1024)?;

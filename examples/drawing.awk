@@ -74,7 +74,7 @@ function advice(  k, least, most, high) {
         span(least, most) " of line " span(line[1], line[used])
 }
 
-# The pattern that ends here, as bytes.
+# The pattern that ends here, as bytes. Its pixels stand as they were met, row by row and from left to right: they ascend.
 function pattern(  k, x, y) {
     if (used == 0) refuse("line " first, "refused 2: pattern " patterns " has no pixel, and a pattern has 1 to 64")
     if (used > 64) {

@@ -23,7 +23,7 @@ static int8_t columns[BANKPLAN_ENTRIES], rows[BANKPLAN_ENTRIES];
 
 static int refused(const char *what, uint64_t number, const uint64_t *answer) {
     printf("%s: refused %d (%s)", what, (int)number, bankplan_refusal_text(number));
-    if (number <= BANKPLAN_EXTRA)
+    if (number <= BANKPLAN_EXTRA || number == BANKPLAN_LOWER)
         printf(": at byte %d", (int)answer[0]);
     if (number == BANKPLAN_UNSUITED) {
         size_t first = (size_t)answer[1] * BANKPLAN_MAX_PIXELS, e = first + (size_t)answer[2], l = first + (size_t)answer[3];

@@ -8,6 +8,12 @@ struct place {
 
 static bool coordinate(uint8_t x) { return x <= 15 || x >= 240; }
 
+// Whether the pixel of these two bytes is lower than the one of the two before: by row, then column.
+static bool lower(const uint8_t *pixel) {
+    int8_t row = (int8_t)pixel[1], before = (int8_t)pixel[-1];
+    return row < before || (row == before && (int8_t)pixel[0] < (int8_t)pixel[-2]);
+}
+
 // One pattern from `at` on; moves it past the pattern.
 static struct place plain_pattern(const uint8_t *s, size_t length, size_t *at) {
     if (*at == length) return (struct place){1, length};
@@ -20,6 +26,7 @@ static struct place plain_pattern(const uint8_t *s, size_t length, size_t *at) {
         if (!coordinate(s[*at + 1])) return (struct place){3, *at + 1};
         for (size_t k = first; k < *at; k += 2)
             if (s[k] == s[*at] && s[k + 1] == s[*at + 1]) return (struct place){4, *at};
+        if (m > 0 && lower(s + *at)) return (struct place){19, *at};
     }
     return (struct place){0, 0};
 }
@@ -77,6 +84,27 @@ static void parts(const uint8_t *s, size_t length, const struct record *r) {
     must_refuse(beyond, 17);
 }
 
+// Two neighbours of one pattern exchanged: the later one is then lower, in the bytes and in the record.
+static void exchanged(const uint8_t *s, size_t length, const struct record *r) {
+    size_t n = length % r->count, at = 1;
+    if (r->used[n] < 2) return;
+    for (size_t k = 0; k < n; k++) at += 1 + 2 * r->used[k];
+    size_t m = length % (r->used[n] - 1), first = at + 1 + 2 * m;
+    uint8_t *other = lent_copy(s, length);
+    struct record same = {lent_copy(r->columns, 1024), lent_copy(r->rows, 1024), lent_copy(r->used, 16 * sizeof(size_t)), r->count};
+    for (size_t k = 0; k < 2; k++) {
+        memcpy(other + first + 2 * k, s + first + 2 * (1 - k), 2);
+        same.columns[64 * n + m + k] = r->columns[64 * n + m + 1 - k];
+        same.rows[64 * n + m + k] = r->rows[64 * n + m + 1 - k];
+    }
+    TOLD(part, bankplan_pattern_part(other, length, n, answer));
+    must_tell_place(part, (struct place){19, first + 2});
+    TOLD(test, bankplan_test_record(same.columns, same.rows, same.used, same.count, answer));
+    must_refuse(test, 19);
+    give_back(other, length);
+    drop_record(&same);
+}
+
 // Writes into so much room: the same bytes and the rest unchanged, or 16 and nothing changed.
 static void write_into(const uint8_t *s, size_t length, size_t room, const struct record *r) {
     uint8_t *out = lent(room);
@@ -107,6 +135,7 @@ int LLVMFuzzerTestOneInput(const uint8_t *data, size_t size) {
         MUST(t.number == 0 && t.values == 1 && t.row[0] == data[0]);
         r.count = t.row[0];
         parts(s, size, &r);
+        exchanged(s, size, &r);
         TOLD(test, bankplan_test_record(r.columns, r.rows, r.used, r.count, answer));
         MUST(test.number == 0 && test.values == 0);
         write_into(s, size, size, &r);

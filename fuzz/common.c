@@ -69,17 +69,35 @@ uint64_t eight(struct feed *f) {
     return x;
 }
 
-// Up to 64 different pixels of the window; at least one.
-static size_t legal_pattern(struct feed *f, int8_t *columns, int8_t *rows) {
-    size_t wanted = 1 + byte(f) % 64, used = 0;
+// Whether (i, j) is lower than (x, y): by row, then column.
+static bool lower(int i, int j, int x, int y) { return j < y || (j == y && i < x); }
+
+// The last pixel goes down to its place among those before it.
+static void put_in_order(int8_t *columns, int8_t *rows, size_t last) {
+    int8_t column = columns[last], row = rows[last];
+    size_t m = last;
+    for (; m > 0 && lower(column, row, columns[m - 1], rows[m - 1]); m--) {
+        columns[m] = columns[m - 1];
+        rows[m] = rows[m - 1];
+    }
+    columns[m] = column;
+    rows[m] = row;
+}
+
+// Up to 64 different pixels of the window; at least one. In order, or as they come where the count's highest bit is set.
+static size_t pattern_of(struct feed *f, int8_t *columns, int8_t *rows) {
+    unsigned how = byte(f);
+    size_t wanted = 1 + how % 64, used = 0;
     for (size_t m = 0; m < wanted && (used == 0 || f->left > 0); m++) {
         unsigned x = two(f);
         int8_t column = (int)(x & 31) - 16, row = (int)(x >> 8 & 31) - 16;
         size_t same = 0;
         while (same < used && (columns[same] != column || rows[same] != row)) same++;
-        columns[same] = column;
-        rows[same] = row;
-        if (same == used) used++;
+        if (same < used) continue;
+        columns[used] = column;
+        rows[used] = row;
+        if (how < 128) put_in_order(columns, rows, used);
+        used++;
     }
     return used;
 }
@@ -89,19 +107,19 @@ static size_t any_count(struct feed *f) {
     return x == 255 ? (size_t)eight(f) : x;
 }
 
-struct record record_of(struct feed *f, bool legal) {
+struct record record_of(struct feed *f, bool drawn) {
     struct record r = {lent(1024), lent(1024), lent(16 * sizeof(size_t)), 0};
     for (int k = 0; k < 1024; k++) {
         r.columns[k] = k * 7 % 256 - 128;
         r.rows[k] = k * 11 % 256 - 128;
     }
     for (int n = 0; n < 16; n++) r.used[n] = n % 2 ? SIZE_MAX - n : 65 + n;
-    r.count = legal ? 1 + byte(f) % 16 : any_count(f);
+    r.count = drawn ? 1 + byte(f) % 16 : any_count(f);
     size_t patterns = 0;
     for (size_t n = 0; n < r.count && n < 16 && (n == 0 || f->left > 0); n++) {
         int8_t *columns = r.columns + 64 * n, *rows = r.rows + 64 * n;
-        if (legal) {
-            r.used[n] = legal_pattern(f, columns, rows);
+        if (drawn) {
+            r.used[n] = pattern_of(f, columns, rows);
         } else {
             r.used[n] = any_count(f);
             for (size_t m = 0; m < r.used[n] && m < 64; m++) {
@@ -111,7 +129,7 @@ struct record record_of(struct feed *f, bool legal) {
         }
         patterns++;
     }
-    if (legal) r.count = patterns;
+    if (drawn) r.count = patterns;
     return r;
 }
 
@@ -149,6 +167,7 @@ unsigned plain_test(const struct record *r) {
             if (!in_window(columns[m]) || !in_window(rows[m])) return 3;
             for (size_t k = 0; k < m; k++)
                 if (columns[k] == columns[m] && rows[k] == rows[m]) return 4;
+            if (m > 0 && lower(columns[m], rows[m], columns[m - 1], rows[m - 1])) return 19;
         }
     }
     return 0;

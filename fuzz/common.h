@@ -57,8 +57,9 @@ struct record {
     size_t *used;
     size_t count;
 };
-// From the input: legal patterns, or any bytes at all. What a record does not use is filled with other bytes.
-struct record record_of(struct feed *f, bool legal);
+// From the input: patterns of different pixels, in order but for those that are not on purpose, or any bytes at all. What a
+// record does not use is filled with other bytes.
+struct record record_of(struct feed *f, bool drawn);
 void drop_record(struct record *r);
 
 struct plan {

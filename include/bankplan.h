@@ -1,10 +1,11 @@
 /*
  * Bank plans for image buffers: this header declares the functions of the static library `capi`, for C99 and later and for C++.
- * Document 01 is the project's scope paper; docs/GUIDE.md says in plain words what patterns, books and plans are.
+ * Document 01 is the project's scope paper, and document 02 has the requests that changed it since; docs/GUIDE.md says in plain
+ * words what patterns, books and plans are.
  *
  * What a call answers. Every function returns a number; bankplan_refusal_text gives the text of each:
  *   0                  the call was not refused
- *   1 to 18            the call was refused by this number (enum bankplan_refusal)
+ *   1 to 19            the call was refused by this number (enum bankplan_refusal)
  *   255                the numbers that it was given are no list of calls (BANKPLAN_NOT_CALLS)
  * A function also puts a row of numbers at the start of the lent array `answer` of 12, and leaves the rest of the 12 as they
  * were. The row is:
@@ -12,17 +13,21 @@
  *   refused            answer[0]: the place
  *   refused by 10      answer[0]: the place; answer[1], answer[2], answer[3]: the clash, that is the pattern's number and the
  *                      numbers of two pixels in it, the earlier and the later, all counted from 0
- * The place is a byte offset for 1 to 5 where the call was given a book's bytes, for 255 the index of a number in the list, and 0
- * elsewhere. What a caller hands over for the time of a call is lent. A refused call leaves all that it was lent as it was, but
- * for the answer's row.
+ * The place is a byte offset for 1 to 5 and 19 where the call was given a book's bytes, for 255 the index of a number in the
+ * list, and 0 elsewhere. For 4 and 19 it is the pixel's first byte. What a caller hands over for the time of a call is lent. A
+ * refused call leaves all that it was lent as it was, but for the answer's row.
  *
  * What a call tests. A call takes every value of its parameters' types, and tests them all itself. No call relies on one made
  * before. "Refused by" below has the numbers in the order of the tests; that of the first fault found is returned. "In
  * book order" is the pattern count first, then for each pattern its pixel count, then for each of its pixels the column, the
- * row, and whether it stood there before.
+ * row, whether it stood there before (4), and whether it is lower than the pixel just before it (19).
  *
  * What things are. A plan is a, b, d; it has N = a * d banks. A picture has width w and height h. A pixel is (i, j), column and
  * row.
+ *
+ * The pixels of a pattern ascend by row, then by column: each has a greater row than the one before it, or the same row and a
+ * greater column. The caller puts them so; no call sorts them. So two books with the same patterns under the same numbers are the
+ * same bytes.
  *
  * A book record is flat arrays: columns[1024] and rows[1024], of which pattern n has the entries 64 * n to 64 * n + 63;
  * used[16], the pixel counts; and the pattern count. Of pattern n the first used[n] entries count, of the patterns the first
@@ -54,9 +59,9 @@ extern "C" {
 
 /* The version of this header, and of the library that is built from the same tree. */
 #define BANKPLAN_VERSION_MAJOR 0
-#define BANKPLAN_VERSION_MINOR 3
+#define BANKPLAN_VERSION_MINOR 4
 #define BANKPLAN_VERSION_PATCH 0
-#define BANKPLAN_VERSION "0.3.0"
+#define BANKPLAN_VERSION "0.4.0"
 
 /* The limits of document 01, and how long the arrays are that go with them. */
 enum bankplan_limit {
@@ -71,8 +76,8 @@ enum bankplan_limit {
     BANKPLAN_ANSWER_NUMBERS = 12       /* numbers of `answer` */
 };
 
-/* Why a call was turned down: each refusal's name, number and text. The number and the text are those of document 01. Two texts
-   hold signs that are not ASCII, × and ≥; they are UTF-8. */
+/* Why a call was turned down: each refusal's name, number and text. The number and the text are those of document 01, and of
+   Card 3 of document 02 for 19. Two texts hold signs that are not ASCII, × and ≥; they are UTF-8. */
 #define BANKPLAN_REFUSALS(X)                                                  \
     X(BANKPLAN_ENDS, 1, "book ends early")                                    \
     X(BANKPLAN_COUNT, 2, "pattern count not 1-16 or pixel count not 1-64")    \
@@ -91,7 +96,8 @@ enum bankplan_limit {
     X(BANKPLAN_CELL, 15, "bank ≥ N, address ≥ depth, or their pixel outside") \
     X(BANKPLAN_OUTPUT, 16, "output too short")                                \
     X(BANKPLAN_NO_PATTERN, 17, "pattern number not in the book")              \
-    X(BANKPLAN_RING, 18, "ring sides not multiples of N")
+    X(BANKPLAN_RING, 18, "ring sides not multiples of N")                     \
+    X(BANKPLAN_LOWER, 19, "pixel lower than the one before it, by row, then column")
 
 /* The refusals' names as constants: BANKPLAN_ENDS is 1, and so on. */
 #define BANKPLAN_CONSTANT(name, number, text) , name = number
@@ -112,32 +118,32 @@ static inline const char *bankplan_refusal_text(uint64_t number) {
 
 /* ---- books */
 
-/* Reads a book's bytes into a record. Refused by 1, 2, 3, 4, 5 as they come in the bytes. Tells the pattern count.
+/* Reads a book's bytes into a record. Refused by 1, 2, 3, 4, 19, 5 as they come in the bytes. Tells the pattern count.
    Lent: columns, rows, used are filled, unused entries with 0; on a refusal they stay as they were. */
 uint64_t bankplan_read_book(const uint8_t *s, size_t s_length, int8_t columns[1024], int8_t rows[1024], size_t used[16],
                             uint64_t answer[12]);
 
-/* Says where the pixel bytes of pattern n stand in a book's bytes. Refused by 1, 2, 3, 4, 5 as they come in the bytes, 17.
+/* Says where the pixel bytes of pattern n stand in a book's bytes. Refused by 1, 2, 3, 4, 19, 5 as they come in the bytes, 17.
    Tells the offset from s and the length in bytes. */
 uint64_t bankplan_pattern_part(const uint8_t *s, size_t s_length, size_t n, uint64_t answer[12]);
 
-/* Writes a record's bytes, at most 2,065. Refused by 2, 3, 4 in book order, 16. Tells the count of bytes.
+/* Writes a record's bytes, at most 2,065. Refused by 2, 3, 4, 19 in book order, 16. Tells the count of bytes.
    Lent: the bytes stand at the start of out, the rest of it stays; on a refusal all of it does. */
 uint64_t bankplan_write_book(const int8_t columns[1024], const int8_t rows[1024], const size_t used[16], size_t count,
                              uint8_t *out, size_t out_length, uint64_t answer[12]);
 
-/* Tests whether a record is a book. Refused by 2, 3, 4 in book order. Tells nothing. */
+/* Tests whether a record is a book. Refused by 2, 3, 4, 19 in book order. Tells nothing. */
 uint64_t bankplan_test_record(const int8_t columns[1024], const int8_t rows[1024], const size_t used[16], size_t count,
                               uint64_t answer[12]);
 
 /* ---- finding and checking */
 
 /* Finds the plan with the fewest banks, at most limit, for a book; of several the one with the least b, then the least d. Refused
-   by 2, 3, 4 in book order, 6, 7. Tells a, b, d. */
+   by 2, 3, 4, 19 in book order, 6, 7. Tells a, b, d. */
 uint64_t bankplan_find(const int8_t columns[1024], const int8_t rows[1024], const size_t used[16], size_t count,
                        uint32_t limit, uint64_t answer[12]);
 
-/* Checks a supplier's vectors (x1, x2) and (y1, y2) for a book. Refused by 2, 3, 4 in book order, 8, 9, and by 10 with the
+/* Checks a supplier's vectors (x1, x2) and (y1, y2) for a book. Refused by 2, 3, 4, 19 in book order, 8, 9, and by 10 with the
    clash. Tells a, b, d of their normal form and the surplus, N less the least count. */
 uint64_t bankplan_check(const int8_t columns[1024], const int8_t rows[1024], const size_t used[16], size_t count,
                         int16_t x1, int16_t x2, int16_t y1, int16_t y2, uint64_t answer[12]);
@@ -182,14 +188,14 @@ uint64_t bankplan_clear(uint32_t a, uint32_t b, uint32_t d, uint32_t w, uint32_t
 uint64_t bankplan_sum(uint32_t a, uint32_t b, uint32_t d, uint32_t w, uint32_t h, const uint16_t *mem, size_t mem_length,
                       uint64_t k, uint64_t answer[12]);
 
-/* Fetches pattern n of a book with (0, 0) moved to (i, j). Refused by 2, 3, 4 in book order, 11, 12, 13, 17, by 10 with the
+/* Fetches pattern n of a book with (0, 0) moved to (i, j). Refused by 2, 3, 4, 19 in book order, 11, 12, 13, 17, by 10 with the
    clash where the plan does not suit pattern n, 14 where any of its pixels is outside, 16. Tells the count of words.
    Lent: the words stand at the start of out in the book's pixel order, the rest of it stays; on a refusal all of it does. */
 uint64_t bankplan_fetch(const int8_t columns[1024], const int8_t rows[1024], const size_t used[16], size_t count,
                         uint32_t a, uint32_t b, uint32_t d, uint32_t w, uint32_t h, const uint16_t *mem, size_t mem_length,
                         size_t n, int16_t i, int16_t j, uint16_t *out, size_t out_length, uint64_t answer[12]);
 
-/* Does the same with columns modulo w and rows modulo h. Refused by 2, 3, 4 in book order, 11, 12, 13, 17, by 10 with the
+/* Does the same with columns modulo w and rows modulo h. Refused by 2, 3, 4, 19 in book order, 11, 12, 13, 17, by 10 with the
    clash, 18, 16. Tells the count of words. Lent: as for a fetch. */
 uint64_t bankplan_ring_fetch(const int8_t columns[1024], const int8_t rows[1024], const size_t used[16], size_t count,
                              uint32_t a, uint32_t b, uint32_t d, uint32_t w, uint32_t h, const uint16_t *mem,
@@ -257,8 +263,8 @@ uint64_t bankplan_run_list(const int8_t columns[1024], const int8_t rows[1024], 
                            const uint64_t *numbers, size_t numbers_length, uint16_t *outs, size_t outs_length,
                            uint64_t *replies, size_t replies_length, uint64_t answer[12]);
 
-/* Finds the plan with the fewest banks, at most limit, for a book, and carries out a list of calls under it. Refused by 2, 3, 4
-   in book order, 6, 7 where there is no plan; then 255 and 16 as above. Tells a, b, d.
+/* Finds the plan with the fewest banks, at most limit, for a book, and carries out a list of calls under it. Refused by 2, 3, 4,
+   19 in book order, 6, 7 where there is no plan; then 255 and 16 as above. Tells a, b, d.
    The memory is to have N * depth words under the plan that is found, or each call is refused by 13; (w + limit) * (h + limit)
    words are always enough. If these N * depth words are 0, each word that is fetched or loaded is the one last stored at its
    pixel, or 0 where there is none since the last clear of its bank (demand 3 of document 01).

@@ -1,7 +1,7 @@
 //! The script examples/book, run as a process, beside a reader of drawings in Rust: the bytes of the book, or what is wrong and
 //! where. `tests/scripts` has the messages in full, and the script `run`.
 
-use crate::{Random, Tally};
+use crate::{oracle, Random, Tally};
 use std::io::Write;
 use std::process::{Command, Stdio};
 
@@ -146,10 +146,14 @@ fn got(text: &[u8]) -> (Vec<u8>, i32, String) {
 
 fn case(t: &mut Tally, text: &[u8]) {
     let (w, mut g) = (wanted(text), got(text));
+    let what = || format!("{:?}", String::from_utf8_lossy(text));
     if w.1 != 0 {
         g.2.truncate(w.2.len());
+    } else {
+        // as it is drawn, row by row, the pixels are in order
+        t.same(what, oracle::read(&g.0).map(|_| ()), Ok(()));
     }
-    t.same(|| format!("{:?}", String::from_utf8_lossy(text)), g, w);
+    t.same(what, g, w);
 }
 
 // A few patterns, most of them legal, with remarks, blanks and other ends of lines between them.

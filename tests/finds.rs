@@ -1,6 +1,6 @@
 //! The finder and the check.
 
-use crate::books::{damaged_record, fill_unused, legal_record};
+use crate::books::{damaged_record, fill_unused, legal_record, reached};
 use crate::library::{self, Plan, Record, Told};
 use crate::oracle::{self, Pattern};
 use crate::search::{self, first_plan, one_to_a_bank, suits, Verdict};
@@ -41,7 +41,7 @@ fn figures() -> Tally {
     let row = vec![(0, 0), (1, 0), (2, 0)];
     let column = vec![(0, 0), (0, 1), (0, 2)];
     let gap = vec![(0, 0), (1, 0), (3, 0)];
-    let cross = vec![(0, 0), (-1, 0), (1, 0), (0, -1), (0, 1)];
+    let cross = vec![(0, -1), (-1, 0), (0, 0), (1, 0), (0, 1)];
     let six: Vec<Pattern> =
         [(0, 1), (1, 1), (2, 1), (-1, 1), (1, 2), (1, 0)].iter().map(|&v| vec![(0, 0), v]).collect();
     figure(&[vec![(0, 0)]], 1024, plan(1, 0, 1));
@@ -115,7 +115,7 @@ pub fn random_book(random: &mut Random, patterns: i64, pixels: i64, width: i64, 
                     t.push(v);
                 }
             }
-            t
+            oracle::ordered(t)
         })
         .collect()
 }
@@ -185,20 +185,26 @@ fn large_books() -> Tally {
 fn records() -> Tally {
     let mut t = Tally::new("find and check of damaged records");
     let mut random = Random::new(10);
+    let mut gave = [[0; 20]; 2];
     for round in 0..20_000 {
         let r: Record = if round % 4 == 0 { legal_record(&mut random) } else { damaged_record(&mut random) };
         let limit = random.one_of(&[0, 1025, u32::MAX]);
         let (x, y) = random.one_of(&[((2, 1), (4, 2)), ((32, 0), (0, 33)), ((0, 0), (0, 0)), ((1, 0), (0, 1025))]);
         let book = oracle::patterns_of(&r);
         let number = |other| book.as_ref().map_or_else(|e| Told { number: e.0, row: vec![e.1] }, |_| other);
-        t.same(|| format!("{r:?} {limit}"), library::find(&r, limit), number(refused(6)));
+        let (found, checked) = (library::find(&r, limit), library::check(&r, x, y));
+        gave[0][found.number.min(19) as usize] += 1;
+        gave[1][checked.number.min(19) as usize] += 1;
+        t.same(|| format!("{r:?} {limit}"), found, number(refused(6)));
         let vectors = judged(oracle::normal_form(wide(x), wide(y)).map(|p| Verdict::Suits(p, 0)));
-        t.same(|| format!("{r:?} {x:?} {y:?}"), library::check(&r, x, y), number(vectors));
+        t.same(|| format!("{r:?} {x:?} {y:?}"), checked, number(vectors));
         if book.is_err() {
             t.same(|| format!("{r:?}"), library::find(&r, 1024), number(refused(6)));
             t.same(|| format!("{r:?}"), library::check(&r, (5, 0), (2, 1)), number(refused(6)));
         }
     }
+    reached(&mut t, &gave[0], &[2, 3, 4, 6, 19], 500);
+    reached(&mut t, &gave[1], &[2, 3, 4, 8, 9, 19], 500);
     t
 }
 
@@ -209,7 +215,7 @@ fn records() -> Tally {
 fn theorem() -> Tally {
     let mut t = Tally::new("document 002, Theorem 4.3, n up to 16");
     for n in 1..=16i64 {
-        let line = |i: i64, j: i64| (0..n).map(|k| (i * k, j * k)).collect::<Pattern>();
+        let line = |i: i64, j: i64| oracle::ordered((0..n).map(|k| (i * k, j * k)).collect());
         let book = [line(1, 0), line(0, 1), line(1, 1), line(1, -1)];
         let stated = match (n % 2, n % 3) {
             (1, 1 | 2) => n,

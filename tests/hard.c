@@ -1,7 +1,7 @@
 // Hard use of the static library: hard guard|heap CASES. Every function is lent buffers that end or begin at a page that nobody
 // may touch, or heap blocks of just their size, and is given legal things, edges and any numbers at all. What is asked here
 // needs no second version of the library: numbers that a call can give, nothing changed that may not change, the same answer
-// to the same question. That the answers are right is asked elsewhere.
+// to the same question. That the answers are right is asked elsewhere, but for the order of pixels (hard_order.c).
 #define _GNU_SOURCE
 #include <signal.h>
 #include <stdio.h>
@@ -16,6 +16,7 @@ static const uint64_t UNTOUCHED = 0xabad1deaabad1dea;
 static uint64_t cases, wrong, digest;
 static unsigned given[CALLS]; // the numbers that each call gave
 static const char *now = "nothing";
+static uint64_t last_number, last_place; // what the call made last gave
 
 // A call that touches what it was not lent, traps or hangs ends the test.
 static void ended(int signal_number) {
@@ -82,7 +83,7 @@ static void judge_answer(const struct call *c, const struct input *x, uint64_t n
     for (int k = 0; k < ANSWER_LENGTH; k++)
         if ((answer[k] == UNTOUCHED) != (k >= values)) say_wrong("the answer's row", number);
     if (!lent_same(ANSWER, 0, values * sizeof *answer)) say_wrong("the answer's rest", number);
-    bool placed = number >= 1 && number <= 5 && c->reads & BIT(BOOK);
+    bool placed = number >= 1 && (number <= 5 || number == 19) && c->reads & BIT(BOOK);
     uint64_t most = placed ? x->book_length : number == BANKPLAN_NOT_CALLS ? x->numbers_length : 0;
     if (number && answer[0] > most) say_wrong("the place", number);
 }
@@ -98,8 +99,7 @@ static void judge_lent(const struct call *c, const struct input *x, uint64_t num
     }
 }
 
-// The bit of a number that some call can give; of another none that any has.
-static unsigned bit_of(uint64_t number) { return number == BANKPLAN_NOT_CALLS ? NO_LIST : BIT(number <= 18 ? number : 31); }
+unsigned bit_of(uint64_t number) { return number == BANKPLAN_NOT_CALLS ? NO_LIST : BIT(number <= 19 ? number : 31); }
 
 // One call: what it was given stays, and what it says and leaves goes into the digest.
 static uint64_t make_once(const struct call *c, const struct input *x) {
@@ -113,6 +113,8 @@ static uint64_t make_once(const struct call *c, const struct input *x) {
     else given[c - calls] |= bit_of(number);
     judge_answer(c, x, number);
     judge_lent(c, x, number);
+    last_number = number;
+    last_place = *(const uint64_t *)lent(ANSWER);
     for (int s = 0; s < SLOTS; s++)
         if ((c->writes | BIT(ANSWER)) & BIT(s)) of_this = lent_digest(s, of_this);
     for (int s = 0; s < SLOTS; s++)
@@ -126,6 +128,12 @@ void try_call(enum which c, const struct input *x) {
     uint64_t first = make_once(&calls[c], x);
     if (make_once(&calls[c], x) != first) say_wrong("another answer the second time", 0);
     digest = (digest ^ first) * 0x100000001b3;
+}
+
+void try_told(enum which c, const struct input *x, uint64_t number, uint64_t place) {
+    try_call(c, x);
+    if (last_number != number) say_wrong("another number than it must be", last_number);
+    else if (number && last_place != place) say_wrong("another place than it must be", number);
 }
 
 void try_all(const struct input *x) {
@@ -150,6 +158,8 @@ static void guard_pages(uint64_t how_many) {
         now = calls[c].name;
         if (given[c] != calls[c].numbers) say_wrong("some number of this call never came", given[c]);
     }
+    now = calls[RUN_LIST].name;
+    if (replied != calls[FETCH].numbers) say_wrong("some number of a fetch never came in a reply", replied);
 }
 
 int main(int count, char **words) {

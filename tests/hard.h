@@ -52,8 +52,8 @@ struct range {
     size_t from, to;
 };
 
-// One exported function: the numbers that it can give (255 as bit 19), how many values it tells, what it is lent, and which bytes of what it
-// is lent for writing may change where it was not refused.
+// One exported function: the numbers that it can give, how many values it tells, what it is lent, and which bytes of what it is
+// lent for writing may change where it was not refused.
 struct call {
     const char *name;
     unsigned numbers;
@@ -65,7 +65,7 @@ struct call {
 
 // hard_calls.c
 #define BIT(n) (1u << (n))
-#define NO_LIST BIT(19) // 255
+#define NO_LIST BIT(30) // 255
 enum which {
     NORMAL_FORM, BANK, DEPTH, ADDRESS, LOCATE, READ_BOOK, PATTERN_PART, WRITE_BOOK, TEST_RECORD,
     FIND, CHECK, STORE, LOAD, CLEAR, SUM, FETCH, RING_FETCH, FILL_RECORDS,
@@ -75,13 +75,21 @@ enum { RECORD = BIT(COLUMNS) | BIT(ROWS) | BIT(USED) };
 extern const struct call calls[CALLS];
 size_t output_size(enum which c, const struct input *x);
 const struct input *under_plan(enum which c, const struct input *x); // with the plan that the call goes by
+extern unsigned replied;                                             // the numbers that fetches in lists gave
 
 // hard.c
+unsigned bit_of(uint64_t number); // of a number that some call can give; of another none that any has
 void try_call(enum which c, const struct input *x);
+void try_told(enum which c, const struct input *x, uint64_t number, uint64_t place); // must be told these; no place for 0
 void try_all(const struct input *x);
 
 // hard_cases.c
 void all_cases(uint64_t how_many, bool large);
+void cross(struct input *x); // the cross of five pixels, and all else 0
+void four_calls(struct input *x, uint64_t i, uint64_t j);
+
+// hard_order.c
+void every_order(struct input *x, bool all);
 
 // hard_input.c
 extern uint16_t *memory_words; // what stands in every memory that is lent

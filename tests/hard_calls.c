@@ -82,6 +82,7 @@ const struct input *under_plan(enum which c, const struct input *x) {
     return &found;
 }
 
+unsigned replied;
 static size_t calls_in(const struct input *x) { return x->numbers_length / BANKPLAN_CALL_NUMBERS; }
 static uint64_t room_of(const uint64_t *call) { return call[0] == BANKPLAN_KIND_FETCH ? call[4] : 0; }
 
@@ -118,6 +119,7 @@ static bool as_single_calls(const struct input *x) {
         const uint64_t *call = x->numbers + k * BANKPLAN_CALL_NUMBERS;
         single_call(x, call, mem, outs + at, reply);
         if (reply[0] == 0 && room_of(call)) same &= lent_known(OUTPUT, 2 * at, 2 * (at + reply[1]));
+        if (call[0] == BANKPLAN_KIND_FETCH) replied |= bit_of(reply[0]);
         same &= memcmp(replies + k * BANKPLAN_REPLY_NUMBERS, reply, sizeof reply) == 0;
         at += room_of(call);
     }
@@ -192,8 +194,8 @@ static struct range records(enum slot s, const struct input *x, const uint64_t *
 }
 
 enum {
-    IN_BOOK = BIT(1) | BIT(2) | BIT(3) | BIT(4) | BIT(5),
-    IN_RECORD = BIT(2) | BIT(3) | BIT(4),
+    IN_RECORD = BIT(2) | BIT(3) | BIT(4) | BIT(19),
+    IN_BOOK = BIT(1) | IN_RECORD | BIT(5),
     IN_PICTURE = BIT(11) | BIT(12) | BIT(13),
     IN_FETCH = IN_RECORD | IN_PICTURE | BIT(17) | BIT(10) | BIT(16),
     IN_LIST = BIT(16) | NO_LIST,

@@ -3,9 +3,8 @@
 
 #include "hard.h"
 
-// The cross of five pixels.
-static void cross(struct input *x) {
-    static const int8_t columns[5] = {0, -1, 1, 0, 0}, rows[5] = {0, 0, 0, -1, 1};
+void cross(struct input *x) {
+    static const int8_t columns[5] = {0, -1, 0, 1, 0}, rows[5] = {-1, 0, 0, 0, 1};
     memset(x, 0, sizeof *x);
     memcpy(x->columns, columns, 5);
     memcpy(x->rows, rows, 5);
@@ -153,7 +152,7 @@ static void both_lists(struct input *x) {
 }
 
 // Store, load, fetch and clear at these pixels, with just the room that they need.
-static void four_calls(struct input *x, uint64_t i, uint64_t j) {
+void four_calls(struct input *x, uint64_t i, uint64_t j) {
     const uint64_t numbers[] = {BANKPLAN_KIND_STORE, i, j, 77, 0, BANKPLAN_KIND_LOAD,  i, j, 0,    0,
                                 BANKPLAN_KIND_FETCH, 3, 2, 0,  5, BANKPLAN_KIND_CLEAR, 0, 0, 0, 0};
     memcpy(x->numbers, numbers, sizeof numbers);
@@ -217,6 +216,7 @@ void all_cases(uint64_t how_many, bool large) {
     every_fetch(&x);
     every_list(&x);
     every_run(&x, large);
+    every_order(&x, large);
     if (large) large_pictures(&x);
     for (uint64_t k = 0; k < how_many; k++) {
         any_input(&x);

@@ -93,7 +93,22 @@ static void any_picture(struct input *x) {
     x->address = below(3) && is_picture(x) ? below(depth_of(x)) : any_number();
 }
 
-// Different pixels; the window's corners come often.
+static void exchange(int8_t *columns, int8_t *rows, size_t m, size_t k) {
+    int8_t column = columns[m], row = rows[m];
+    columns[m] = columns[k], rows[m] = rows[k];
+    columns[k] = column, rows[k] = row;
+}
+
+// By row, then column: each pixel goes down while it is lower than the one before it.
+static void put_in_order(int8_t *columns, int8_t *rows, size_t used) {
+    for (size_t m = 1; m < used; m++)
+        for (size_t k = m; k > 0; k--) {
+            int step = rows[k] != rows[k - 1] ? rows[k] - rows[k - 1] : columns[k] - columns[k - 1];
+            if (step < 0) exchange(columns, rows, k, k - 1);
+        }
+}
+
+// Different pixels in order; the window's corners come often.
 static void any_pattern(struct input *x, size_t n, size_t used) {
     int8_t *columns = x->columns + 64 * n, *rows = x->rows + 64 * n;
     uint64_t side = used > 40 || below(3) == 0 ? 32 : 8;
@@ -104,6 +119,7 @@ static void any_pattern(struct input *x, size_t n, size_t used) {
         while (k < m && (columns[k] != columns[m] || rows[k] != rows[m])) k++;
         if (k < m) m--;
     }
+    put_in_order(columns, rows, used);
     x->used[n] = used;
 }
 
@@ -123,12 +139,13 @@ static void any_record(struct input *x) {
     x->count = 1 + below(large ? 16 : 3);
     for (size_t n = 0; n < x->count; n++) any_pattern(x, n, 1 + below(large ? 64 : 8));
     size_t n = below(x->count), m = below(x->used[n]);
-    switch (below(12)) { // some damage
+    switch (below(14)) { // some damage
     case 0: x->count = any_number(); break;
     case 1: x->used[n] = any_number(); break;
     case 2: x->columns[64 * n + m] = (int8_t)(below(2) ? 16 : -17); break;
     case 3: x->rows[64 * n + m] = (int8_t)next(); break;
     case 4: x->columns[64 * n + m] = x->columns[64 * n], x->rows[64 * n + m] = x->rows[64 * n]; break;
+    case 5: exchange(x->columns + 64 * n, x->rows + 64 * n, m, below(x->used[n])); break;
     default: break;
     }
 }

@@ -1,6 +1,6 @@
 //! Random lists of calls on one picture, legal and refused ones mixed, against the map of what was stored.
 
-use crate::books::{damage_record, fill_unused};
+use crate::books::{damage_record, fill_unused, put_lower};
 use crate::calls::{Call, Kind, Picture, Way, GUARD, KINDS};
 use crate::fetches::{found, inside};
 use crate::finds::random_book;
@@ -209,6 +209,7 @@ impl List {
         let any = [0, 1, 2, 33, 1024, 1025, 65536, u32::MAX];
         match random.one_of(c.kind.refusals()) {
             2 | 3 | 4 if *record == self.record => damage_record(record, random),
+            19 if *record == self.record => put_lower(record, random),
             11 => {
                 let Plan { a, b, d } = self.picture.lent.plan;
                 let wrong = [(0, b, d), (a, b, 0), (a, a, d), (a, b, 1024 / a + 1), (1024 / d + 1, b, d)];
@@ -243,7 +244,7 @@ impl List {
 }
 
 // Each number that a call can give was given by it, and about a third of the calls were refused.
-fn reached(t: &mut Tally, numbers: &[[u64; 19]; 6], lists: usize) {
+fn reached(t: &mut Tally, numbers: &[[u64; 20]; 6], lists: usize) {
     for kind in KINDS {
         for &number in [0].iter().chain(kind.refusals()) {
             t.same(|| format!("{kind:?} never gave {number}"), numbers[kind as usize][number as usize] > 0, true);
@@ -264,7 +265,7 @@ fn drawn(t: &mut Tally, counts: [usize; 4], lists: usize) {
 pub fn lists(subject: &'static str, seed: u64, lists: usize, way: Way) -> Tally {
     let mut t = Tally::new(subject);
     let mut random = Random::new(seed);
-    let mut numbers = [[0; 19]; 6];
+    let mut numbers = [[0; 20]; 6];
     let (mut reads, mut met) = (0, 0);
     let mut counts = [0; 4];
     for number in 1..=lists {
@@ -280,7 +281,7 @@ pub fn lists(subject: &'static str, seed: u64, lists: usize, way: Way) -> Tally 
                 list.break_one(&mut c, &mut record, &mut random);
             }
             let number = list.picture.ask(&mut t, &record, &c);
-            numbers[kind as usize][number.min(18) as usize] += 1;
+            numbers[kind as usize][number.min(19) as usize] += 1;
             if kind == Kind::Store && number == 0 {
                 list.stored.push(c.v);
             }

@@ -10,6 +10,7 @@ mod library;
 mod lists;
 mod memory;
 mod oracle;
+mod orders;
 mod pictures;
 mod plans;
 mod program;
@@ -18,6 +19,7 @@ mod reduction;
 mod run_edges;
 mod runs;
 mod search;
+mod shuffles;
 mod wrapper;
 mod wrapper_lists;
 
@@ -95,6 +97,8 @@ fn main() {
     let mut tallies = plans::run();
     tallies.extend(reduction::run());
     tallies.extend(books::run());
+    tallies.extend(orders::run());
+    tallies.extend(shuffles::run());
     tallies.extend(finds::run());
     tallies.extend(pictures::run());
     tallies.extend(runs::run());

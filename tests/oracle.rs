@@ -1,5 +1,5 @@
-//! Document 01 again, by counting and searching. It shares no code with the library, only the types that the
-//! answers are compared in.
+//! Document 01 again, with the order of pixels of Card 3, by counting and searching. It shares no code with the library, only the
+//! types that the answers are compared in.
 
 use crate::library::{Plan, Record};
 use std::collections::HashSet;
@@ -148,6 +148,17 @@ fn small(z: i64) -> bool {
     (-16..=15).contains(&z)
 }
 
+/// v is lower than w: its row is lower, or in the same row its column.
+pub fn is_lower(v: (i64, i64), w: (i64, i64)) -> bool {
+    if v.1 == w.1 { v.0 < w.0 } else { v.1 < w.1 }
+}
+
+/// The same pixels in the order that a book has them in.
+pub fn ordered(mut t: Pattern) -> Pattern {
+    t.sort_by_key(|&(column, row)| (row, column));
+    t
+}
+
 /// The patterns of a book's bytes, taken from the left one by one.
 pub fn read(bytes: &[u8]) -> Result<Vec<Pattern>, Refused> {
     let end = bytes.len() as u64;
@@ -178,6 +189,9 @@ pub fn read(bytes: &[u8]) -> Result<Vec<Pattern>, Refused> {
             }
             if !seen.insert(v) {
                 return Err((4, place));
+            }
+            if pattern.last().is_some_and(|&before| is_lower(v, before)) {
+                return Err((19, place));
             }
             pattern.push(v);
         }
@@ -228,6 +242,9 @@ pub fn patterns_of(r: &Record) -> Result<Vec<Pattern>, Refused> {
             if t.contains(&v) {
                 return refuse(4);
             }
+            if !t.is_empty() && is_lower(v, t[t.len() - 1]) {
+                return refuse(19);
+            }
             t.push(v);
         }
         book.push(t);
@@ -235,16 +252,21 @@ pub fn patterns_of(r: &Record) -> Result<Vec<Pattern>, Refused> {
     Ok(book)
 }
 
-/// The bytes of a record for an output of the given room.
-pub fn write(r: &Record, room: usize) -> Result<Vec<u8>, Refused> {
-    let book = patterns_of(r)?;
-    let mut bytes = vec![book.len() as u8];
-    for t in &book {
+/// The bytes of patterns, be they a book or not.
+pub fn bytes_of(patterns: &[Pattern]) -> Vec<u8> {
+    let mut bytes = vec![patterns.len() as u8];
+    for t in patterns {
         bytes.push(t.len() as u8);
         for v in t {
             bytes.push(v.0.rem_euclid(256) as u8);
             bytes.push(v.1.rem_euclid(256) as u8);
         }
     }
+    bytes
+}
+
+/// The bytes of a record for an output of the given room.
+pub fn write(r: &Record, room: usize) -> Result<Vec<u8>, Refused> {
+    let bytes = bytes_of(&patterns_of(r)?);
     if room < bytes.len() { refuse(16) } else { Ok(bytes) }
 }

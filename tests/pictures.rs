@@ -10,7 +10,7 @@ use crate::search::plan;
 use crate::{fetches, lists, told, Random, Tally};
 
 pub fn cross() -> Pattern {
-    vec![(0, 0), (-1, 0), (1, 0), (0, -1), (0, 1)]
+    vec![(0, -1), (-1, 0), (0, 0), (1, 0), (0, 1)]
 }
 
 // A record of these patterns, any numbers in its unused entries.
@@ -86,8 +86,10 @@ fn order() -> Tally {
             for number in &broken {
                 match number {
                     2 => book.count = 17,
-                    3 => book.columns[1] = 16,
-                    4 => (book.columns[3], book.rows[3]) = (book.columns[2], book.rows[2]),
+                    // the pixels of 3 and 4 are lower than the one before, too
+                    3 => book.rows[1] = -17,
+                    4 => (book.columns[3], book.rows[3]) = (book.columns[1], book.rows[1]),
+                    19 => (book.columns[4], book.rows[4]) = (15, -1),
                     11 => c.lent.plan.b = p.a,
                     12 => c.lent.h = 4097,
                     13 => c.lent.words = 1,
@@ -113,9 +115,13 @@ fn order() -> Tally {
         };
         case(|r| (r.used[0], r.columns[0]) = (65, 16), 2);
         case(|r| (r.rows[4], r.used[1]) = (-17, 0), 3);
-        case(|r| (r.columns[1], r.columns[64]) = (1, 16), 4);
-        case(|r| (r.columns[1], r.rows[4]) = (1, 16), 4);
+        case(|r| (r.columns[1], r.columns[64]) = (0, 16), 4);
+        case(|r| (r.columns[1], r.rows[4]) = (0, 16), 4);
         case(|r| (r.columns[64], r.rows[64]) = (-1, 0), 4);
+        case(|r| (r.columns[1], r.columns[64]) = (1, 16), 19);
+        case(|r| (r.columns[1], r.rows[4]) = (1, 16), 19);
+        case(|r| (r.columns[1], r.used[1]) = (1, 0), 19);
+        case(|r| r.rows[64] = 1, 19);
         case(|r| r.used[1] = usize::MAX, 2);
         case(|r| r.count = 0, 2);
         case(|r| r.count = usize::MAX, 2);

@@ -1,6 +1,6 @@
 //! The program `bankplan`, run as a process.
 
-use crate::books::{bytes_of, damage};
+use crate::books::{bytes_of, damage, reached};
 use crate::finds::random_book;
 use crate::oracle::{self, Pattern};
 use crate::search::{first_plan, hardest, one_to_a_bank};
@@ -23,7 +23,7 @@ fn text(bytes: &[u8]) -> String {
 
 // Runs the program on an input that is handed over in pieces, and gives what it wrote and whether it ended by itself within a
 // minute. The rest of an input that the program does not want is kept.
-fn run(pieces: impl IntoIterator<Item = Vec<u8>>) -> (String, bool) {
+pub fn run(pieces: impl IntoIterator<Item = Vec<u8>>) -> (String, bool) {
     let mut child = Command::new("timeout")
         .args(["60", PROGRAM])
         .stdin(Stdio::piped())
@@ -56,7 +56,8 @@ fn longest() -> Vec<u8> {
 
 fn inputs() -> Tally {
     let mut t = Tally::new("the program");
-    case(&mut t, "figure", &[1, 5, 0, 0, 0xff, 0, 1, 0, 0, 0xff, 0, 1], "banks 5\nplan 5 2 1\n".into());
+    case(&mut t, "figure", &[1, 5, 0, 0xff, 0xff, 0, 0, 0, 1, 0, 0, 1], "banks 5\nplan 5 2 1\n".into());
+    case(&mut t, "the figure as it was", &[1, 5, 0, 0, 0xff, 0, 1, 0, 0, 0xff, 0, 1], "refused 19\n".into());
     case(&mut t, "figure", &[], "refused 1\n".into());
     case(&mut t, "Card 1's figure", &[1, 4, 0, 0, 1, 0, 0, 1, 1, 1], "banks 4\nplan 2 0 2\n".into());
     case(&mut t, "table, 2", &[0], "refused 2\n".into());
@@ -82,15 +83,18 @@ fn inputs() -> Tally {
     let endless = run(std::iter::once(longest).chain(std::iter::repeat(vec![0; 4096])));
     t.same(|| "an input without end".into(), endless, ("refused 5\n".into(), true));
     let mut random = Random::new(11);
-    for round in 0..400 {
+    let mut gave = [0; 20];
+    for round in 0..500 {
         let (width, height) = random.one_of(&[(2, 2), (8, 8), (5, 12), (32, 2)]);
         let mut bytes = bytes_of(&random_book(&mut random, 16, 64, width, height));
         if round % 2 == 1 {
             damage(&mut bytes, &mut random);
         }
         let wanted = text(&bytes);
+        gave[wanted.strip_prefix("refused ").map_or(0, |number| number.trim().parse().unwrap())] += 1;
         case(&mut t, "random", &bytes, wanted);
     }
+    reached(&mut t, &gave, &[0, 1, 2, 3, 4, 5, 19], 5);
     t
 }
 

@@ -130,7 +130,7 @@ fn rooms(t: &mut Tally, e: &Edges) {
     e.list(t, &[], 0, 0, 0, 0);
 }
 
-// A plan that is none, wrong sides, a memory that is too short: every call replies so, a fetch of a wrong book by 2, 3, 4.
+// A plan that is none, wrong sides, a memory that is too short: every call replies so, a fetch of a wrong book by 2, 3, 4, 19.
 fn shared(t: &mut Tally, e: &Edges) {
     let calls = [[0, 3, 2, 7, 0], [1, 0, 0, 0, 0], [2, 3, 2, 0, 0], [3, 3, 2, 0, 5], [3, 3, 2, 9, 0], [1, 0, 0, MOST, 0]];
     let numbers = calls.concat();
@@ -156,8 +156,15 @@ fn shared(t: &mut Tally, e: &Edges) {
     }
     ask(t, &e.book, Lent { words: 41, ..e.lent }, [0, 0, 0, 0, 17, 15]);
     ask(t, &e.book, Lent { plan: plan(2, 0, 1), words: 64, ..e.lent }, [0, 0, 0, 10, 17, 15]);
-    let damages: [(fn(&mut Record), u64); 4] =
-        [(|r| r.count = 0, 2), (|r| r.used[0] = 65, 2), (|r| r.columns[4] = 16, 3), (|r| r.columns[1] = 1, 4)];
+    let damages: [(fn(&mut Record), u64); 7] = [
+        (|r| r.count = 0, 2),
+        (|r| r.used[0] = 65, 2),
+        (|r| r.columns[4] = 16, 3),
+        (|r| r.columns[1] = 0, 4),
+        (|r| r.rows[4] = -1, 4),
+        (|r| r.columns[1] = 1, 19),
+        (|r| (r.columns[4], r.rows[4]) = (15, -1), 19),
+    ];
     for (damage, number) in damages {
         let mut book = e.book.clone();
         damage(&mut book);
@@ -197,7 +204,7 @@ fn written_out(t: &mut Tally, e: &Edges) {
     let book = record(&[cross(), vec![(0, 0), (1, 0)]]);
     let case = Case { record: &book, lent, numbers: &numbers, outs: 8, replies: 72 };
     let (_, left) = case.ask(t);
-    let starts: [&[u64]; 6] = [&[0], &[0, 8], &[0, 2], &[10, 0, 0, 0, 3], &[14, 0], &[0]];
+    let starts: [&[u64]; 6] = [&[0], &[0, 8], &[0, 2], &[10, 0, 0, 0, 2], &[14, 0], &[0]];
     let wanted: Vec<u64> = starts.iter().flat_map(|row| [row, &[0; 12][row.len()..]].concat()).collect();
     t.same(|| "all replies".into(), left.replies[..72].to_vec(), wanted);
     let start = case.start();

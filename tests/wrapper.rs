@@ -15,13 +15,13 @@ use std::collections::HashMap;
 
 // Each function, and the numbers that can refuse it.
 const FUNCTIONS: [(&str, &[u64]); 12] = [
-    ("read_book", &[1, 2, 3, 4, 5]),
-    ("pattern_part", &[1, 2, 3, 4, 5, 17]),
-    ("Book::new", &[2, 3, 4]),
-    ("Book::test", &[2, 3, 4]),
-    ("Book::write", &[2, 3, 4, 16]),
-    ("Book::find", &[2, 3, 4, 6, 7]),
-    ("Book::check", &[2, 3, 4, 8, 9, 10]),
+    ("read_book", &[1, 2, 3, 4, 5, 19]),
+    ("pattern_part", &[1, 2, 3, 4, 5, 17, 19]),
+    ("Book::new", &[2, 3, 4, 19]),
+    ("Book::test", &[2, 3, 4, 19]),
+    ("Book::write", &[2, 3, 4, 16, 19]),
+    ("Book::find", &[2, 3, 4, 6, 7, 19]),
+    ("Book::check", &[2, 3, 4, 8, 9, 10, 19]),
     ("normal_form", &[8, 9]),
     ("Plan::bank", &[11]),
     ("Picture::depth", &[11, 12]),
@@ -47,20 +47,20 @@ fn plan_row(p: Plan) -> Vec<u64> {
 // The cases, and how often each function gave each number.
 struct Asked {
     tally: Tally,
-    gave: HashMap<&'static str, [u64; 19]>,
+    gave: HashMap<&'static str, [u64; 20]>,
 }
 
 impl Asked {
     fn same(&mut self, function: &'static str, what: impl Fn() -> String, got: Told, wanted: Told) {
-        self.gave.entry(function).or_insert([0; 19])[got.number.min(18) as usize] += 1;
+        self.gave.entry(function).or_insert([0; 20])[got.number.min(19) as usize] += 1;
         self.tally.same(|| format!("{function}, {}", what()), got, wanted);
     }
 
     // Every function gave a value, and each number that can refuse it.
     fn reached(&mut self) {
         for (function, refusals) in FUNCTIONS {
-            let gave = self.gave.get(function).copied().unwrap_or([0; 19]);
-            let numbers: Vec<u64> = (0..19).filter(|&n| gave[n as usize] > 0).collect();
+            let gave = self.gave.get(function).copied().unwrap_or([0; 20]);
+            let numbers: Vec<u64> = (0..20).filter(|&n| gave[n as usize] > 0).collect();
             let wanted: Vec<u64> = [&[0], refusals].concat();
             self.tally.same(|| format!("the numbers that {function} gave"), numbers, wanted);
         }
@@ -112,7 +112,7 @@ fn ask_record(a: &mut Asked, r: &Book) {
 fn ask_new(a: &mut Asked, random: &mut Random) {
     let mut patterns: Vec<Pattern> = legal_book(random);
     let n = random.from_to(0, patterns.len() as i64 - 1) as usize;
-    match random.from_to(0, 7) {
+    match random.from_to(0, 8) {
         0 => patterns.clear(),
         1 => patterns.resize(random.one_of(&[16, 17, 200]), vec![(0, 0)]),
         2 => patterns[n].clear(),
@@ -123,13 +123,10 @@ fn ask_new(a: &mut Asked, random: &mut Random) {
             let first = patterns[n][0];
             patterns[n].push(first);
         }
+        7 => patterns[n].rotate_right(1),
         _ => {}
     }
-    let mut bytes = vec![patterns.len() as u8];
-    for t in &patterns {
-        bytes.push(t.len() as u8);
-        bytes.extend(t.iter().flat_map(|v| [v.0 as u8, v.1 as u8]));
-    }
+    let bytes = oracle::bytes_of(&patterns);
     let small: Vec<Vec<(i8, i8)>> = patterns.iter().map(|t| t.iter().map(|v| (v.0 as i8, v.1 as i8)).collect()).collect();
     let (got, wanted) = (Book::new(&small), oracle::read(&bytes).map_err(|(number, _)| (number, 0)));
     let what = || format!("{patterns:?}");
@@ -179,9 +176,10 @@ fn finds(a: &mut Asked) {
         let wanted = as_told(oracle::normal_form(wide(x), wide(y)), plan_row);
         a.same("normal_form", || format!("{x:?} {y:?}"), told(bankplan::normal_form(x, y), plan_row), wanted);
         // a record that is no book
-        match round % 3 {
+        match round % 4 {
             0 => r.used[0] = random.one_of(&[0, 65]),
             1 => r.rows[0] = random.one_of(&[-17, 16]),
+            2 => (r.used[0], r.columns[0], r.columns[1], r.rows[1]) = (2, 15, 14, r.rows[0]),
             _ => (r.used[0], r.columns[1], r.rows[1]) = (2, r.columns[0], r.rows[0]),
         }
         let wanted = as_told(oracle::patterns_of(&r), |_| vec![]);
@@ -241,6 +239,9 @@ fn texts(t: &mut Tally) {
     let picture = Picture { plan: pair.find(1024).unwrap(), width: 7, height: 4 };
     says(bankplan::read_book(&[1, 1, 16, 0]).map(|_| ()), "refused 3: coordinate not -16..15, place 2");
     says(Book::new(&[[(0, 0), (0, 0)]]).map(|_| ()), "refused 4: pixel already in this pattern");
+    let lower = "refused 19: pixel lower than the one before it, by row, then column";
+    says(bankplan::read_book(&[1, 2, 0, 0, 255, 0]).map(|_| ()), &format!("{lower}, place 4"));
+    says(Book::new(&[[(0, 0), (-1, 0)]]).map(|_| ()), lower);
     says(pair.find(1).map(|_| ()), "refused 7: no suiting plan within limit");
     says(pair.check((1, 0), (0, 1)).map(|_| ()), "refused 10: plan doesn't suit, pattern 0, positions 0 and 1");
     says(picture.store(&mut [], (0, 0), 1), "refused 13: memory shorter than N × depth");
@@ -248,7 +249,7 @@ fn texts(t: &mut Tally) {
     says(Err(Refused { number: bankplan::NOT_CALLS, place: 5, clash: None }), "refused 255: not a list of calls, place 5");
     let version: Vec<_> = bankplan::VERSION.split('.').map(|n| n.parse::<u32>().is_ok()).collect();
     t.same(|| "the version is three numbers".into(), version, vec![true; 3]);
-    for number in [0, 19, u64::MAX] {
+    for number in [0, 20, u64::MAX] {
         t.same(|| number.to_string(), Refused { number, place: 0, clash: None }.condition(), "no such number");
     }
 }

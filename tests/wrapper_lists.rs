@@ -108,6 +108,23 @@ fn not_made(t: &mut Tally, book: &Book, picture: Picture) {
     case(&[0, 65536, 2, 0, 0], 5, 12, Err(NotMade::NotCalls { place: 0 }));
 }
 
+// A record whose pixels are not in order: a fetch is turned down by 19, the calls around it are made, and no plan is found.
+fn lower(t: &mut Tally, book: &Book, picture: Picture) {
+    let refused = Refused { number: 19, place: 0, clash: None };
+    let mut unordered = book.clone();
+    unordered.columns[1] = 1;
+    let fetch = Call::Fetch { pattern: 0, at: (3, 2), room: 5 };
+    let list = [Call::Store { pixel: (3, 2), word: 8 }, fetch, Call::Load { pixel: (3, 2) }];
+    let mut mem = [0; 40];
+    let got = picture.run_list(&unordered, &mut mem, &list);
+    t.same(|| "pixels not in order".into(), got, Ok(vec![Reply::Done, Reply::Refused(refused), Reply::Word(8)]));
+    let before = mem;
+    let got = unordered.find_and_run(1024, (7, 4), &mut mem, &list);
+    t.same(|| "pixels not in order".into(), (got, mem), (Err(NotMade::Refused(refused)), before));
+    let words = Reply::Words(vec![0, 0, 8, 0, 0]);
+    t.same(|| "pixels in order".into(), picture.run_list(book, &mut mem, &[fetch]), Ok(vec![words]));
+}
+
 // The texts, the layout's numbers, and slices that are too short for the replies.
 fn texts(t: &mut Tally, book: &Book, picture: Picture) {
     let mut says = |answer: NotMade, wanted: &str| t.same(|| wanted.into(), answer.to_string(), wanted.into());
@@ -116,7 +133,7 @@ fn texts(t: &mut Tally, book: &Book, picture: Picture) {
     let refused = book.find_and_run(4, (7, 4), &mut [], &[]).unwrap_err();
     says(refused, "list not made: refused 7: no suiting plan within limit");
     let numbers = (CALL_NUMBERS, REPLY_NUMBERS, NOT_CALLS, CONDITIONS.len());
-    t.same(|| "the layout".into(), numbers, (5, 12, 255, 18));
+    t.same(|| "the layout".into(), numbers, (5, 12, 255, 19));
     let list = [Call::Load { pixel: (0, 0) }, Call::Fetch { pattern: 0, at: (3, 2), room: 5 }, Call::Clear { bank: 9 }];
     let rows = [&[0, 7], &[0; 10][..], &[0, 5], &[0; 10], &[15, 0]].concat();
     let clear = Reply::Refused(Refused { number: 15, place: 0, clash: None });
@@ -148,6 +165,7 @@ pub fn run() -> Tally {
     let book = oracle::record_of(&[cross()]);
     let picture = Picture { plan: book.find(1024).unwrap(), width: 7, height: 4 };
     not_made(&mut t, &book, picture);
+    lower(&mut t, &book, picture);
     texts(&mut t, &book, picture);
     t
 }
