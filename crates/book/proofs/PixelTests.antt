@@ -22,7 +22,7 @@ use Rattle.checks.proofs.BookTests.{pixel-legal-iff}
 use Rattle.checks.proofs.BookRefusals.{column-refused, row-refused, repeat-refused, lower-refused}
 use Rattle.book.specs.Scan.{cellOf, isAmong, Passed, Tested}
 use Rattle.book.proofs.Outcomes.{answered-by-refusal, answered-by-done, done-not-refused}
-use Rattle.book.proofs.Window.{Placed, beside, above, inside, placed, cell-injective, lower-by-cell}
+use Rattle.book.proofs.Window.{column-outside, row-outside, in-window, cell-injective, lower-by-cell}
 
 -- Before the first pixel every cell may come.
 pub none-passed : (pixel : ℕ → Pixel) → Passed (replicate 65 0) pixel 0
@@ -58,17 +58,18 @@ module _ {least : List ℕ} {pixel : ℕ → Pixel} {e k : ℕ} (passed : Passed
       by-place (yes q) = omega (arith, entry-is l q)
       by-place (no q) = omega (arith, entry-is (e - 1) (omega arith), passed .ascend l (e - 1) (omega arith) (omega arith))
 
-  -- one below it that is not among them comes before the last
+  -- one that is not among them is unlike each, and if it is below the entry it comes before the last
+  unlike-each : isAmong least e (k + 1) ≡ false → (l : ℕ) → l < e → cellOf (pixel l) ≡ k → ⊥
+  unlike-each other l h same =
+      true-not-false (sym (among-iff least e (k + 1) .1 (l, h, passed .next l h ∙ omega (arith, same))) ∙ other)
+
   before-last : k < getD least e 0 → isAmong least e (k + 1) ≡ false → (l : ℕ) × (suc l ≡ e) × (k < cellOf (pixel l))
   before-last below other = by-place (ℕ-discrete e 0)
     where
       by-place : Dec (e ≡ 0) → (l : ℕ) × (suc l ≡ e) × (k < cellOf (pixel l))
       by-place (yes q) = absurd (omega (arith, ap (λ m. getD least m 0) q, passed .first))
       by-place (no q) =
-          let here = entry-is (e - 1) (omega arith) in
-          let unlike : cellOf (pixel (e - 1)) ≡ k → ⊥ =
-          λ d. true-not-false (sym (among-iff least e (k + 1) .1 (e - 1, omega arith, passed .next (e - 1) (omega arith) ∙ omega arith)) ∙ other) in
-          (e - 1, omega arith, omega (arith, unlike))
+          (e - 1, omega arith, omega (arith, entry-is (e - 1) (omega arith), unlike-each other (e - 1) (omega arith)))
 
   more-passed : e < 64 → k < 1024 → getD least e 0 ≤ k → Passed (set least (e + 1) (k + 1)) pixel (e + 1)
   more-passed room h from =
@@ -96,30 +97,15 @@ module _ {least : List ℕ} {pixel : ℕ → Pixel} {e k : ℕ} (passed : Passed
       ascend l m p q (no d) = passed .ascend l m p (omega arith)
 
   in-range : k < 1024 → InRange (pixel e .column) × InRange (pixel e .row)
-  in-range h = by-place (placed (pixel e))
-    where
-      by-place : Placed (pixel e) → InRange (pixel e .column) × InRange (pixel e .row)
-      by-place (beside f d) = absurd (omega arith)
-      by-place (above c f d) = absurd (omega arith)
-      by-place (inside c r d) = (c, r)
+  in-range h = in-window (pixel e) (omega arith)
 
   -- what its tests find, with i and j the places of its column and row
   module _ (i j : ℕ) where
     column-found : k ≡ 1024 → pixelTest i j pixel e ≡ some (Refusal.Coordinate i)
-    column-found h = by-place (placed (pixel e))
-      where
-        by-place : Placed (pixel e) → pixelTest i j pixel e ≡ some (Refusal.Coordinate i)
-        by-place (beside f d) = column-refused i j pixel e f
-        by-place (above c f d) = absurd (omega arith)
-        by-place (inside c r d) = absurd (omega arith)
+    column-found h = column-refused i j pixel e (column-outside (pixel e) (sym is ∙ h))
 
     row-found : k ≡ 1025 → pixelTest i j pixel e ≡ some (Refusal.Coordinate j)
-    row-found h = by-place (placed (pixel e))
-      where
-        by-place : Placed (pixel e) → pixelTest i j pixel e ≡ some (Refusal.Coordinate j)
-        by-place (beside f d) = absurd (omega arith)
-        by-place (above c f d) = row-refused i j pixel e c f
-        by-place (inside c r d) = absurd (omega arith)
+    row-found h = let (column, row) = row-outside (pixel e) (sym is ∙ h) in row-refused i j pixel e column row
 
     repeat-found : k < 1024 → isAmong least e (k + 1) ≡ true → pixelTest i j pixel e ≡ some (Refusal.Repeat i)
     repeat-found h among =
@@ -131,13 +117,9 @@ module _ {least : List ℕ} {pixel : ℕ → Pixel} {e k : ℕ} (passed : Passed
         k < 1024 → k < getD least e 0 → isAmong least e (k + 1) ≡ false → pixelTest i j pixel e ≡ some (Refusal.Lower i)
     lower-found h below other =
         let (l, next, less) = before-last below other in
-        lower-refused i j pixel e (in-range h .0) (in-range h .1) unlike l next
+        lower-refused i j pixel e (in-range h .0) (in-range h .1)
+        (λ m p same. unlike-each other m p (ap cellOf same ∙ sym is)) l next
         (lower-by-cell (pixel e) (pixel l) (omega arith) (passed .inside l (omega arith)) (omega arith))
-      where
-        unlike : (m : ℕ) → m < e → pixel m ≡ pixel e → ⊥
-        unlike m p same =
-            true-not-false
-            (sym (among-iff least e (k + 1) .1 (m, p, passed .next m p ∙ omega (arith, ap cellOf same, is))) ∙ other)
 
     nothing-found : k < 1024 → getD least e 0 ≤ k → pixelTest i j pixel e ≡ none
     nothing-found h from =

@@ -4,9 +4,8 @@
 use Prim.Native.Nat.{ℕ, _<_}
 use native.Mathlib.Omega.{arith}
 use mathlib.Core.Path.{_≡_, sym, _∙_, ap, ap₂}
-use mathlib.Core.List.{List, _∷_, flatMap}
+use mathlib.Core.List.{_∷_, flatMap}
 use lib.ListN.{getD}
-use Rattle.scope.specs.Search.{gather}
 use Rattle.scope.specs.Plans.{Pixel, plus, pixelAt, patternAt, pixels, patterns}
 use Rattle.scope.specs.Books.{patternBytes, bookBytes}
 use Rattle.scope.specs.Calls.{moved}

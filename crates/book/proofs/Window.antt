@@ -4,7 +4,7 @@
 use Prim.Native.Nat.{ℕ, _+_, _-_, _*_, _≤_, _<_}
 use native.Mathlib.Omega.{arith}
 use native.Mathlib.Decide.{ℕ-discrete}
-use mathlib.Core.Path.{_≡_, refl, sym, _∙_, ap}
+use mathlib.Core.Path.{_≡_, refl, sym, _∙_}
 use mathlib.Core.Bool.{Bool, true, false}
 use mathlib.Core.List.{List, [], _∷_}
 use lib.IntN.{ℤ, pos, negsuc, natAbs, _+ℤ_}
@@ -92,12 +92,12 @@ module _ (v : Pixel) where
   cell-inside c r = rw (small-iff (v .column) .1 c, small-iff (v .row) .1 r)
 
 -- where a pixel is, and its cell
-pub data Placed (v : Pixel) : Type 0 where
+data Placed (v : Pixel) : Type 0 where
   beside : (InRange (v .column) → ⊥) → cellOf v ≡ 1024 → Placed v
   above : InRange (v .column) → (InRange (v .row) → ⊥) → cellOf v ≡ 1025 → Placed v
   inside : InRange (v .column) → InRange (v .row) → cellOf v < 1024 → Placed v
 
-pub placed : (v : Pixel) → Placed v
+placed : (v : Pixel) → Placed v
 placed v = by-column (small (v .column)) refl (small (v .row)) refl
   where
     by-column : (b : Bool) → small (v .column) ≡ b → (d : Bool) → small (v .row) ≡ d → Placed v
@@ -121,41 +121,54 @@ cell-at-most v = by-place (placed v)
     by-place (above c h is) = omega arith
     by-place (inside c r is) = omega arith
 
--- In the window the lower pixel has the lower cell, and each pixel a cell of its own.
-both-inside : {R : Type 0} (v w : Pixel) → cellOf v < 1024 → cellOf w < 1024
-    → (InRange (v .column) → InRange (v .row) → InRange (w .column) → InRange (w .row) → R) → R
-both-inside {R} v w h k f = by-places (placed v) (placed w)
-  where
-    by-places : Placed v → Placed w → R
-    by-places (beside g is) q = absurd (omega arith)
-    by-places (above c g is) q = absurd (omega arith)
-    by-places (inside c r is) (beside g it) = absurd (omega arith)
-    by-places (inside c r is) (above d g it) = absurd (omega arith)
-    by-places (inside c r is) (inside d s it) = f c r d s
+-- What a cell tells of its pixel.
+module _ (v : Pixel) where
+  pub column-outside : cellOf v ≡ 1024 → InRange (v .column) → ⊥
+  column-outside is = by-place (placed v)
+    where
+      by-place : Placed v → InRange (v .column) → ⊥
+      by-place (beside f d) = f
+      by-place (above c f d) = absurd (omega arith)
+      by-place (inside c r d) = absurd (omega arith)
 
+  pub row-outside : cellOf v ≡ 1025 → InRange (v .column) × (InRange (v .row) → ⊥)
+  row-outside is = by-place (placed v)
+    where
+      by-place : Placed v → InRange (v .column) × (InRange (v .row) → ⊥)
+      by-place (beside f d) = absurd (omega arith)
+      by-place (above c f d) = (c, f)
+      by-place (inside c r d) = absurd (omega arith)
+
+  pub in-window : cellOf v < 1024 → InRange (v .column) × InRange (v .row)
+  in-window is = by-place (placed v)
+    where
+      by-place : Placed v → InRange (v .column) × InRange (v .row)
+      by-place (beside f d) = absurd (omega arith)
+      by-place (above c f d) = absurd (omega arith)
+      by-place (inside c r d) = (c, r)
+
+-- In the window each pixel has a cell of its own, and the lower pixel the lower cell.
 pub cell-injective : (v w : Pixel) → cellOf v < 1024 → cellOf v ≡ cellOf w → v ≡ w
-cell-injective v w h e = both-inside v w h (omega arith) same
-  where
-    same : InRange (v .column) → InRange (v .row) → InRange (w .column) → InRange (w .row) → v ≡ w
-    same c r d s =
-        let p = cell-inside v c r in
-        let q = cell-inside w d s in
-        let x = offset-below (v .column) c in
-        let y = offset-below (w .column) d in
-        same-coordinates (offset-injective (v .column) (w .column) c d (omega arith))
-        (offset-injective (v .row) (w .row) r s (omega arith))
+cell-injective v w h e =
+    let (c, r) = in-window v h in
+    let (d, s) = in-window w (omega arith) in
+    let p = cell-inside v c r in
+    let q = cell-inside w d s in
+    let x = offset-below (v .column) c in
+    let y = offset-below (w .column) d in
+    same-coordinates (offset-injective (v .column) (w .column) c d (omega arith))
+    (offset-injective (v .row) (w .row) r s (omega arith))
 
 pub lower-by-cell : (v w : Pixel) → cellOf v < 1024 → cellOf w < 1024 → cellOf v < cellOf w → Lower v w
-lower-by-cell v w h k less = both-inside v w h k order
+lower-by-cell v w h k less = by-rows (in-window v h) (in-window w k) (ℕ-discrete (offset (v .row)) (offset (w .row)))
   where
-    order : InRange (v .column) → InRange (v .row) → InRange (w .column) → InRange (w .row) → Lower v w
-    order c r d s = by-rows (ℕ-discrete (offset (v .row)) (offset (w .row)))
-      where
-        by-rows : Dec (offset (v .row) ≡ offset (w .row)) → Lower v w
-        by-rows (yes e) =
-            Lower.by-column (offset-injective (v .row) (w .row) r s e)
-            (offset-ascends (v .column) (w .column) c d (omega (arith, cell-inside v c r, cell-inside w d s)))
-        by-rows (no e) =
-            Lower.by-row
-            (offset-ascends (v .row) (w .row) r s
-            (omega (arith, cell-inside v c r, cell-inside w d s, offset-below (v .column) c, offset-below (w .column) d)))
+    by-rows :
+        InRange (v .column) × InRange (v .row) → InRange (w .column) × InRange (w .row) → Dec (offset (v .row) ≡ offset (w .row))
+        → Lower v w
+    by-rows (c, r) (d, s) (yes e) =
+        Lower.by-column (offset-injective (v .row) (w .row) r s e)
+        (offset-ascends (v .column) (w .column) c d (omega (arith, cell-inside v c r, cell-inside w d s)))
+    by-rows (c, r) (d, s) (no e) =
+        Lower.by-row
+        (offset-ascends (v .row) (w .row) r s
+        (omega (arith, cell-inside v c r, cell-inside w d s, offset-below (v .column) c, offset-below (w .column) d)))

@@ -11,7 +11,7 @@ use lib.IntN.{ℤ, pos, negsuc}
 use Rattle.integers.proofs.Divisions.{same-number-means}
 use Rattle.integers.proofs.Comparisons.{leb-iff, and-iff}
 use Rattle.scope.specs.Plans.{Pixel, samePixel, pixelAt, patternAt}
-use Rattle.scope.specs.Numbers.{countTest, small, repeats, falls, pixelTest, patternTest, recordTest}
+use Rattle.scope.specs.Numbers.{countTest, small, repeats, pixelTest, patternTest, recordTest}
 use Rattle.scope.specs.promises.Meaning.{InRange, Lower, PixelLegal, IsPattern, IsBook}
 use Rattle.scope.specs.declared.Pattern.{Pattern}
 use Rattle.scope.specs.declared.Book.{Book}

@@ -5,14 +5,11 @@ use Prim.Native.Nat.{ℕ, zero, suc}
 use native.Mathlib.Omega.{arith}
 use mathlib.Core.Path.{_≡_, refl, sym, _∙_, ap, subst}
 use mathlib.Core.Logic.{_↔_, _⊎_, inl, inr, ⊎-elim}
-use mathlib.Core.Bool.{Bool, true, false, not, _&&_, _||_}
-use mathlib.Core.List.{List, [], _∷_}
+use mathlib.Core.Bool.{Bool, true, false, _&&_, _||_}
 use lib.IntN.{ℤ, _+ℤ_}
-use lib.Dec.{T}
-use lib.Signed.{ltZ, _≤ℤ_, _<ℤ_, ltZ-no}
+use lib.Signed.{ltZ, _<ℤ_}
 use Rattle.integers.specs.Division.{sameNumber}
-use Rattle.integers.proofs.Ring.{reify}
-use Rattle.integers.proofs.Order.{lt-by, of-lt, of-eq, less-iff, le-antisymmetric}
+use Rattle.integers.proofs.Order.{less-iff, Compared, less, same, more, compared, lt-transitive, lt-not-same, lt-of-moved}
 use Rattle.integers.proofs.Divisions.{same-number-means}
 use Rattle.integers.proofs.Comparisons.{and-iff}
 use Rattle.scope.specs.Plans.{Pixel, lower, plus}
@@ -42,42 +39,16 @@ lower-iff p q =
     apart (Lower.by-column e h) = inr (e, h)
 
 -- No pixel is lower than itself, the order goes on, and of two different pixels one is lower.
-less-transitive : (x y z : ℤ) → x <ℤ y → y <ℤ z → x <ℤ z
-less-transitive x y z h k =
-    let ρ : List ℤ = x ∷ y ∷ z ∷ [] in
-    lt-by ρ (search reify depth 40) (omega (arith, of-lt ρ h (search reify depth 40), of-lt ρ k (search reify depth 40)))
-
-not-less : (x y : ℤ) → x ≡ y → x <ℤ y → ⊥
-not-less x y e h =
-    let ρ : List ℤ = x ∷ y ∷ [] in
-    omega (arith, of-lt ρ h (search reify depth 40), of-eq ρ e (search reify depth 40))
-
 pub not-lower-than-itself : (v w : Pixel) → v ≡ w → Lower v w → ⊥
-not-lower-than-itself v w e (Lower.by-row h) = not-less (v .row) (w .row) (ap (λ (u : Pixel). u .row) e) h
-not-lower-than-itself v w e (Lower.by-column r h) = not-less (v .column) (w .column) (ap (λ (u : Pixel). u .column) e) h
+not-lower-than-itself v w e (Lower.by-row h) = lt-not-same (v .row) (w .row) (ap (λ (u : Pixel). u .row) e) h
+not-lower-than-itself v w e (Lower.by-column r h) = lt-not-same (v .column) (w .column) (ap (λ (u : Pixel). u .column) e) h
 
 pub lower-goes-on : {u v w : Pixel} → Lower u v → Lower v w → Lower u w
-lower-goes-on {u} {v} {w} (Lower.by-row h) (Lower.by-row k) = Lower.by-row (less-transitive (u .row) (v .row) (w .row) h k)
+lower-goes-on {u} {v} {w} (Lower.by-row h) (Lower.by-row k) = Lower.by-row (lt-transitive (u .row) (v .row) (w .row) h k)
 lower-goes-on {u} {v} {w} (Lower.by-row h) (Lower.by-column e k) = Lower.by-row (subst (λ (z : ℤ). u .row <ℤ z) e h)
 lower-goes-on {u} {v} {w} (Lower.by-column e h) (Lower.by-row k) = Lower.by-row (subst (λ (z : ℤ). z <ℤ w .row) (sym e) k)
 lower-goes-on {u} {v} {w} (Lower.by-column e h) (Lower.by-column d k) =
-    Lower.by-column (e ∙ d) (less-transitive (u .column) (v .column) (w .column) h k)
-
-data Compared (x y : ℤ) : Type 0 where
-  less : x <ℤ y → Compared x y
-  same : x ≡ y → Compared x y
-  more : y <ℤ x → Compared x y
-
-compared : (x y : ℤ) → Compared x y
-compared x y = by-tests (ltZ x y) refl (ltZ y x) refl
-  where
-    by-tests : (s : Bool) → ltZ x y ≡ s → (t : Bool) → ltZ y x ≡ t → Compared x y
-    by-tests true e t d = less (less-iff x y .0 e)
-    by-tests false e true d = more (less-iff y x .0 d)
-    by-tests false e false d = same (le-antisymmetric x y (not-over y x d) (not-over x y e))
-      where
-        not-over : (x y : ℤ) → ltZ x y ≡ false → y ≤ℤ x
-        not-over x y e = ltZ-no (subst (λ t. T (not t)) (sym e) tt)
+    Lower.by-column (e ∙ d) (lt-transitive (u .column) (v .column) (w .column) h k)
 
 pub lower-or : (v w : Pixel) → (v ≡ w → ⊥) → (Lower w v → ⊥) → Lower v w
 lower-or v w other not-above = by-rows (compared (v .row) (w .row))
@@ -93,15 +64,11 @@ lower-or v w other not-above = by-rows (compared (v .row) (w .row))
     by-rows (more h) = absurd (not-above (Lower.by-row h))
 
 -- moving both keeps the order
-less-moved : (x y z : ℤ) → x <ℤ y → (z +ℤ x) <ℤ (z +ℤ y)
-less-moved x y z h =
-    let ρ : List ℤ = x ∷ y ∷ z ∷ [] in lt-by ρ (search reify depth 40) (omega (arith, of-lt ρ h (search reify depth 40)))
-
 pub lower-moved : (o : Pixel) {v w : Pixel} → Lower v w → Lower (plus o v) (plus o w)
 unfolding plus
-lower-moved o {v} {w} (Lower.by-row h) = Lower.by-row (less-moved (v .row) (w .row) (o .row) h)
+lower-moved o {v} {w} (Lower.by-row h) = Lower.by-row (lt-of-moved (v .row) (w .row) (o .row) h)
 lower-moved o {v} {w} (Lower.by-column e h) =
-    Lower.by-column (ap (λ (z : ℤ). o .row +ℤ z) e) (less-moved (v .column) (w .column) (o .column) h)
+    Lower.by-column (ap (λ (z : ℤ). o .row +ℤ z) e) (lt-of-moved (v .column) (w .column) (o .column) h)
 
 -- 19: a pixel is not lower than the one before it
 pub no-fall-iff : (pixel : ℕ → Pixel) (e : ℕ) → (falls pixel e ≡ false) ↔ ((l : ℕ) → suc l ≡ e → Lower (pixel e) (pixel l) → ⊥)

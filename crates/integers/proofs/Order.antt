@@ -47,6 +47,17 @@ lesser {ρ} (sides a b) = part true ρ (expr a) + part false ρ (expr b)
 abbrev pub greater : {ρ : List ℤ} {x y : ℤ} → Sides ρ x y → ℕ
 greater {ρ} (sides a b) = part true ρ (expr b) + part false ρ (expr a)
 
+-- the test of <
+pub less-iff : (x y : ℤ) → (ltZ x y ≡ true) ↔ (x <ℤ y)
+less-iff x y = (λ e. record { lt = subst T (sym e) tt }, λ h. by-test (ltZ x y) refl (h .lt))
+  where
+    by-test : (t : Bool) → ltZ x y ≡ t → T (ltZ x y) → ltZ x y ≡ true
+    by-test true e h = e
+    by-test false e h = absurd (subst T e h)
+
+not-less-means : (x y : ℤ) → ltZ x y ≡ false → y ≤ℤ x
+not-less-means x y e = ltZ-no (subst (λ t. T (not t)) (sym e) tt)
+
 module _ {x y : ℤ} (ρ : List ℤ) where
   -- a goal in naturals
   pub le-by : (s : Sides ρ x y) → lesser s ≤ greater s → x ≤ℤ y
@@ -67,10 +78,8 @@ module _ {x y : ℤ} (ρ : List ℤ) where
   lt-by (sides a b) h = by-test (ltZ x y) refl
     where
       by-test : (t : Bool) → ltZ x y ≡ t → x <ℤ y
-      by-test true e = record { lt = subst T (sym e) tt }
-      by-test false e =
-          let over : y ≤ℤ x = ltZ-no (subst (λ t. T (not t)) (sym e) tt) in
-          absurd (omega (arith, parts-of-le over (parts-of-read b) (parts-of-read a)))
+      by-test true e = less-iff x y .0 e
+      by-test false e = absurd (omega (arith, parts-of-le (not-less-means x y e) (parts-of-read b) (parts-of-read a)))
 
   pub of-lt : x <ℤ y → (s : Sides ρ x y) → lesser s < greater s
   of-lt h (sides a b) = by-test (decLt _ _)
@@ -80,14 +89,6 @@ module _ {x y : ℤ} (ρ : List ℤ) where
           → part true ρ (expr a) + part false ρ (expr b) < part true ρ (expr b) + part false ρ (expr a)
       by-test (yes k) = k
       by-test (no k) = clashℤ h (le-by-parts (parts-of-read b) (parts-of-read a) (omega arith))
-
--- the test of <
-pub less-iff : (x y : ℤ) → (ltZ x y ≡ true) ↔ (x <ℤ y)
-less-iff x y = (λ e. record { lt = subst T (sym e) tt }, λ h. by-test (ltZ x y) refl (h .lt))
-  where
-    by-test : (t : Bool) → ltZ x y ≡ t → T (ltZ x y) → ltZ x y ≡ true
-    by-test true e h = e
-    by-test false e h = absurd (subst T e h)
 
 -- ≤ is a linear order
 pub le-transitive : (x y z : ℤ) → x ≤ℤ y → y ≤ℤ z → x ≤ℤ z
@@ -106,6 +107,35 @@ le-total x y = by-test (decLt (above y + below x) (above x + below y))
     by-test : Dec (above y + below x < above x + below y) → (x ≤ℤ y) ⊎ (y ≤ℤ x)
     by-test (yes h) = inr (le-by-parts (own-parts y) (own-parts x) (omega arith))
     by-test (no h) = inl (le-by-parts (own-parts x) (own-parts y) (omega arith))
+
+-- of two numbers one is less, or they are the same
+pub data Compared (x y : ℤ) : Type 0 where
+  less : x <ℤ y → Compared x y
+  same : x ≡ y → Compared x y
+  more : y <ℤ x → Compared x y
+
+pub compared : (x y : ℤ) → Compared x y
+compared x y = by-tests (ltZ x y) refl (ltZ y x) refl
+  where
+    by-tests : (s : Bool) → ltZ x y ≡ s → (t : Bool) → ltZ y x ≡ t → Compared x y
+    by-tests true e t d = less (less-iff x y .0 e)
+    by-tests false e true d = more (less-iff y x .0 d)
+    by-tests false e false d = same (le-antisymmetric x y (not-less-means y x d) (not-less-means x y e))
+
+-- < goes on, fails of the same number, and stays where both are moved
+pub lt-transitive : (x y z : ℤ) → x <ℤ y → y <ℤ z → x <ℤ z
+lt-transitive x y z h k =
+    let ρ : List ℤ = x ∷ y ∷ z ∷ [] in
+    lt-by ρ (search reify depth 40) (omega (arith, of-lt ρ h (search reify depth 40), of-lt ρ k (search reify depth 40)))
+
+pub lt-not-same : (x y : ℤ) → x ≡ y → x <ℤ y → ⊥
+lt-not-same x y e h =
+    let ρ : List ℤ = x ∷ y ∷ [] in
+    omega (arith, of-lt ρ h (search reify depth 40), of-eq ρ e (search reify depth 40))
+
+pub lt-of-moved : (x y z : ℤ) → x <ℤ y → (z +ℤ x) <ℤ (z +ℤ y)
+lt-of-moved x y z h =
+    let ρ : List ℤ = x ∷ y ∷ z ∷ [] in lt-by ρ (search reify depth 40) (omega (arith, of-lt ρ h (search reify depth 40)))
 
 -- sums, negatives, and a factor that is not negative
 pub le-of-sums : (x y z w : ℤ) → x ≤ℤ y → z ≤ℤ w → (x +ℤ z) ≤ℤ (y +ℤ w)

@@ -1,5 +1,6 @@
 -- Every call of document 01: the checks that concern it, in the order "book 1-5, 6, 8, 9, 11, 12, 13, 17, then 10, 18, 14,
--- 15, 16, with 7 last", 19 among those of the book (document 02, Card 3: "wherever a book is taken"), its answer, and the final content of what it was lent. "buffers and lists stay unchanged" on a refusal.
+-- 15, 16, with 7 last", its answer, and the final content of what it was lent. "buffers and lists stay unchanged" on a refusal.
+-- Document 02, Card 3: 19 is tested among the checks of the book, "wherever a book is taken".
 -- Assumes nothing.
 use Prim.Native.Nat.{ℕ, _+_, _-_}
 use mathlib.Core.Bool.{Bool, true, false}

@@ -4,13 +4,13 @@
 use Prim.Native.Nat.{ℕ, _/_, _%_}
 use mathlib.Core.Path.{refl}
 use mathlib.Core.List.{List, [], _∷_, _++_, map, flatMap}
-use lib.IntN.{ℤ, pos}
+use lib.IntN.{pos}
 use lib.ListN.{take, replicate}
 use Rattle.scope.specs.Search.{gather}
 use Rattle.scope.specs.Plans.{Pixel, at, plan, patternAt}
 use Rattle.scope.specs.Finding.{boxWidth, boxHeight}
 use Rattle.scope.specs.Books.{bookOf}
-use Rattle.scope.specs.Numbers.{Answer, value}
+use Rattle.scope.specs.Numbers.{value}
 use Rattle.scope.specs.Calls.{readBook, patternPart, partPlace, recordOutcome, partOutcome, writeBook, normal, find, fewest, check, bank, depth, address, locate}
 use Rattle.scope.specs.Program.{ascii, decimal, programText}
 use Rattle.scope.specs.values.Rows.{Row, Hold, row, is, refused, clashes, planned, counted, located, done, neg, px, one, two, gap, threeAndThree, cross, fivePixels, finds, reads, writes, checks, caseOf}

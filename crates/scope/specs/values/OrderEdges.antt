@@ -1,7 +1,6 @@
 -- Rows of document 02, Card 3, beyond its figures: 19 at both edges, with its place, beside each other condition of a book, and
 -- in each call that takes a book record or a book's bytes. PictureEdges.antt has the fetches.
 -- Assumes nothing.
-use Prim.Native.Nat.{ℕ}
 use mathlib.Core.Path.{refl}
 use mathlib.Core.List.{List, [], _∷_}
 use Rattle.scope.specs.Books.{bookOf}
