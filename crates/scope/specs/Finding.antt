@@ -67,12 +67,19 @@ unfoldable pub boxHeight : List (List Pixel) → ℕ
 unfolding greatest flatMap differences
 boxHeight ts = 1 + greatest (map (λ v. natAbs (v .row)) (flatMap differences ts))
 
--- "two pixels whose difference is in the lattice", at positions e and l of pattern n
+-- the pixel at a position of a pattern
+abbrev pub pixelIn : List Pixel → ℕ → Pixel
+pixelIn t e = getD t e (at (pos 0) (pos 0))
+
+-- "two pixels whose difference is in the lattice": those at positions e and l
+unfoldable pub together : Plan → List Pixel → ℕ → ℕ → Bool
+unfolding latticeTest minus at
+together p t e l = latticeTest p (minus (pixelIn t l) (pixelIn t e))
+
+-- such a pair in pattern n
 unfoldable pub meeting : Plan → List Pixel → ℕ → ℕ → ℕ → Option Clash
-unfolding whenever latticeTest minus at
-meeting p t n e l =
-    whenever (latticeTest p (minus (getD t l (at (pos 0) (pos 0))) (getD t e (at (pos 0) (pos 0)))))
-    (record { pattern = n; earlier = e; later = l })
+unfolding whenever together
+meeting p t n e l = whenever (together p t e l) (record { pattern = n; earlier = e; later = l })
 
 -- "the one with the least earlier position, then the least later one", in pattern n
 unfoldable pub clashIn : Plan → ℕ → List Pixel → Option Clash

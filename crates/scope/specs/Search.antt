@@ -15,6 +15,11 @@ unfoldable pub gather : {A : Type 0} → ℕ → ℕ → (ℕ → A) → List A
 gather k zero f = []
 gather {A} k (suc n) f = let x : A = f k in let xs : List A = gather (suc k) n f in x ∷ xs
 
+-- those of the numbers k, k + 1, .., n of them, of which the test holds
+unfoldable pub picked : ℕ → ℕ → (ℕ → Bool) → List ℕ
+picked k zero f = []
+picked k (suc n) f = elim (f k) [ true ↦ k ∷ picked (suc k) n f | false ↦ picked (suc k) n f ]
+
 -- x if the test holds
 unfoldable pub whenever : {A : Type 0} → Bool → A → Option A
 whenever true x = some x
