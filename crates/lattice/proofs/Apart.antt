@@ -21,7 +21,7 @@ use Rattle.lattice.proofs.SameBank.{same-bank-means-lattice}
 use Rattle.lattice.proofs.Suits.{suits-means}
 
 -- moving two pixels alike keeps their difference
-moved-difference : (o v w : Pixel) → minus (plus o v) (plus o w) ≡ minus v w
+pub moved-difference : (o v w : Pixel) → minus (plus o v) (plus o w) ≡ minus v w
 unfolding minus plus
 moved-difference o v w =
     same-coordinates (along (o .column) (v .column) (w .column)) (along (o .row) (v .row) (w .row))
