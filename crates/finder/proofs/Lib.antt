@@ -17,7 +17,8 @@ pub mod RowTests  -- the tests of a row and of the rows
 pub mod Marks  -- a cell is marked exactly if its vector is a difference
 pub mod Hits  -- the marked cells of a plan's lattice
 pub mod Tables  -- a plan suits exactly if the table's searches find nothing
-pub mod TableSearch  -- the loops of the code as searches of the definition
+pub mod PlanLoops  -- what a loop over plans answers, for any tests
+pub mod TableSearch  -- what the table tells of a plan on trial
 pub mod MetAnswers  -- what the answer about a clash shows
 pub mod Meetings  -- the clash from the last position to the first
 pub mod Verdicts  -- the clash of a book by those of its patterns

@@ -12,7 +12,7 @@ use Rattle.scope.specs.Plans.{plan, banks}
 use Rattle.scope.specs.Finding.{Before, trial, firstWith}
 use Rattle.scope.specs.declared.Plan.{Plan}
 use Rattle.checks.proofs.Searches.{Found, first-found, first-none, none-not-some, some-injective}
-use Rattle.finder.specs.Table.{leastBelow}
+use Rattle.finder.specs.Searching.{leastBelow}
 use Rattle.finder.proofs.SuitingPlans.{made, Suiting}
 use Rattle.finder.proofs.CountSearch.{FirstWith, Tried, trial-none, trial-some, b-within, d-within, first-with-some, first-with-none}
 

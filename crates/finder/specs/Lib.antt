@@ -1,3 +1,4 @@
 -- What the finder's code goes by.
 pub mod Table  -- the table of differences, and the cells of a plan's lattice
+pub mod Searching  -- what a loop over plans searches for, by any tests
 pub mod Clashing  -- a clash as the code's answer

@@ -4,20 +4,18 @@
 use Prim.Native.Nat.{ℕ, zero, suc, _+_, _-_, _*_, _/_, _%_}
 use mathlib.Core.Path.{_≡_}
 use mathlib.Core.Bool.{Bool, false, cond, _&&_}
-use mathlib.Core.Option.{Option, none}
+use mathlib.Core.Option.{none}
 use mathlib.Core.List.{List}
 use lib.Dec.{leb, eqb}
 use lib.IntN.{ℤ, pos, negsuc, natAbs, _+ℤ_}
 use lib.ListN.{getD, set, replicate}
-use Rattle.scope.specs.Search.{first, someBelow}
+use Rattle.scope.specs.Search.{someBelow}
 use Rattle.scope.specs.Plans.{Pixel, minus, pixelAt, patternAt, patterns}
-use Rattle.scope.specs.Finding.{trial, suitable}
+use Rattle.scope.specs.Finding.{suitable}
 use Rattle.scope.specs.Numbers.{recordTest}
-use Rattle.scope.specs.Calls.{found}
 use Rattle.scope.specs.declared.Pattern.{Pattern}
 use Rattle.scope.specs.declared.Book.{Book}
 use Rattle.scope.specs.declared.Plan.{Plan}
-use Rattle.scope.specs.declared.Planned.{Planned}
 
 -- 0 ≤ z ≤ 31
 unfoldable pub isRow : ℤ → Bool
@@ -63,13 +61,9 @@ unfolding someBelow rowMarked
 rowsMarked marks a b d =
     someBelow 32 λ j. leb 1 j && eqb (j % d) 0 && rowMarked marks a j ((31 + b * (j / d)) % a)
 
--- of the plans with n banks, this d and a b below m of which a test holds, the one with least b
-unfoldable pub leastBelow : (Plan → Bool) → ℕ → ℕ → ℕ → Option Plan
-unfolding first
-leastBelow test n d m = first 0 m λ b. trial test n b d
-
--- r is what a search by a test gives, for the test of each book whose table this is
-pub record SearchedIn (marks : List ℕ) (searched : (Plan → Bool) → Option Plan) (r : Planned) : Type 0 where
-  pub is :
-      (book : Book) → recordTest book ≡ none → marks ≡ markBook book (book .count)
-      → r ≡ found (searched (suitable (patterns book)))
+-- test is the finder's test of a book whose table this is
+pub record TestOf (marks : List ℕ) (test : Plan → Bool) : Type 0 where
+  pub book : Book
+  pub legal : recordTest book ≡ none
+  pub table : marks ≡ markBook book (book .count)
+  pub is : test ≡ suitable (patterns book)

@@ -17,7 +17,8 @@ ghost use Rattle.scope.specs.Plans.{at, minus};
 ghost use Rattle.scope.specs.Finding.{firstWith, leastOf};
 ghost use Rattle.scope.specs.Numbers.{recordTest};
 ghost use Rattle.scope.specs.Calls.{find, fewest};
-ghost use Rattle.finder.specs.Table.{tableCell, markFrom, markPattern, markBook, rowMarked, rowsMarked, leastBelow, SearchedIn};
+ghost use Rattle.finder.specs.Table.{tableCell, markFrom, markPattern, markBook, rowMarked, rowsMarked, TestOf};
+ghost use Rattle.finder.specs.Searching.{leastBelow, Searched};
 
 // The cell of (i, j) - (x, y): 63 to a row, column -31 first; 2016 where the difference is outside the half window.
 fn difference_cell(i: i8, j: i8, x: i8, y: i8) -> usize
@@ -126,7 +127,7 @@ fn rows_marked(marks: &[u8], a: usize, b: usize, d: usize, s: usize) -> bool
 // Of the suiting plans with this a and d and a b below `below` the one with least b; the table is that of a book.
 fn least_b(marks: &[u8], a: usize, d: usize, below: usize) -> Planned
     requires { ⌜ (length (now marks) ≡ 2017) × (1 ≤ a) × (a ≤ 1024) × (1 ≤ d) × (d ≤ 1024) ⌝ }
-    ensures { λ r. ⌜ SearchedIn (now (marks .entry)) (λ test. leastBelow test (a * d) d below) r ⌝ }
+    ensures { λ r. ⌜ Searched (TestOf (now (marks .entry))) (λ test. leastBelow test (a * d) d below) r ⌝ }
 {
     if row_marked(marks, a, 0, 31 + a) {
         return Planned::Refused(Refusal::NoPlan);
@@ -155,7 +156,7 @@ fn least_b(marks: &[u8], a: usize, d: usize, below: usize) -> Planned
 // with a smaller b.
 fn first_with(marks: &[u8], n: usize) -> Planned
     requires { ⌜ (length (now marks) ≡ 2017) × (n ≤ 1024) ⌝ }
-    ensures { λ r. ⌜ SearchedIn (now (marks .entry)) (λ test. firstWith test n) r ⌝ }
+    ensures { λ r. ⌜ Searched (TestOf (now (marks .entry))) (λ test. firstWith test n) r ⌝ }
 {
     let mut best = Planned::Refused(Refusal::NoPlan);
     let mut below = n;
@@ -176,7 +177,7 @@ fn first_with(marks: &[u8], n: usize) -> Planned
 // Of the suiting plans with at most `limit` banks the one with the fewest, or 7.
 fn least_plan(marks: &[u8], limit: usize) -> Planned
     requires { ⌜ (length (now marks) ≡ 2017) × (limit ≤ 1024) ⌝ }
-    ensures { λ r. ⌜ SearchedIn (now (marks .entry)) (λ test. leastOf test limit) r ⌝ }
+    ensures { λ r. ⌜ Searched (TestOf (now (marks .entry))) (λ test. leastOf test limit) r ⌝ }
 {
     let mut n = 1;
     while n <= limit {

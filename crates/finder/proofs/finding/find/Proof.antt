@@ -63,7 +63,8 @@ returns-4 : tie.Need-returns-4
 returns-4 c =
     let m = c .before .before .before in
     let is-book = legal (tested (m .before .before)) in
-    c .least-plan .ensures .is _ is-book (m .mark-book .ensures) ∙ searched _ _ is-book (omega arith) (omega arith)
+    c .least-plan .ensures .is _ (record { book = _; legal = is-book; table = m .mark-book .ensures; is = refl })
+    ∙ searched _ _ is-book (omega arith) (omega arith)
 
 pub find-spec : {M : Type 1} → statement M
 find-spec =

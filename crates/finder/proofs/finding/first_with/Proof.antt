@@ -6,12 +6,13 @@ use native.Mathlib.Nat.{le-div-iff-mul-le, div-le-self}
 use native.Mathlib.Omega.{arith}
 use mathlib.Core.Path.{refl}
 use borrow.Author.Needs.{needs}
-use Rattle.finder.proofs.TableSearch.{BestIn, none-best, best-replaced, best-stays, best-at-end, divisor-searched, no-divisor-none}
+use Rattle.finder.specs.Table.{TestOf}
+use Rattle.finder.proofs.PlanLoops.{BestIn, none-best, best-replaced, best-stays, best-at-end, divisor-searched, no-divisor-none}
 use Rattle.finder.proofs.finding.first_with.Statement.{statement}
 use Rattle.finder.proofs.finding.first_with.Tie as tie
 
 abbrev Inv-loop : tie.InvT-loop
-Inv-loop marks n best₀ below₀ d₀ best below d = (d ≤ n) × BestIn marks n d best below
+Inv-loop marks n best₀ below₀ d₀ best below d = (d ≤ n) × BestIn (TestOf marks) n d best below
 
 abbrev μ-loop : tie.MeasureT-loop
 μ-loop marks n best₀ below₀ d₀ best below d = n - d

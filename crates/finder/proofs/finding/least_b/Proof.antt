@@ -8,15 +8,16 @@ use mathlib.Core.Path.{_≡_, refl, sym, _∙_, ap}
 use mathlib.Core.Logic.{⊎-elim}
 use Rattle.scope.specs.Plans.{plan}
 use Rattle.scope.specs.Finding.{trial}
-use Rattle.finder.specs.Table.{leastBelow}
-use Rattle.finder.proofs.TableSearch.{NoneFrom, none-yet, one-more-none, found-at, found-nowhere, none-below}
+use Rattle.finder.specs.Table.{TestOf}
+use Rattle.finder.specs.Searching.{leastBelow}
+use Rattle.finder.proofs.PlanLoops.{NoneFrom, none-yet, one-more-none, found-at, found-nowhere, none-below}
 use Rattle.finder.proofs.TableSearch.{row-marked-none, rows-marked-none, unmarked-found}
 use Rattle.finder.proofs.finding.least_b.Statement.{statement}
 use Rattle.finder.proofs.finding.least_b.Tie as tie
 
 abbrev Inv-loop : tie.InvT-loop
 Inv-loop marks a d below end s₀ b₀ s b =
-    (end ≡ min below a) × (b ≤ end) × (s ≡ (31 + b) % a) × NoneFrom marks (λ test b. trial test (a * d) b d) 0 b
+    (end ≡ min below a) × (b ≤ end) × (s ≡ (31 + b) % a) × NoneFrom (TestOf marks) (λ test b. trial test (a * d) b d) 0 b
 
 abbrev μ-loop : tie.MeasureT-loop
 μ-loop marks a d below end s₀ b₀ s b = end - b
@@ -106,7 +107,7 @@ add-s c = let l = head (c .before) in omega (arith, cell-below l, given l .pre)
 turned-down :
     (c : tie.Else3 Inv-loop μ-loop) →
     let l = head (c .before) in
-    NoneFrom (given l .args .marks .now) (λ test b. trial test (a l * given l .args .d) b (given l .args .d)) 0 (b l + 1)
+    NoneFrom (TestOf (given l .args .marks .now)) (λ test b. trial test (a l * given l .args .d) b (given l .args .d)) 0 (b l + 1)
 turned-down c =
     let l = head (c .before) in
     let none = rows-marked-none (given l .pre .3) (omega (arith, l .loop .inv .0)) (c .before .rows-marked .ensures) (c .if3 .left) in

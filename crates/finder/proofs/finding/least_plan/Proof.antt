@@ -5,12 +5,13 @@ use Prim.Native.Nat.{_+_, _-_, _≤_}
 use native.Mathlib.Omega.{arith}
 use borrow.Author.Needs.{needs}
 use Rattle.scope.specs.Finding.{firstWith, leastOf}
-use Rattle.finder.proofs.TableSearch.{NoneFrom, none-yet, one-more-none, found-at, found-nowhere}
+use Rattle.finder.specs.Table.{TestOf}
+use Rattle.finder.proofs.PlanLoops.{NoneFrom, none-yet, one-more-none, found-at, found-nowhere}
 use Rattle.finder.proofs.finding.least_plan.Statement.{statement}
 use Rattle.finder.proofs.finding.least_plan.Tie as tie
 
 abbrev Inv-loop : tie.InvT-loop
-Inv-loop marks limit n₀ n = (1 ≤ n) × (n ≤ limit + 1) × NoneFrom marks firstWith 1 n
+Inv-loop marks limit n₀ n = (1 ≤ n) × (n ≤ limit + 1) × NoneFrom (TestOf marks) firstWith 1 n
 
 abbrev μ-loop : tie.MeasureT-loop
 μ-loop marks limit n₀ n = limit + 1 - n
