@@ -8,7 +8,7 @@ use mathlib.Core.Path.{_≡_, refl, sym, _∙_, ap, ap₂}
 use mathlib.Core.Logic.{_↔_, _⊎_, inl, inr, Iff·symm}
 use mathlib.Core.Bool.{Bool, true, false, _||_, not-eq-not}
 pub use mathlib.Core.Bool.{true≢false as true-not-false}
-use mathlib.Core.Option.{Option, none, some}
+use mathlib.Core.Option.{Option, none, some, Option·map}
 use mathlib.Core.List.{List, [], _∷_, _++_, List·Memᴰ, List·Memᴰ·head, List·Memᴰ·tail, List·Memᴰ·not-nil, List·Memᴰ·cases-cons}
 use lib.ListN.{length, getD}
 use Rattle.scope.specs.Search.{first, gather, whenever, every, someBelow}
@@ -129,6 +129,19 @@ module _ {A : Type 0} where
   first-same k (suc n) f g b =
       ap₂ {C = Option A} (λ o rest. elim o [ none ↦ rest | some x ↦ some x ]) (b k (omega arith) (omega arith))
       (first-same (suc k) n f g (λ i p q. b i (omega arith) (omega arith)))
+
+  -- what is found, taken over by g
+  pub first-mapped :
+      {B : Type 0} (g : A → B) (k n : ℕ) (f : ℕ → Option A) → first k n (λ i. Option·map g (f i)) ≡ Option·map g (first k n f)
+  unfolding first
+  first-mapped g k zero f = refl
+  first-mapped g k (suc n) f = by-start (f k) refl (first-mapped g (suc k) n f)
+    where
+      by-start : (o : Option A) → f k ≡ o → first (suc k) n (λ i. Option·map g (f i)) ≡ Option·map g (first (suc k) n f)
+          → first k (suc n) (λ i. Option·map g (f i)) ≡ Option·map g (first k (suc n) f)
+      by-start none h r = first-beyond (λ i. Option·map g (f i)) k n (ap (Option·map g) h) ∙ r ∙ sym (ap (Option·map g) (first-beyond f k n h))
+      by-start (some x) h r =
+          first-here (λ i. Option·map g (f i)) k n (g x) (ap (Option·map g) h) ∙ sym (ap (Option·map g) (first-here f k n x h))
 
   -- a gathered list by length and by entry
   pub length-gather : (k n : ℕ) (f : ℕ → A) → length (gather k n f) ≡ n

@@ -5,9 +5,11 @@ use Prim.Native.Nat.{ℕ, _≤_, _<_}
 use native.Mathlib.Omega.{arith}
 use mathlib.Core.Path.{_≡_, refl, subst}
 use mathlib.Core.Bool.{Bool, true}
-use mathlib.Core.List.{List}
+use mathlib.Core.List.{List, [], _∷_}
 use lib.Dec.{eqb}
+use lib.IntN.{ℤ, _-ℤ_, _+ℤ_}
 use lib.ListN.{length}
+use Rattle.integers.proofs.Ring.{ring, reify}
 use Rattle.integers.proofs.Comparisons.{eqb-iff}
 use Rattle.scope.specs.Search.{picked}
 use Rattle.scope.specs.Plans.{Pixel, plus, minus, InLattice}
@@ -17,10 +19,19 @@ use Rattle.scope.specs.Cycles.{classOf, suitsFor, cycleOf}
 use Rattle.scope.specs.promises.Meaning.{IsPlan}
 use Rattle.scope.specs.promises.CyclePromises.{CyclesPart}
 use Rattle.scope.specs.declared.Plan.{Plan}
+use Rattle.checks.proofs.Patterns.{same-coordinates}
 use Rattle.checks.proofs.Picked.{mem-picked, picked-first, picked-ascend, picked-more}
 use Rattle.lattice.proofs.SameBank.{same-bank-means-lattice, lattice-means-same-bank}
 use Rattle.lattice.proofs.Classes.{suits-for-iff, together-iff}
-use Rattle.lattice.proofs.Apart.{moved-difference}
+
+-- moving two pixels alike keeps their difference
+moved-difference : (o v w : Pixel) → minus (plus o v) (plus o w) ≡ minus v w
+unfolding minus plus
+moved-difference o v w =
+    same-coordinates (along (o .column) (v .column) (w .column)) (along (o .row) (v .row) (w .row))
+  where
+    along : (x y z : ℤ) → (x +ℤ y) -ℤ (x +ℤ z) ≡ y -ℤ z
+    along x y z = ring (x ∷ y ∷ z ∷ []) (search reify depth 40 fits 9000) refl
 
 module _ (p : Plan) (t : List Pixel) where
   -- position l has a pixel in the bank of that at e
@@ -31,17 +42,18 @@ module _ (p : Plan) (t : List Pixel) where
   unfolding cycleOf
   earlier-cycle-smaller e l h same = rw same (picked-more (inBank l) e l h (eqb-iff _ _ .1 same))
 
-module _ (p : Plan) (legal : IsPlan p) (t : List Pixel) where
+module _ (p : Plan) (legal : IsPlan p) where
   -- moving two pixels alike keeps it whether their banks are the same
-  moved-same-bank : (o v w : Pixel) → bankOf p (plus o v) ≡ bankOf p (plus o w) → bankOf p v ≡ bankOf p w
+  pub moved-same-bank : (o v w : Pixel) → bankOf p (plus o v) ≡ bankOf p (plus o w) → bankOf p v ≡ bankOf p w
   moved-same-bank o v w same =
       lattice-means-same-bank p legal v w
       (subst (InLattice p) (moved-difference o v w) (same-bank-means-lattice p legal (plus o v) (plus o w) same))
 
-  pub bank-and-cycle-apart :
+module _ (p : Plan) (legal : IsPlan p) (t : List Pixel) where
+  bank-and-cycle-apart :
       (o : Pixel) (e l : ℕ) → e < l → bankOf p (plus o (pixelIn t e)) ≡ bankOf p (plus o (pixelIn t l)) → cycleOf p t e ≡ cycleOf p t l → ⊥
   bank-and-cycle-apart o e l h same again =
-      omega (arith, earlier-cycle-smaller p t e l h (moved-same-bank o (pixelIn t e) (pixelIn t l) same), again)
+      omega (arith, earlier-cycle-smaller p t e l h (moved-same-bank p legal o (pixelIn t e) (pixelIn t l) same), again)
 
   -- the pixels in the bank of that at e are in its class
   bank-in-class : (e : ℕ) → length (picked 0 (length t) (inBank p t e)) ≤ length (classOf p t e)

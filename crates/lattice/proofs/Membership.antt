@@ -72,7 +72,7 @@ module _ {x y : Pixel} where
       coordinate-wise (λ i j. pos 0) (pos 0) (pos 0) (λ i j. ring (i ∷ j ∷ []) (search reify depth 40 fits 9000) refl)
 
   -- a difference the other way round
-  combination-of-negative : (v w : Pixel) → Combination x y (minus v w) → Combination x y (minus w v)
+  pub combination-of-negative : (v w : Pixel) → Combination x y (minus v w) → Combination x y (minus w v)
   unfolding minus
   combination-of-negative v w c =
       combination-of-combinations c c

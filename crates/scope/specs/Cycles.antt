@@ -3,13 +3,13 @@
 -- Assumes nothing.
 use Prim.Native.Nat.{ℕ, suc, _-_}
 use mathlib.Core.Bool.{Bool, not}
-use mathlib.Core.Option.{Option, none, some}
+use mathlib.Core.Option.{Option}
 use mathlib.Core.List.{List, [], _∷_}
 use lib.Dec.{leb, ltb, eqb}
 use lib.ListN.{length, getD, take}
 use Rattle.scope.specs.Search.{first, gather, picked, whenever, every, someBelow}
-use Rattle.scope.specs.Plans.{Pixel, at, banks}
-use Rattle.scope.specs.Finding.{leastOf, pixelIn, together}
+use Rattle.scope.specs.Plans.{Pixel, at}
+use Rattle.scope.specs.Finding.{leastOf, leastCountOf, pixelIn, together}
 use Rattle.scope.specs.Banks.{bankOf}
 use Rattle.scope.specs.declared.Plan.{Plan}
 
@@ -37,10 +37,10 @@ suitableFor r ts = λ p. suitsAllFor r p ts
 abbrev pub leastPlanFor : ℕ → List (List Pixel) → ℕ → Option Plan
 leastPlanFor r ts limit = leastOf (suitableFor r ts) limit
 
--- "the least for that r": the N of that plan. Limit 1024 is enough for each r from 1 on, so `none` does not occur for a legal book
+-- "the least for that r": the N of that plan, for r from 1 on
 unfoldable pub leastCountFor : ℕ → List (List Pixel) → ℕ
-unfolding leastOf suitsAllFor banks
-leastCountFor r ts = elim (leastPlanFor r ts 1024) [ none ↦ 1024 | some p ↦ banks p ]
+unfolding leastCountOf suitsAllFor
+leastCountFor r ts = leastCountOf (suitableFor r ts)
 
 -- "Give each pixel its cycle: the count of earlier pixels of the pattern in its bank."
 unfoldable pub cycleOf : Plan → List Pixel → ℕ → ℕ

@@ -49,10 +49,15 @@ suitable ts = λ p. suitsAll p ts
 abbrev pub leastPlan : List (List Pixel) → ℕ → Option Plan
 leastPlan ts limit = leastOf (suitable ts) limit
 
--- "the least count": the N of that plan. "So limit 1024 is always enough", and `none` does not occur for a legal book
+-- the N of the plan that the search finds by a test. "So limit 1024 is always enough", and `none` does not occur for a legal book
+unfoldable pub leastCountOf : (Plan → Bool) → ℕ
+unfolding leastOf banks
+leastCountOf test = elim (leastOf test 1024) [ none ↦ 1024 | some p ↦ banks p ]
+
+-- "the least count": the N of that plan
 unfoldable pub leastCount : List (List Pixel) → ℕ
-unfolding leastOf suitsAll banks
-leastCount ts = elim (leastPlan ts 1024) [ none ↦ 1024 | some p ↦ banks p ]
+unfolding leastCountOf suitsAll
+leastCount ts = leastCountOf (suitable ts)
 
 -- "w is 1 plus the greatest column difference and h is 1 plus the greatest row difference (1 where there is no difference)"
 -- With p - q a pattern has q - p, so the greatest is the greatest without sign

@@ -113,7 +113,7 @@ pub record LeastInCycles (r : ℕ) (book : Book) : Type 0 where
       → (t : List Pixel) → List·Memᴰ t (patterns book) → length t ≤ banks p * r
   -- the box is large enough for each r from 1 on, and so is limit 1024
   pub box :
-      1 ≤ r → IsBook book → (p : Plan) → leastPlanFor r (patterns book) 1024 ≡ some p
+      1 ≤ r → IsBook book → (limit : ℕ) (p : Plan) → leastPlanFor r (patterns book) limit ≡ some p
       → banks p ≤ boxWidth (patterns book) * boxHeight (patterns book)
   pub enough : 1 ≤ r → IsBook book → (p : Plan) × (leastPlanFor r (patterns book) 1024 ≡ some p)
 
