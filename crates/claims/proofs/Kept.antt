@@ -15,6 +15,9 @@ use Rattle.lattice.proofs.Words.{pixels-have-words}
 use Rattle.lattice.proofs.Reverse.{reverse-map}
 use Rattle.lattice.proofs.Rings.{ring-keeps-banks}
 use Rattle.lattice.proofs.Suits.{suits-means}
+use Rattle.lattice.proofs.Classes.{suits-for-means-classes}
+use Rattle.lattice.proofs.LongClashes.{long-clashes}
+use Rattle.lattice.proofs.Cycles.{cycles-part}
 use Rattle.lattice.proofs.Formulas.{patterns-are, formulas-are}
 use Rattle.lattice.proofs.TestMeanings.{tests-mean}
 use Rattle.book.proofs.Unused.{reader-sets-zero}
@@ -27,6 +30,8 @@ use Rattle.book.proofs.SameBooks.{pixels-ascend}
 use Rattle.book.proofs.Parts.{parts-are}
 use Rattle.book.proofs.ReaderRefusals.{reader-refuses}
 use Rattle.finder.proofs.Least.{finder-is-least, finder-none, finder-decides, finder-order}
+use Rattle.finder.proofs.LeastCycles.{least-in-cycles}
+use Rattle.finder.proofs.OneCycle.{one-cycle-is-before}
 use Rattle.finder.proofs.Boxes.{box-is-greatest}
 use Rattle.finder.proofs.Bounds.{finder-stays-within, limit-is-enough}
 use Rattle.finder.proofs.LeastCounts.{count-is-least}
@@ -70,6 +75,11 @@ promises-kept =
       surplus-is-excess = surplus-is-excess;
       clash-is-first = clash-is-first;
       check-decides = check-decides;
+      suits-for-means = suits-for-means-classes;
+      cycles-part = cycles-part;
+      long-clashes = long-clashes;
+      least-in-cycles = least-in-cycles;
+      one-cycle-is-before = one-cycle-is-before;
       formulas-are = formulas-are;
       banks-are-classes = banks-are-classes;
       pixels-have-words = pixels-have-words;

@@ -4,9 +4,10 @@
 use Prim.Native.Nat.{ℕ, zero, suc, _+_, _*_, _≤_, _<_, max}
 use mathlib.Core.Path.{_≡_, refl, sym, _∙_, ap, subst}
 use mathlib.Core.Logic.{_⊎_, inl, inr}
+use mathlib.Core.Bool.{true}
 use mathlib.Core.List.{List, [], _∷_, map, flatMap, List·Memᴰ, List·Memᴰ·head, List·Memᴰ·tail, List·Memᴰ·not-nil, List·Memᴰ·cases-cons}
 use native.Mathlib.Omega.{arith}
-use native.Mathlib.Nat.{le-max-left, le-max-right, max-eq-left, max-eq-right}
+use native.Mathlib.Nat.{le-max-left, le-max-right, max-eq-left, max-eq-right, mul-le-mul}
 use native.Mathlib.Decide.{decLt}
 use lib.IntN.{ℤ, pos, negsuc, natAbs, _*ℤ_, _-ℤ_}
 use lib.Dec.{leb→le}
@@ -15,15 +16,14 @@ use Rattle.integers.proofs.Integers.{size-of-product, size-zero}
 use Rattle.integers.proofs.Ring.{ring, reify}
 use Rattle.integers.proofs.Polynomials.{no-difference}
 use Rattle.integers.proofs.Order.{le-by, of-le}
-use Rattle.scope.specs.Plans.{Pixel, minus, differences, plan, pixels, patternAt, patterns, InLattice}
-use Rattle.scope.specs.Finding.{suitable, greatest, boxWidth, boxHeight}
+use Rattle.scope.specs.Plans.{Pixel, minus, differences, plan, banks, pixels, patternAt, patterns, InLattice, suitsAll}
+use Rattle.scope.specs.Finding.{greatest, boxWidth, boxHeight}
 use Rattle.scope.specs.promises.Meaning.{InRange, IsPattern, IsBook}
 use Rattle.scope.specs.promises.PlanPromises.{BoxIsGreatest}
 use Rattle.scope.specs.declared.Pattern.{Pattern}
 use Rattle.scope.specs.declared.Book.{Book}
 use Rattle.scope.specs.declared.Plan.{Plan}
 use Rattle.lattice.proofs.Suits.{suits-means, suits-all-iff, DifferenceIn, mem-differences, differences-mem}
-use Rattle.finder.proofs.SuitingPlans.{Suiting, suits-suiting}
 use Rattle.checks.proofs.Patterns.{same-coordinates, mem-patterns, pattern-in-range}
 use Rattle.checks.proofs.Lists.{mem-map, map-mem, flatMap-mem, mem-flatMap}
 
@@ -91,15 +91,17 @@ small-multiple-is-zero z k n e h = size-zero z (by-size (natAbs k) (ap natAbs e 
     by-size zero f = omega arith
     by-size (suc m) f = absurd (omega arith)
 
--- The plan w, 0, h suits: a difference in its lattice would be 0.
-pub box-suits : (ts : List (List Pixel)) → Suiting (suitable ts) (plan (boxWidth ts) 0 (boxHeight ts))
+-- the plan w, 0, h
+abbrev pub box : List (List Pixel) → Plan
+box ts = plan (boxWidth ts) 0 (boxHeight ts)
+
+-- It suits: a difference in its lattice would be 0.
+pub box-suits : (ts : List (List Pixel)) → suitsAll (box ts) ts ≡ true
 unfolding plan boxWidth boxHeight minus
-box-suits ts =
-    suits-suiting ts p (omega arith) (omega arith) (omega arith)
-    (suits-all-iff p ts .1 (λ t m. suits-means p (omega arith) (omega arith) t .1 (λ v w. apart t m v w)))
+box-suits ts = suits-all-iff p ts .1 (λ t m. suits-means p (omega arith) (omega arith) t .1 (λ v w. apart t m v w))
   where
     p : Plan
-    p = plan (boxWidth ts) 0 (boxHeight ts)
+    p = box ts
 
     apart :
         (t : List Pixel) → List·Memᴰ t ts → (v w : Pixel) → List·Memᴰ v t → List·Memᴰ w t → (v ≡ w → ⊥)
@@ -156,9 +158,9 @@ module _ (book : Book) (legal : IsBook book) where
           in-pattern (patternAt book n) (legal .each n h) (mem-differences (pixels (patternAt book n)) v (rw is in-t))
 
   -- "So limit 1024 is always enough": the box is at most 32 by 32.
-  pub box-within : (boxWidth (patterns book) ≤ 32) × (boxHeight (patterns book) ≤ 32)
-  unfolding boxWidth boxHeight
-  box-within = (
-    side-at-most (λ v. natAbs (v .column)) (flatMap differences (patterns book)) 32 (λ v m. difference-small v m .0) (omega arith),
-    side-at-most (λ v. natAbs (v .row)) (flatMap differences (patterns book)) 32 (λ v m. difference-small v m .1) (omega arith),
-  )
+  pub box-within : banks (box (patterns book)) ≤ 1024
+  unfolding boxWidth boxHeight plan banks
+  box-within =
+      mul-le-mul
+      (side-at-most (λ v. natAbs (v .column)) (flatMap differences (patterns book)) 32 (λ v m. difference-small v m .0) (omega arith))
+      (side-at-most (λ v. natAbs (v .row)) (flatMap differences (patterns book)) 32 (λ v m. difference-small v m .1) (omega arith))

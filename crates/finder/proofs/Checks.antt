@@ -28,10 +28,11 @@ use Rattle.checks.proofs.BookTests.{book-legal-iff}
 use Rattle.checks.proofs.Deciding.{independent-decides, size-decides}
 use Rattle.checks.proofs.RefusalNumbers.{decided-numbers, numbers-before, last-numbers, record-numbers}
 use Rattle.lattice.proofs.NormalForm.{normal-form-is-plan}
-use Rattle.finder.proofs.SuitingPlans.{plan-is-suiting}
+use Rattle.finder.proofs.SuitingPlans.{suitable-by-numbers, plan-suiting}
 use Rattle.finder.proofs.PlanSearch.{some-least-plan}
 use Rattle.finder.proofs.FindAnswers.{find-value-iff}
-use Rattle.finder.proofs.LeastCounts.{least-count-is, least-count-at-most}
+use Rattle.finder.proofs.OneCycle.{least-count-is}
+use Rattle.finder.proofs.LeastCounts.{least-count-at-most}
 use Rattle.finder.proofs.ClashSearch.{no-clash-none-meets, no-clash-iff-suits-all}
 
 -- The check's tests find nothing exactly where the book is legal and the vectors are independent and not too large.
@@ -66,7 +67,7 @@ surplus-of-suiting :
 unfolding banks
 surplus-of-suiting book legal p is-plan suiting =
     let ts : List (List Pixel) = patterns book in
-    let (q, e) = some-least-plan (suitable ts) 1024 p (plan-is-suiting ts p is-plan suiting) (is-plan .most) in (
+    let (q, e) = some-least-plan (suitable ts) 1024 p (plan-suiting (suitable ts) (suitable-by-numbers ts) p is-plan suiting) (is-plan .most) in (
       q,
       find-value-iff book 1024 q .1 (record { legal-book = legal; limit-least = omega arith; limit-most = omega arith }, e),
       omega (arith, least-count-at-most ts p is-plan suiting, least-count-is ts q e),

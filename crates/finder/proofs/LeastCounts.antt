@@ -1,13 +1,12 @@
 -- The least count of a book: the N of the plan that the finder gives at limit 1024, which is enough for every legal book.
 -- Assumes nothing.
 use Prim.Native.Nat.{ℕ, _≤_}
-use native.Mathlib.Omega.{arith}
 use mathlib.Core.Path.{_≡_, refl, sym, _∙_, ap}
 use mathlib.Core.Bool.{true}
 use mathlib.Core.Option.{Option, none, some}
 use mathlib.Core.List.{List}
 use Rattle.scope.specs.Plans.{Pixel, patterns, banks, suitsAll}
-use Rattle.scope.specs.Finding.{suitable, leastPlan, leastCount}
+use Rattle.scope.specs.Finding.{suitable, leastCount}
 use Rattle.scope.specs.Numbers.{recordTest, value, ofPlanned, ofCounted}
 use Rattle.scope.specs.Calls.{find, fewest}
 use Rattle.scope.specs.promises.Meaning.{IsPlan}
@@ -19,24 +18,18 @@ use Rattle.scope.specs.declared.Planned.{Planned}
 use Rattle.scope.specs.declared.Refusal.{Refusal}
 use Rattle.checks.proofs.Chains.{value-not-refusal, answered-none, answered-some}
 use Rattle.checks.proofs.BookTests.{book-legal-iff}
-use Rattle.finder.proofs.SuitingPlans.{Suiting, plan-is-suiting}
-use Rattle.finder.proofs.PlanSearch.{least-plan-some, some-least-plan}
+use Rattle.finder.proofs.SuitingPlans.{suitable-by-numbers, plan-suiting}
+use Rattle.finder.proofs.PlanSearch.{count-at-most}
+use Rattle.finder.proofs.OneCycle.{least-count-is}
 use Rattle.finder.proofs.FindAnswers.{find-value-iff, book-refused}
 use Rattle.finder.proofs.Bounds.{limit-is-enough}
-
--- The least count is that of the plan which the finder's search finds.
-pub least-count-is : (ts : List (List Pixel)) (p : Plan) → leastPlan ts 1024 ≡ some p → leastCount ts ≡ banks p
-unfolding leastCount
-least-count-is ts p h = rw (h, leastCount)
 
 -- A suiting plan has at least as many banks.
 pub least-count-at-most :
     (ts : List (List Pixel)) (p : Plan) → IsPlan p → suitsAll p ts ≡ true → leastCount ts ≤ banks p
-unfolding banks
+unfolding leastCount banks
 least-count-at-most ts p is-plan suiting =
-    let s : Suiting (suitable ts) p = plan-is-suiting ts p is-plan suiting in
-    let (q, e) = some-least-plan (suitable ts) 1024 p s (is-plan .most) in
-    omega (arith, least-plan-some (suitable ts) 1024 q e .0 .least-count p s, least-count-is ts q e)
+    count-at-most (suitable ts) p (plan-suiting (suitable ts) (suitable-by-numbers ts) p is-plan suiting) (is-plan .most)
 
 module _ (book : Book) where
   -- What the call answers for a book,

@@ -4,9 +4,11 @@ pub mod CountSearch  -- what the search among equal counts gives: the order
 pub mod Narrowing  -- the order in which the code looks at them gives the same
 pub mod PlanSearch  -- what the search of plans gives, for any test
 pub mod FindAnswers  -- what the call `find` answers by its search
-pub mod Least  -- the count is least among all pairs of vectors; 7 exactly above the limit
 pub mod Pigeonhole  -- m different numbers below n: m is at most n
 pub mod Boxes  -- the box of the differences, whose plan suits
+pub mod LeastCycles  -- for each r the count is least among all pairs of vectors; none exactly above the limit
+pub mod OneCycle  -- the search for r = 1 is the finder's
+pub mod Least  -- so the finder's count is least; 7 exactly above the limit
 pub mod Bounds  -- the count lies between pixel count and box
 pub mod LeastCounts  -- the least count is that of the finder's plan
 pub mod ClashSearch  -- what the searches for a clash find

@@ -1,17 +1,20 @@
 -- What the search of plans gives, for any test: of the plans of which it holds the one with least count, which comes before all
 -- others with this count, if there is one within the limit.
 -- Assumes nothing.
-use Prim.Native.Nat.{ℕ, _≤_, _<_}
+use Prim.Native.Nat.{ℕ, _/_, _%_, _≤_, _<_}
 use native.Mathlib.Omega.{arith}
 use native.Mathlib.Decide.{decLt}
-use mathlib.Core.Path.{_≡_, refl, _∙_, subst}
-use mathlib.Core.Bool.{Bool}
+use mathlib.Core.Path.{_≡_, refl, _∙_, ap, subst}
+use mathlib.Core.Bool.{Bool, true, false, _&&_}
 use mathlib.Core.Option.{Option, none, some}
-use Rattle.scope.specs.Plans.{banks}
-use Rattle.scope.specs.Finding.{Before, firstWith, leastOf}
+use lib.Dec.{ltb, eqb}
+use Rattle.integers.proofs.Comparisons.{ltb-false-iff}
+use Rattle.scope.specs.Search.{whenever}
+use Rattle.scope.specs.Plans.{plan, banks}
+use Rattle.scope.specs.Finding.{Before, trial, leastD, firstWith, leastOf, leastCountOf}
 use Rattle.scope.specs.promises.Meaning.{IsPlan}
 use Rattle.scope.specs.declared.Plan.{Plan}
-use Rattle.checks.proofs.Searches.{Found, first-found, first-none}
+use Rattle.checks.proofs.Searches.{Found, first-found, first-none, first-same}
 use Rattle.finder.proofs.SuitingPlans.{made, Suiting, suiting-banks, made-is-plan}
 use Rattle.finder.proofs.CountSearch.{FirstWith, first-with-some, first-with-none}
 
@@ -79,3 +82,34 @@ module _ (test : Plan → Bool) where
       by-found : (o : Option Plan) → leastOf test limit ≡ o → (p : Plan) × (leastOf test limit ≡ some p)
       by-found none e = absurd (omega (arith, least-plan-none limit e q s))
       by-found (some p) e = (p, e)
+
+  -- The least count is the N of the plan that the search finds at limit 1024; a suiting plan within it has at least as many banks.
+  pub count-is : (p : Plan) → leastOf test 1024 ≡ some p → leastCountOf test ≡ banks p
+  unfolding leastCountOf
+  count-is p h = rw (h, leastCountOf)
+
+  pub count-at-most : (q : Plan) → Suiting test q → banks q ≤ 1024 → leastCountOf test ≤ banks q
+  count-at-most q s most =
+      let (p, e) = some-least-plan 1024 q s most in
+      omega (arith, least-plan-some 1024 p e .0 .least-count q s, count-is p e)
+
+-- Two tests that say the same of each plan make the same search.
+module _ (f g : Plan → Bool) (same : (a b d : ℕ) → 1 ≤ d → b < a → f (plan a b d) ≡ g (plan a b d)) where
+  trial-same : (n b d : ℕ) → 1 ≤ d → trial f n b d ≡ trial g n b d
+  unfolding trial
+  trial-same n b d d-least = ap (λ (x : Bool). whenever x (plan (n / d) b d)) (by-test (decLt b (n / d)))
+    where
+      by-test : Dec (b < n / d) → eqb (n % d) 0 && ltb b (n / d) && f (plan (n / d) b d) ≡ eqb (n % d) 0 && ltb b (n / d) && g (plan (n / d) b d)
+      by-test (yes h) = ap (λ (x : Bool). eqb (n % d) 0 && ltb b (n / d) && x) (same (n / d) b d d-least h)
+      by-test (no h) = rw (ltb-false-iff b (n / d) .1 (omega arith)) (off (eqb (n % d) 0) (f (plan (n / d) b d)) (g (plan (n / d) b d)))
+        where
+          off : (x y z : Bool) → x && false && y ≡ x && false && z
+          off true y z = refl
+          off false y z = refl
+
+  pub search-same : (limit : ℕ) → leastOf f limit ≡ leastOf g limit
+  unfolding leastOf firstWith leastD
+  search-same limit =
+      first-same 1 limit (firstWith f) (firstWith g) (λ n _ _.
+      first-same 0 n (leastD f n) (leastD g n) (λ b _ _.
+      first-same 1 n (trial f n b) (trial g n b) (λ d d-least _. trial-same n b d d-least)))

@@ -7,6 +7,7 @@ use mathlib.Core.Bool.{Bool, true}
 use mathlib.Core.List.{List}
 use Rattle.scope.specs.Plans.{Pixel, plan, banks, suitsAll}
 use Rattle.scope.specs.Finding.{suitable}
+use Rattle.scope.specs.Cycles.{suitsAllFor, suitableFor}
 use Rattle.scope.specs.promises.Meaning.{IsPlan}
 use Rattle.scope.specs.declared.Plan.{Plan}
 
@@ -32,19 +33,26 @@ unfolding plan banks
 made-is-plan a b d a-least d-least b-below most =
     record { a-least = a-least; d-least = d-least; b-below = b-below; most = most }
 
--- The finder's test goes by a, b and d.
-made-suits : (ts : List (List Pixel)) (p : Plan) → suitsAll (made p) ts ≡ suitsAll p ts
+-- The test goes by a, b and d, as the finder's tests do.
+abbrev ByNumbers : (Plan → Bool) → Type 0
+ByNumbers test = (p : Plan) → test (made p) ≡ test p
+
+pub suitable-by-numbers : (ts : List (List Pixel)) → ByNumbers (suitable ts)
 unfolding plan suitsAll
-made-suits ts p = refl
+suitable-by-numbers ts p = refl
 
-pub suiting-suits : (ts : List (List Pixel)) (p : Plan) → Suiting (suitable ts) p → suitsAll p ts ≡ true
-suiting-suits ts p s = sym (made-suits ts p) ∙ s .holds
+pub suitable-for-by-numbers : (r : ℕ) (ts : List (List Pixel)) → ByNumbers (suitableFor r ts)
+unfolding plan suitsAllFor
+suitable-for-by-numbers r ts p = refl
 
--- A plan that suits a book is a suiting plan, with whatever number of banks.
-pub suits-suiting :
-    (ts : List (List Pixel)) (p : Plan) → 1 ≤ p .a → 1 ≤ p .d → p .b < p .a → suitsAll p ts ≡ true → Suiting (suitable ts) p
-suits-suiting ts p a-least d-least b-below suits =
-    record { a-least = a-least; d-least = d-least; b-below = b-below; holds = made-suits ts p ∙ suits }
+module _ (test : Plan → Bool) (by-numbers : ByNumbers test) where
+  pub suiting-passes : (p : Plan) → Suiting test p → test p ≡ true
+  suiting-passes p s = sym (by-numbers p) ∙ s .holds
 
-pub plan-is-suiting : (ts : List (List Pixel)) (q : Plan) → IsPlan q → suitsAll q ts ≡ true → Suiting (suitable ts) q
-plan-is-suiting ts q l suits = suits-suiting ts q (l .a-least) (l .d-least) (l .b-below) suits
+  -- A plan that passes is a suiting plan, with whatever number of banks.
+  pub passes-suiting : (p : Plan) → 1 ≤ p .a → 1 ≤ p .d → p .b < p .a → test p ≡ true → Suiting test p
+  passes-suiting p a-least d-least b-below passes =
+      record { a-least = a-least; d-least = d-least; b-below = b-below; holds = by-numbers p ∙ passes }
+
+  pub plan-suiting : (q : Plan) → IsPlan q → test q ≡ true → Suiting test q
+  plan-suiting q l = passes-suiting q (l .a-least) (l .d-least) (l .b-below)

@@ -28,7 +28,7 @@ moved-banks-differ p t o plan different suiting e l h k same =
     omega (
       arith,
       earlier-cycle-smaller p t e l h
-      (moved-same-bank p plan o (pixelIn t e) (pixelIn t l) (sym (bank-at e (omega (arith, within))) ∙ same ∙ bank-at l within)),
+          (moved-same-bank p plan o (pixelIn t e) (pixelIn t l) (sym (bank-at e (omega (arith, within))) ∙ same ∙ bank-at l within)),
       cycle-below p plan t 1 (suits-for-one p (plan .a-least) (plan .d-least) t different ∙ suiting) l within,
     )
   where

@@ -33,7 +33,7 @@ suits-for-iff r p t = (
 )
 
 -- what suits for r suits for more
-suits-for-monotone : (r s : ℕ) → r ≤ s → (p : Plan) (t : List Pixel) → suitsFor r p t ≡ true → suitsFor s p t ≡ true
+pub suits-for-monotone : (r s : ℕ) → r ≤ s → (p : Plan) (t : List Pixel) → suitsFor r p t ≡ true → suitsFor s p t ≡ true
 suits-for-monotone r s more p t h = suits-for-iff s p t .1 (λ e below. omega (arith, suits-for-iff r p t .0 h e below))
 
 -- (u - s) - (v - s) = u - v

@@ -124,7 +124,7 @@ module _ (r : ℕ) (p : Plan) (a-least : 1 ≤ p .a) (d-least : 1 ≤ p .d) wher
       none-found-iff = (
         λ h. suits-for-means p a-least d-least t r .1 (λ es c. at-most es c h),
         λ h. none-first 0 (length t) tried (λ e _ below. none-whenever (leb r (length (followers p t e))) _
-        (not-true-is-false _ (λ enough. too-many e (omega arith) (leb-iff _ _ .0 enough) h))),
+            (not-true-is-false _ (λ enough. too-many e (omega arith) (leb-iff _ _ .0 enough) h))),
       )
         where
           at-most : (es : List ℕ) → OneClass (along p) (up p) t es → first 0 (length t) tried ≡ none → length es ≤ r
@@ -136,8 +136,11 @@ module _ (r : ℕ) (p : Plan) (a-least : 1 ≤ p .a) (d-least : 1 ≤ p .d) wher
 
           too-many : (e : ℕ) → e < length t → r ≤ length (followers p t e) → suitsFor r p t ≡ true → ⊥
           too-many e below enough h =
-              absurd (omega (arith, suits-for-means p a-least d-least t r .0 h (from e) (begins-class e below enough),
-              length-take-le r (followers p t e) enough))
+              absurd (omega (
+                arith,
+                suits-for-means p a-least d-least t r .0 h (from e) (begins-class e below enough),
+                length-take-le r (followers p t e) enough,
+              ))
 
   -- The clash of a book is that of the lowest pattern that has one.
   module _ (ts : List (List Pixel)) where
@@ -168,7 +171,7 @@ module _ (r : ℕ) (p : Plan) (a-least : 1 ≤ p .a) (d-least : 1 ≤ p .d) wher
     none-in-book-iff = (
       λ h. suits-all-for-iff r p ts .1 (λ t m. each t h (getD-mem ts [] m)),
       λ h. none-first 0 (length ts) inBook (λ n _ below. none-found-iff (getD ts n []) n .1
-      (suits-all-for-iff r p ts .0 h (getD ts n []) (mem-getD ts n [] (omega arith)))),
+          (suits-all-for-iff r p ts .0 h (getD ts n []) (mem-getD ts n [] (omega arith)))),
     )
       where
         each : (t : List Pixel) → first 0 (length ts) inBook ≡ none → (n : ℕ) × (n < length ts) × (getD ts n [] ≡ t) → suitsFor r p t ≡ true

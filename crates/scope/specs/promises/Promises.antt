@@ -5,6 +5,7 @@ use Rattle.integers.specs.Gcd.{EuclidsRule, GcdIsGreatest}
 use Rattle.scope.specs.promises.Meaning.{PatternsAre, LatticeMeans, SuitsMeans, LowerMeans, InsideMeans, ChainIsFirst, TestsMean, LegalCallsAnswer}
 use Rattle.scope.specs.promises.Demand.{LastStoredMeans, Demand3}
 use Rattle.scope.specs.promises.PlanPromises.{NormalFormIsOnly, FinderIsLeast, FinderNone, FinderDecides, FinderOrder, BoxIsGreatest, FinderStaysWithin, LimitIsEnough, CountIsLeast, SurplusIsExcess, ClashIsFirst, CheckDecides}
+use Rattle.scope.specs.promises.CyclePromises.{SuitsForMeans, CyclesPart, LongClashes, LeastInCyclesEach, OneCycleIsBefore}
 use Rattle.scope.specs.promises.PicturePromises.{FormulasAre, BanksAreClasses, PixelsHaveWords, ReverseMap, PictureCalls, RefusalsChangeNothing, RingKeepsBanks}
 use Rattle.scope.specs.promises.RefusalPromises.{CallsRefuse, RecordRefuses, ReaderRefuses}
 use Rattle.scope.specs.promises.BookPromises.{TwosComplement, BytesMean, ReadAfterWrite, WriteAfterRead, PixelsAscend, PartsAre, UnusedDontCount, ReaderSetsZero, DecimalMeans, ProgramWrites}
@@ -43,6 +44,12 @@ pub record Promises : Type 0 where
   pub surplus-is-excess : SurplusIsExcess
   pub clash-is-first : ClashIsFirst
   pub check-decides : CheckDecides
+  -- plans for r cycles
+  pub suits-for-means : SuitsForMeans
+  pub cycles-part : CyclesPart
+  pub long-clashes : LongClashes
+  pub least-in-cycles : LeastInCyclesEach
+  pub one-cycle-is-before : OneCycleIsBefore
   -- banks, addresses and the calls on a picture
   pub formulas-are : FormulasAre
   pub banks-are-classes : BanksAreClasses
