@@ -132,7 +132,33 @@ module _ (f : ℕ → Bool) where
       by-test false e r = rw (picked-beyond k n e) r
       by-test true e r = rw (picked-here k n e) (ascending-cons k (picked (suc k) n f) (λ i m. omega (arith, mem-picked (suc k) n i m .from)) r)
 
-  -- One range after the other.
+  -- After the first picked one come those of the range behind it.
+  pub record FirstPicked (k n l : ℕ) (ls : List ℕ) : Type 0 where
+    pub here : Passes k n f l
+    pub rest : ls ≡ picked (suc l) (k + n - suc l) f
+
+  pub first-picked : (n k l : ℕ) (ls : List ℕ) → picked k n f ≡ l ∷ ls → FirstPicked k n l ls
+  unfolding picked
+  first-picked zero k l ls e = absurd (omega (arith, ap length e))
+  first-picked (suc n) k l ls e = by-test (f k) refl (first-picked n (suc k) l ls)
+    where
+      later : FirstPicked (suc k) n l ls → FirstPicked k (suc n) l ls
+      later q =
+          let same : suc k + n ≡ k + suc n = omega arith in
+          record { here = passes-sooner (q .here); rest = q .rest ∙ ap (λ (m : ℕ). picked (suc l) (m - suc l) f) same }
+
+      by-test : (b : Bool) → f k ≡ b → (picked (suc k) n f ≡ l ∷ ls → FirstPicked (suc k) n l ls) → FirstPicked k (suc n) l ls
+      by-test false h r = later (r (sym (picked-beyond k n h) ∙ e))
+      by-test true h r =
+          let same : k ∷ picked (suc k) n f ≡ l ∷ ls = sym (picked-here k n h) ∙ e in
+          let first : k ≡ l = cc same in
+          let behind : n ≡ k + suc n - suc k = omega arith in
+          record {
+            here = record { from = omega arith; below = omega arith; passes = ap f (sym first) ∙ h };
+            rest = sym (cc same) ∙ ap₂ (λ (i j : ℕ). picked i j f) (ap suc first) (behind ∙ ap (λ (i : ℕ). k + suc n - suc i) first);
+          }
+
+  -- One range after the other, and how many are in both.
   picked-append : (m k n : ℕ) → picked k (m + n) f ≡ picked k m f ++ picked (k + m) n f
   unfolding picked
   picked-append zero k n = ap₂ (λ (i j : ℕ). picked i j f) (sym (add-zero k)) (zero-add n)
@@ -150,15 +176,47 @@ module _ (f : ℕ → Bool) where
       by-test false e r = rw (more, picked-beyond k (m + n) e, picked-beyond k m e, ← moved) r
       by-test true e r = rw (more, picked-here k (m + n) e, picked-here k m e, ← moved) (ap (λ (es : List ℕ). k ∷ es) r)
 
+  count-splits : (m n : ℕ) → length (picked 0 (m + n) f) ≡ length (picked 0 m f) + length (picked m n f)
+  count-splits m n =
+      ap length (picked-append m 0 n) ∙ length-append (picked 0 m f) (picked (0 + m) n f)
+      ∙ ap (λ (k : ℕ). length (picked 0 m f) + length (picked k n f)) (zero-add m)
+
+  -- They are no more than the range has numbers.
+  pub picked-at-most : (n k : ℕ) → length (picked k n f) ≤ n
+  unfolding picked
+  picked-at-most zero k = omega arith
+  picked-at-most (suc n) k = by-test (f k) refl (picked-at-most n (suc k))
+    where
+      by-test : (b : Bool) → f k ≡ b → length (picked (suc k) n f) ≤ n → length (picked k (suc n) f) ≤ suc n
+      by-test false e r = rw (picked-beyond k n e) (omega arith)
+      by-test true e r = rw (picked-here k n e) (omega arith)
+
   -- A number that passes counts in each longer range.
   pub picked-more : (e l : ℕ) → e < l → f e ≡ true → length (picked 0 e f) < length (picked 0 l f)
   picked-more e l h pass =
       let parts : l ≡ e + suc (l - suc e) = omega arith in
-      let whole : picked 0 l f ≡ picked 0 e f ++ (e ∷ picked (suc e) (l - suc e) f) =
-      ap (λ (n : ℕ). picked 0 n f) parts ∙ picked-append e 0 (suc (l - suc e))
-      ∙ ap (λ (k : ℕ). picked 0 e f ++ picked k (suc (l - suc e)) f) (zero-add e)
-      ∙ ap (λ (es : List ℕ). picked 0 e f ++ es) (picked-here e (l - suc e) pass) in
-      omega (arith, ap length whole ∙ length-append (picked 0 e f) (e ∷ picked (suc e) (l - suc e) f))
+      omega (
+        arith,
+        ap (λ (n : ℕ). length (picked 0 n f)) parts ∙ count-splits e (suc (l - suc e)),
+        ap length (picked-here e (l - suc e) pass),
+      )
+
+  -- The last of them comes after all others.
+  abbrev pub LastPicked : ℕ → Type 0
+  LastPicked n = (l : ℕ) × (l < n) × (f l ≡ true) × (length (picked 0 n f) ≡ suc (length (picked 0 l f)))
+
+  pub last-picked : (n : ℕ) → (length (picked 0 n f) ≡ 0) ⊎ LastPicked n
+  unfolding picked
+  last-picked zero = inl refl
+  last-picked (suc n) = by-test (f n) refl (last-picked n)
+    where
+      split : length (picked 0 (suc n) f) ≡ length (picked 0 n f) + length (picked n 1 f)
+      split = let more : suc n ≡ n + 1 = omega arith in ap (λ (m : ℕ). length (picked 0 m f)) more ∙ count-splits n 1
+
+      by-test : (b : Bool) → f n ≡ b → (length (picked 0 n f) ≡ 0) ⊎ LastPicked n → (length (picked 0 (suc n) f) ≡ 0) ⊎ LastPicked (suc n)
+      by-test true e r = inr (n, omega arith, e, omega (arith, split, ap length (picked-here n 0 e)))
+      by-test false e (inl no-one) = inl (omega (arith, split, ap length (picked-beyond n 0 e)))
+      by-test false e (inr (l, below, pass, size)) = inr (l, omega arith, pass, omega (arith, split, ap length (picked-beyond n 0 e)))
 
   -- A search for the first number that passes gives the first picked one.
   pub first-is-picked :
@@ -177,6 +235,14 @@ module _ (f : ℕ → Bool) where
       by-test : (b : Bool) → f k ≡ b → first (suc k) n searched ≡ head (picked (suc k) n f) → first k (suc n) searched ≡ head (picked k (suc n) f)
       by-test true e r = first-here searched k n (g k) (some-whenever (f k) (g k) e) ∙ sym (ap head (picked-here k n e))
       by-test false e r = first-beyond searched k n (none-whenever (f k) (g k) e) ∙ r ∙ sym (ap head (picked-beyond k n e))
+
+-- Two tests that agree in the range pick the same numbers.
+pub picked-same : (f g : ℕ → Bool) (n k : ℕ) → ((i : ℕ) → k ≤ i → i < k + n → f i ≡ g i) → picked k n f ≡ picked k n g
+unfolding picked
+picked-same f g zero k same = refl
+picked-same f g (suc n) k same =
+    ap₂ {C = List ℕ} (λ b rest. elim b [ true ↦ k ∷ rest | false ↦ rest ]) (same k (omega arith) (omega arith))
+    (picked-same f g n (suc k) (λ i p q. same i (omega arith) (omega arith)))
 
 -- What is nowhere behind ls comes first, also when only as many are taken as ls has.
 pub ahead-not-after : (r : ℕ) (es ls : List ℕ) → length ls ≡ r → Ahead es ls → NotAfter (take r es) ls

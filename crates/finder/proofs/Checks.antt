@@ -29,9 +29,8 @@ use Rattle.checks.proofs.Deciding.{independent-decides, size-decides}
 use Rattle.checks.proofs.RefusalNumbers.{decided-numbers, numbers-before, last-numbers, record-numbers}
 use Rattle.lattice.proofs.NormalForm.{normal-form-is-plan}
 use Rattle.finder.proofs.SuitingPlans.{suitable-by-numbers, plan-suiting}
-use Rattle.finder.proofs.PlanSearch.{some-least-plan}
+use Rattle.finder.proofs.PlanSearch.{some-least-plan, least-count-is}
 use Rattle.finder.proofs.FindAnswers.{find-value-iff}
-use Rattle.finder.proofs.OneCycle.{least-count-is}
 use Rattle.finder.proofs.LeastCounts.{least-count-at-most}
 use Rattle.finder.proofs.ClashSearch.{no-clash-none-meets, no-clash-iff-suits-all}
 

@@ -19,8 +19,7 @@ use Rattle.scope.specs.declared.Refusal.{Refusal}
 use Rattle.checks.proofs.Chains.{value-not-refusal, answered-none, answered-some}
 use Rattle.checks.proofs.BookTests.{book-legal-iff}
 use Rattle.finder.proofs.SuitingPlans.{suitable-by-numbers, plan-suiting}
-use Rattle.finder.proofs.PlanSearch.{count-at-most}
-use Rattle.finder.proofs.OneCycle.{least-count-is}
+use Rattle.finder.proofs.PlanSearch.{count-at-most, least-count-is}
 use Rattle.finder.proofs.FindAnswers.{find-value-iff, book-refused}
 use Rattle.finder.proofs.Bounds.{limit-is-enough}
 

@@ -12,11 +12,12 @@ use lib.IntN.{pos, natAbs}
 use lib.ListN.{length}
 use Rattle.integers.proofs.Integers.{pos-injective}
 use Rattle.integers.proofs.Ring.{ring, reify}
+use Rattle.integers.proofs.Divisions.{ceiling-division}
 use Rattle.integers.proofs.Digits.{digits-determine, digits-below}
 use Rattle.scope.specs.Plans.{Pixel, minus, patterns, plan, banks, along, up, determinant, determinantSize, normalForm}
 use Rattle.scope.specs.Finding.{Before, pixelIn, boxWidth, boxHeight}
 use Rattle.scope.specs.Banks.{bankOf}
-use Rattle.scope.specs.Cycles.{suitsFor, suitsAllFor, suitableFor, leastPlanFor, cycleOf}
+use Rattle.scope.specs.Cycles.{suitsFor, suitsAllFor, suitableFor, leastPlanFor, leastCountFor, cycleOf}
 use Rattle.scope.specs.promises.Meaning.{IsPlan, IsBook, Independent}
 use Rattle.scope.specs.promises.PlanPromises.{Generates}
 use Rattle.scope.specs.promises.CyclePromises.{OneClass, Uncrowded, LeastForCycles, NoneForCycles, LeastInCycles, LeastInCyclesEach}
@@ -30,7 +31,7 @@ use Rattle.lattice.proofs.Classes.{suits-for-means, suits-all-for-iff, suits-fo
 use Rattle.lattice.proofs.Cycles.{earlier-cycle-smaller, cycle-below}
 use Rattle.lattice.proofs.OneCycle.{suits-for-one}
 use Rattle.finder.proofs.SuitingPlans.{Suiting, suiting-banks, suitable-for-by-numbers, suiting-passes, passes-suiting, plan-suiting}
-use Rattle.finder.proofs.PlanSearch.{Least, least-is-plan, least-plan-some, least-plan-none, none-least-plan, some-least-plan}
+use Rattle.finder.proofs.PlanSearch.{least-is-plan, least-plan-some, least-plan-none, none-least-plan, some-least-plan, count-is}
 use Rattle.finder.proofs.Pigeonhole.{pigeonhole}
 use Rattle.finder.proofs.Boxes.{box, box-suits, box-within}
 
@@ -50,7 +51,7 @@ independent-of-plan p some-bank e =
     absurd (omega arith)
 
 -- A plan that suits a pattern for r has room for its pixels: bank and cycle of each are its own.
-pub pixels-at-most : (r : ℕ) (p : Plan) → IsPlan p → (t : List Pixel) → suitsFor r p t ≡ true → length t ≤ banks p * r
+pixels-at-most : (r : ℕ) (p : Plan) → IsPlan p → (t : List Pixel) → suitsFor r p t ≡ true → length t ≤ banks p * r
 pixels-at-most r p legal t h =
     pigeonhole (length t) (banks p * r) (λ e. bankOf p (pixelIn t e) * r + cycleOf p t e)
     (λ e below. digits-below (banks p) r (bank-below-count p legal (pixelIn t e)) (cycle-below p legal t r h e below))
@@ -145,8 +146,11 @@ module _ (r : ℕ) (book : Book) where
   at-most-box r-least legal limit p f =
       least-plan-some (suitableFor r ts) limit p f .0 .least-count (box ts) (box-suits-for r-least legal)
 
-  enough-limit : 1 ≤ r → IsBook book → (p : Plan) × (leastPlanFor r ts 1024 ≡ some p)
-  enough-limit r-least legal = some-least-plan (suitableFor r ts) 1024 (box ts) (box-suits-for r-least legal) (box-within book legal)
+  enough-limit : 1 ≤ r → IsBook book → (p : Plan) × (leastPlanFor r ts 1024 ≡ some p) × (leastCountFor r ts ≡ banks p)
+  unfolding leastCountFor
+  enough-limit r-least legal =
+      let (p, f) = some-least-plan (suitableFor r ts) 1024 (box ts) (box-suits-for r-least legal) (box-within book legal) in
+      (p, f, count-is (suitableFor r ts) p f)
 
 pub least-in-cycles : LeastInCyclesEach
 least-in-cycles r book =
@@ -154,7 +158,9 @@ least-in-cycles r book =
       found = least-found r book;
       none-found = none-found r book;
       order = comes-first r book;
-      pixel-count = λ p legal suiting t m. pixels-at-most r p legal t (suits-all-for-iff r p (patterns book) .0 suiting t m);
+      pixel-count = λ r-least p legal suiting t m.
+          ceiling-division (length t) r r-least (banks p) .1
+          (pixels-at-most r p legal t (suits-all-for-iff r p (patterns book) .0 suiting t m));
       box = at-most-box r book;
       enough = enough-limit r book;
     }

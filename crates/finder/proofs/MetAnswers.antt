@@ -2,14 +2,16 @@
 -- Assumes nothing.
 use Prim.Native.Nat.{ℕ, _≤_}
 use native.Mathlib.Omega.{arith}
-use mathlib.Core.Path.{_≡_, refl, sym, _∙_}
+use mathlib.Core.Path.{_≡_, refl, sym, _∙_, ap}
 use mathlib.Core.Bool.{true, false}
-use mathlib.Core.Option.{Option, none, some}
-use mathlib.Core.List.{[], _∷_}
+use mathlib.Core.Option.{Option, none, some, Option·map}
+use mathlib.Core.List.{List, [], _∷_}
 use Rattle.scope.specs.Search.{firstOf}
-use Rattle.scope.specs.Plans.{isPlan, pixels}
+use Rattle.scope.specs.Plans.{Pixel, isPlan, pixels}
 use Rattle.scope.specs.Finding.{clashIn}
+use Rattle.scope.specs.Cycles.{clashInFor}
 use Rattle.scope.specs.Numbers.{countTest, planTest, suitsTest}
+use Rattle.scope.specs.promises.CyclePromises.{lengthened}
 use Rattle.scope.specs.declared.Clash.{Clash}
 use Rattle.scope.specs.declared.Outcome.{Outcome}
 use Rattle.scope.specs.declared.Pattern.{Pattern}
@@ -21,7 +23,8 @@ use Rattle.checks.proofs.Chains.{chain-refuses, chain-goes-on, chain-of-one}
 use Rattle.checks.proofs.BookTests.{count-legal-iff}
 use Rattle.checks.proofs.BookRefusals.{count-refused}
 use Rattle.book.proofs.Outcomes.{answered-by-refusal, answered-by-done}
-use Rattle.finder.specs.Clashing.{metAt, suitsOutcome}
+use Rattle.lattice.proofs.OneCycle.{clash-for-one-in}
+use Rattle.finder.specs.Clashing.{shortened, metAt, suitsOutcome}
 use Rattle.finder.specs.declared.clash.Met.{Met}
 
 -- An answer tells what the search found.
@@ -29,6 +32,17 @@ at-not-nowhere : {c : Clash} → Met.At c ≡ Met.Nowhere → ⊥
 at-not-nowhere e = let z : _≡_ {A = ℕ} 0 1 = cc in omega arith
 
 module _ {met : Met} where
+  -- for r = 1 it is the clash
+  pub met-for-one :
+      (p : Plan) (n : ℕ) (t : List Pixel) → met ≡ metAt (Option·map shortened (clashInFor 1 p n t)) → met ≡ metAt (clashIn p n t)
+  unfolding shortened lengthened
+  met-for-one p n t answer =
+      answer ∙ ap metAt (ap (Option·map shortened) (clash-for-one-in p n t) ∙ back (clashIn p n t))
+    where
+      back : (o : Option Clash) → Option·map shortened (Option·map lengthened o) ≡ o
+      back none = refl
+      back (some c) = refl
+
   pub at-found : {c : Clash} (o : Option Clash) → met ≡ metAt o → met ≡ Met.At c → o ≡ some c
   unfolding metAt
   at-found none answer here = absurd (at-not-nowhere (sym here ∙ answer))

@@ -7,7 +7,7 @@ use mathlib.Core.Option.{some}
 use mathlib.Core.List.{List, List·Memᴰ}
 use native.Mathlib.Omega.{arith}
 use Rattle.integers.proofs.Comparisons.{same-truth}
-use Rattle.scope.specs.Plans.{Pixel, plan, banks, patterns, suits, suitsAll}
+use Rattle.scope.specs.Plans.{Pixel, plan, patterns, suits, suitsAll}
 use Rattle.scope.specs.Finding.{suitable, leastPlan, leastCount}
 use Rattle.scope.specs.Cycles.{suitsFor, suitsAllFor, suitableFor, leastPlanFor, leastCountFor}
 use Rattle.scope.specs.promises.Meaning.{IsBook}
@@ -19,17 +19,8 @@ use Rattle.checks.proofs.Patterns.{Different, different-in-book}
 use Rattle.lattice.proofs.Suits.{suits-all-iff}
 use Rattle.lattice.proofs.Classes.{suits-all-for-iff}
 use Rattle.lattice.proofs.OneCycle.{uncrowded-one-iff, suits-for-one, clash-for-one}
-use Rattle.finder.proofs.PlanSearch.{count-is, search-same}
+use Rattle.finder.proofs.PlanSearch.{search-same, least-count-is}
 use Rattle.finder.proofs.LeastCycles.{least-in-cycles}
-
--- The two counts are those of the plans which their searches find.
-pub least-count-is : (ts : List (List Pixel)) (p : Plan) → leastPlan ts 1024 ≡ some p → leastCount ts ≡ banks p
-unfolding leastCount
-least-count-is ts p = count-is (suitable ts) p
-
-pub least-count-for-is : (r : ℕ) (ts : List (List Pixel)) (p : Plan) → leastPlanFor r ts 1024 ≡ some p → leastCountFor r ts ≡ banks p
-unfolding leastCountFor
-least-count-for-is r ts p = count-is (suitableFor r ts) p
 
 module _ (book : Book) (legal : IsBook book) where
   abbrev ts : List (List Pixel)
@@ -63,8 +54,8 @@ module _ (book : Book) (legal : IsBook book) where
 
   least-count-one : leastCountFor 1 ts ≡ leastCount ts
   least-count-one =
-      let (p, found) = least-in-cycles 1 book .enough (omega arith) legal in
-      least-count-for-is 1 ts p found ∙ sym (least-count-is ts p (sym (least-plan-one 1024) ∙ found))
+      let (p, found, count) = least-in-cycles 1 book .enough (omega arith) legal in
+      count ∙ sym (least-count-is ts p (sym (least-plan-one 1024) ∙ found))
 
 pub one-cycle-is-before : OneCycleIsBefore
 one-cycle-is-before =

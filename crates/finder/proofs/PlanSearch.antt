@@ -7,11 +7,12 @@ use native.Mathlib.Decide.{decLt}
 use mathlib.Core.Path.{_≡_, refl, _∙_, ap, subst}
 use mathlib.Core.Bool.{Bool, true, false, _&&_}
 use mathlib.Core.Option.{Option, none, some}
+use mathlib.Core.List.{List}
 use lib.Dec.{ltb, eqb}
 use Rattle.integers.proofs.Comparisons.{ltb-false-iff}
 use Rattle.scope.specs.Search.{whenever}
-use Rattle.scope.specs.Plans.{plan, banks}
-use Rattle.scope.specs.Finding.{Before, trial, leastD, firstWith, leastOf, leastCountOf}
+use Rattle.scope.specs.Plans.{Pixel, plan, banks}
+use Rattle.scope.specs.Finding.{Before, trial, leastD, firstWith, leastOf, suitable, leastPlan, leastCountOf, leastCount}
 use Rattle.scope.specs.promises.Meaning.{IsPlan}
 use Rattle.scope.specs.declared.Plan.{Plan}
 use Rattle.checks.proofs.Searches.{Found, first-found, first-none, first-same}
@@ -92,6 +93,11 @@ module _ (test : Plan → Bool) where
   count-at-most q s most =
       let (p, e) = some-least-plan 1024 q s most in
       omega (arith, least-plan-some 1024 p e .0 .least-count q s, count-is p e)
+
+-- so is that of the finder's own test
+pub least-count-is : (ts : List (List Pixel)) (p : Plan) → leastPlan ts 1024 ≡ some p → leastCount ts ≡ banks p
+unfolding leastCount
+least-count-is ts p = count-is (suitable ts) p
 
 -- Two tests that say the same of each plan make the same search.
 module _ (f g : Plan → Bool) (same : (a b d : ℕ) → 1 ≤ d → b < a → f (plan a b d) ≡ g (plan a b d)) where

@@ -3,7 +3,9 @@
 use Prim.Native.Nat.{ℕ}
 use mathlib.Core.Option.{Option, none, some}
 use mathlib.Core.List.{[], _∷_}
+use lib.ListN.{getD}
 use Rattle.scope.specs.Search.{firstOf}
+use Rattle.scope.specs.Cycles.{LongClash}
 use Rattle.scope.specs.Numbers.{countTest, planTest, suitsTest}
 use Rattle.scope.specs.Calls.{answered}
 use Rattle.scope.specs.declared.Clash.{Clash}
@@ -11,6 +13,10 @@ use Rattle.scope.specs.declared.Outcome.{Outcome}
 use Rattle.scope.specs.declared.Pattern.{Pattern}
 use Rattle.scope.specs.declared.Plan.{Plan}
 use Rattle.finder.specs.declared.clash.Met.{Met}
+
+-- a longer clash's pattern and first two positions
+unfoldable pub shortened : LongClash → Clash
+shortened c = record { pattern = c .pattern; earlier = getD (c .positions) 0 0; later = getD (c .positions) 1 0 }
 
 unfoldable pub metAt : Option Clash → Met
 metAt none = Met.Nowhere

@@ -29,7 +29,7 @@ fn first_clash(p: Plan, book: Book) -> Met
     let mut n = 0;
     while n < count {
         let t = book.patterns[n];
-        let met = clash_in(p, n, t);
+        let met = clash_in(p, n, t, 1);
         if let Met::At(_) = met {
             return met;
         }

@@ -131,7 +131,7 @@ module _ (p : Plan) where
       by-followers [] = refl
       by-followers (l ∷ ls) = some-whenever (leb 1 (suc (length ls))) _ (leb-iff 1 (suc (length ls)) .1 (omega arith))
 
-  clash-for-one-in : (n : ℕ) (t : List Pixel) → clashInFor 1 p n t ≡ Option·map lengthened (clashIn p n t)
+  pub clash-for-one-in : (n : ℕ) (t : List Pixel) → clashInFor 1 p n t ≡ Option·map lengthened (clashIn p n t)
   unfolding clashInFor clashIn
   clash-for-one-in n t =
       first-same 0 (length t) _ _ (λ e _ _. clash-for-one-from n t e)

@@ -8,10 +8,11 @@ use mathlib.Core.Bool.{Bool, true, false}
 use mathlib.Core.Option.{Option, none, some, Option·map}
 use mathlib.Core.List.{List, [], _∷_, List·Memᴰ}
 use lib.ListN.{length, getD}
+use Rattle.integers.specs.Division.{ceilDiv}
 use Rattle.scope.specs.Plans.{Pixel, plus, minus, patterns, banks, Combination, along, up, suits, determinantSize}
 use Rattle.scope.specs.Finding.{Before, pixelIn, leastPlan, leastCount, boxWidth, boxHeight, clash}
 use Rattle.scope.specs.Banks.{bankOf}
-use Rattle.scope.specs.Cycles.{suitsFor, suitsAllFor, leastPlanFor, leastCountFor, cycleOf, LongClash, clashInFor, clashFor}
+use Rattle.scope.specs.Cycles.{suitsFor, suitsAllFor, leastPlanFor, leastCountFor, cycleOf, cycles, LongClash, clashInFor, clashFor}
 use Rattle.scope.specs.promises.Meaning.{IsPlan, IsBook, Independent}
 use Rattle.scope.specs.promises.PlanPromises.{Parted}
 use Rattle.scope.specs.declared.Plan.{Plan}
@@ -47,6 +48,9 @@ pub record SuitsForMeans : Type 0 where
 
 -- "no two of its words have both bank and cycle in common and each cycle is below r"
 pub record CyclesPart : Type 0 where
+  -- "in pixel order"
+  pub as-many : (p : Plan) (t : List Pixel) → length (cycles p t) ≡ length t
+  pub in-order : (p : Plan) (t : List Pixel) (e : ℕ) → e < length t → getD (cycles p t) e 0 ≡ cycleOf p t e
   -- of two pixels in one bank the earlier has the smaller cycle
   pub ascend :
       (p : Plan) (t : List Pixel) (e l : ℕ) → e < l → bankOf p (pixelIn t e) ≡ bankOf p (pixelIn t l) → cycleOf p t e < cycleOf p t l
@@ -54,8 +58,10 @@ pub record CyclesPart : Type 0 where
   pub apart :
       (p : Plan) → IsPlan p → (t : List Pixel) (o : Pixel) (e l : ℕ) → e < l
       → bankOf p (plus o (pixelIn t e)) ≡ bankOf p (plus o (pixelIn t l)) → cycleOf p t e ≡ cycleOf p t l → ⊥
+  -- each cycle is below r exactly if the plan suits for r
   pub below :
-      (r : ℕ) (p : Plan) → IsPlan p → (t : List Pixel) → suitsFor r p t ≡ true → (e : ℕ) → e < length t → cycleOf p t e < r
+      (r : ℕ) (p : Plan) → IsPlan p → (t : List Pixel)
+      → (suitsFor r p t ≡ true) ↔ ((e : ℕ) → e < length t → cycleOf p t e < r)
 
 -- "compared position by position": es comes first, or is ls
 abbrev pub NotAfter : List ℕ → List ℕ → Type 0
@@ -107,15 +113,17 @@ pub record LeastInCycles (r : ℕ) (book : Book) : Type 0 where
   pub order :
       (limit : ℕ) (p : Plan) → leastPlanFor r (patterns book) limit ≡ some p
       → (q : Plan) → IsPlan q → suitsAllFor r q (patterns book) ≡ true → banks q ≡ banks p → Before p q
-  -- "N is now never below a pattern's pixel count over r, rounded up": that many pixels fit into N × r
+  -- "N is now never below a pattern's pixel count over r, rounded up."
   pub pixel-count :
-      (p : Plan) → IsPlan p → suitsAllFor r p (patterns book) ≡ true
-      → (t : List Pixel) → List·Memᴰ t (patterns book) → length t ≤ banks p * r
-  -- the box is large enough for each r from 1 on, and so is limit 1024
+      1 ≤ r → (p : Plan) → IsPlan p → suitsAllFor r p (patterns book) ≡ true
+      → (t : List Pixel) → List·Memᴰ t (patterns book) → ceilDiv (length t) r ≤ banks p
+  -- the box is large enough for each r from 1 on, and so is limit 1024; "the least for that r" is the N of the plan found then
   pub box :
       1 ≤ r → IsBook book → (limit : ℕ) (p : Plan) → leastPlanFor r (patterns book) limit ≡ some p
       → banks p ≤ boxWidth (patterns book) * boxHeight (patterns book)
-  pub enough : 1 ≤ r → IsBook book → (p : Plan) × (leastPlanFor r (patterns book) 1024 ≡ some p)
+  pub enough :
+      1 ≤ r → IsBook book
+      → (p : Plan) × (leastPlanFor r (patterns book) 1024 ≡ some p) × (leastCountFor r (patterns book) ≡ banks p)
 
 abbrev pub LeastInCyclesEach : Type 0
 LeastInCyclesEach = (r : ℕ) (book : Book) → LeastInCycles r book

@@ -7,12 +7,12 @@ use mathlib.Core.Path.{_≡_, sym, _∙_, ap}
 use mathlib.Core.Option.{none}
 use borrow.Author.Needs.{needs}
 use borrow.Author.Count.{below-none, below-more}
-use Rattle.scope.specs.Plans.{patternAt}
+use Rattle.scope.specs.Plans.{patternAt, pixels}
 use Rattle.scope.specs.promises.Meaning.{IsBook}
 use Rattle.checks.proofs.BookTests.{book-legal-iff}
 use Rattle.finder.proofs.ClashSearch.{patternClash}
 use Rattle.finder.specs.Clashing.{metAt}
-use Rattle.finder.proofs.MetAnswers.{at-found, nowhere-found}
+use Rattle.finder.proofs.MetAnswers.{met-for-one, at-found, nowhere-found}
 use Rattle.finder.proofs.Verdicts.{clash-at, clash-nowhere}
 use Rattle.finder.proofs.checking.first_clash.Statement.{statement}
 use Rattle.finder.proofs.checking.first_clash.Tie as tie
@@ -39,7 +39,7 @@ element-copy-out-t c = omega (arith, legal (c .before) .most)
 clash-in-requires : tie.Need-clash-in-requires Inv-loop μ-loop
 unfolding patternAt
 clash-in-requires c κs =
-    let l = c .before .before in (l .before .pre .0, legal l .each (l .loop .n) (c .before .loop-test .taken) .most)
+    let l = c .before .before in (l .before .pre .0, legal l .each (l .loop .n) (c .before .loop-test .taken) .most, omega arith)
 
 -- in a turn, where it is known what was met in the n-th pattern
 module _ (c : tie.After-clash-in Inv-loop μ-loop) where
@@ -51,7 +51,7 @@ module _ (c : tie.After-clash-in Inv-loop μ-loop) where
 
   pattern-answer : c .clash-in .result ≡ metAt (patternClash (head .before .args .p) (head .before .args .t2) n)
   unfolding patternAt
-  pattern-answer = c .clash-in .ensures
+  pattern-answer = met-for-one (head .before .args .p) n (pixels (patternAt (head .before .args .t2) n)) (c .clash-in .ensures)
 
 returns : tie.Need-returns Inv-loop μ-loop
 unfolding metAt
