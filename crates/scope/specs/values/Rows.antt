@@ -7,9 +7,11 @@ use mathlib.Core.List.{List, [], _∷_, _++_, map, flatMap}
 use lib.IntN.{ℤ, pos, negℤ}
 use lib.ListN.{replicate}
 use Rattle.scope.specs.Plans.{Pixel, at, plan}
+use Rattle.scope.specs.Cycles.{LongClash}
 use Rattle.scope.specs.Books.{bookOf}
 use Rattle.scope.specs.Numbers.{Answer, value, refusal, ofPlanned, ofCounted, ofLoaded, ofLocated, ofOutcome, ofVerdict}
 use Rattle.scope.specs.Calls.{readBook, writeBook, find, check, fetch, ringFetch}
+use Rattle.scope.specs.declared.Plan.{Plan}
 use Rattle.scope.specs.declared.PixelRecord.{PixelRecord}
 use Rattle.scope.specs.declared.Planned.{Planned}
 use Rattle.scope.specs.declared.Counted.{Counted}
@@ -68,6 +70,17 @@ done r = values (λ u. []) (ofOutcome r)
 unfoldable pub verdict : Verdict → Answer (List ℤ)
 unfolding values
 verdict r = values (λ c. pos (c .plan .a) ∷ pos (c .plan .b) ∷ pos (c .plan .d) ∷ pos (c .surplus) ∷ []) (ofVerdict r)
+
+-- a plan that a search gives, and a clash of r + 1 positions, behind its pattern's number; no number where there is none
+unfoldable pub searched : Option Plan → Answer (List ℤ)
+unfolding is
+searched none = is []
+searched (some p) = is (p .a ∷ p .b ∷ p .d ∷ [])
+
+unfoldable pub longClash : Option LongClash → Answer (List ℤ)
+unfolding is
+longClash none = is []
+longClash (some c) = is (c .pattern ∷ c .positions)
 
 -- which case of the verdict it is
 unfoldable pub caseOf : Verdict → ℕ
