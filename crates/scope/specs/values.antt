@@ -3,6 +3,8 @@ pub mod Rows  -- what a row is, and the patterns that the figures speak of
 pub mod Figures  -- document 01's figures and examples, those of document 02, and the one theorem over them
 pub mod BookEdges  -- further rows on books, plans and the program
 pub mod OrderEdges  -- further rows on the order of a pattern's pixels
-pub mod CycleEdges  -- rows on classes, plans that suit for r, cycles and the longer clash
+pub mod CycleEdges  -- rows on classes, plans that suit for r, and cycles
+pub mod CycleFigures  -- rows on the least plan and the least count for r
+pub mod LongClashEdges  -- rows on the clash for r
 pub mod PictureEdges  -- further rows on the calls on a picture
 pub mod DemandExample  -- demand 3 read off in three small pictures
