@@ -217,8 +217,7 @@ pub extern "C" fn bankplan_check(
 ) -> u64
     ensures { λ n. ⌜ Tells checkedRow (ofVerdict (check (flatBook (now (columns .entry)) (now (rows .entry)) (now (used .entry)) count) (at x1 x2) (at y1 y2))) (now (answer .entry)) (now (answer .exit)) n ⌝ }
 {
-    tell_verdict(
-        check(book_of(columns, rows, used, count), x1, x2, y1, y2),
-        answer,
-    )
+    let got = check(book_of(columns, rows, used, count), x1, x2, y1, y2);
+    let verdict = got.verdict;
+    tell_verdict(verdict, answer)
 }

@@ -114,7 +114,9 @@ pub extern "C" fn bankplan_fetch(
 {
     let book = book_of(columns, rows, used, count);
     let p = plan_of(a, b, d);
-    tell_counted(fetch(book, p, w, h, mem, n, i, j, out), answer)
+    let got = fetch(book, p, w, h, mem, n, i, j, out);
+    let counted = got.counted;
+    tell_counted(counted, answer)
 }
 
 // The same around the picture's edges.
@@ -141,5 +143,7 @@ pub extern "C" fn bankplan_ring_fetch(
 {
     let book = book_of(columns, rows, used, count);
     let p = plan_of(a, b, d);
-    tell_counted(ring_fetch(book, p, w, h, mem, n, i, j, out), answer)
+    let got = ring_fetch(book, p, w, h, mem, n, i, j, out);
+    let counted = got.counted;
+    tell_counted(counted, answer)
 }

@@ -5,18 +5,20 @@ use crate::finding::least_count;
 use book::record_outcome;
 use lattice::normal_form;
 use scope::Book;
+use scope::CheckAnswer;
 use scope::Checked;
 use scope::Counted;
 use scope::Outcome;
 use scope::Plan;
 use scope::Planned;
 use scope::Verdict;
+use scope::verdict_positions;
 ghost use mathlib.Core.Path.{_≡_};
 ghost use mathlib.Core.Bool.{true};
 ghost use mathlib.Core.Option.{none};
 ghost use Rattle.scope.specs.Plans.{at, isPlan, patterns};
 ghost use Rattle.scope.specs.Finding.{clash};
-ghost use Rattle.scope.specs.Numbers.{recordTest};
+ghost use Rattle.scope.specs.Numbers.{recordTest, positionsIn, ofVerdict};
 ghost use Rattle.scope.specs.Calls.{judged, check};
 ghost use Rattle.finder.specs.Clashing.{metAt};
 
@@ -58,7 +60,7 @@ fn judge(p: Plan, book: Book) -> Verdict
 }
 
 // The verdict on the vectors (x1, x2) and (y1, y2) for a book, or 2, 3, 4, 19, 8, 9.
-pub fn check(book: Book, x1: i16, x2: i16, y1: i16, y2: i16) -> Verdict
+fn verdict_on(book: Book, x1: i16, x2: i16, y1: i16, y2: i16) -> Verdict
     ensures { λ r. ⌜ r ≡ check book (at x1 x2) (at y1 y2) ⌝ }
 {
     let outcome = record_outcome(book);
@@ -70,4 +72,13 @@ pub fn check(book: Book, x1: i16, x2: i16, y1: i16, y2: i16) -> Verdict
         Planned::Plan(p) => judge(p, book),
         Planned::Refused(r) => Verdict::Refused(r),
     }
+}
+
+// The same with the positions of the clash beside it.
+pub fn check(book: Book, x1: i16, x2: i16, y1: i16, y2: i16) -> CheckAnswer
+    ensures { λ r. ⌜ (r .verdict ≡ check book (at x1 x2) (at y1 y2)) × (r .positions ≡ positionsIn (ofVerdict (check book (at x1 x2) (at y1 y2)))) ⌝ }
+{
+    let verdict = verdict_on(book, x1, x2, y1, y2);
+    let positions = verdict_positions(verdict);
+    CheckAnswer { verdict, positions }
 }

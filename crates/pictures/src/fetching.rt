@@ -8,10 +8,12 @@ use book::record_outcome;
 use finder::suits_outcome;
 use scope::Book;
 use scope::Counted;
+use scope::FetchAnswer;
 use scope::Outcome;
 use scope::Pattern;
 use scope::Plan;
 use scope::Refusal;
+use scope::counted_positions;
 ghost use mathlib.Core.Path.{_≡_};
 ghost use mathlib.Core.Bool.{true, false};
 ghost use mathlib.Core.Option.{none};
@@ -20,7 +22,7 @@ ghost use lib.ListN.{length};
 ghost use Rattle.scope.specs.Search.{every};
 ghost use Rattle.scope.specs.Plans.{at, isPlan};
 ghost use Rattle.scope.specs.Banks.{inside};
-ghost use Rattle.scope.specs.Numbers.{isRing};
+ghost use Rattle.scope.specs.Numbers.{isRing, positionsIn, ofCounted};
 ghost use Rattle.scope.specs.Calls.{pictureTest, moved, edgeTest, fetchRest, eitherFetch, fetch, ringFetch};
 ghost use Rattle.book.specs.Scan.{outcomeOf};
 ghost use Rattle.pictures.specs.Fetching.{foundBy, startTest, delivered};
@@ -162,10 +164,12 @@ pub fn fetch(
     i: i16,
     j: i16,
     out: &mut [u16],
-) -> Counted
-    ensures { λ r. ⌜ (r ≡ fetch book p w h (now (mem .entry)) n (at i j) (now (out .entry)) .answer) × (now (out .exit) ≡ fetch book p w h (now (mem .entry)) n (at i j) (now (out .entry)) .content) ⌝ }
+) -> FetchAnswer
+    ensures { λ r. ⌜ (r .counted ≡ fetch book p w h (now (mem .entry)) n (at i j) (now (out .entry)) .answer) × (now (out .exit) ≡ fetch book p w h (now (mem .entry)) n (at i j) (now (out .entry)) .content) × (r .positions ≡ positionsIn (ofCounted (fetch book p w h (now (mem .entry)) n (at i j) (now (out .entry)) .answer))) ⌝ }
 {
-    either_fetch(false, book, p, w, h, mem, n, i, j, out)
+    let counted = either_fetch(false, book, p, w, h, mem, n, i, j, out);
+    let positions = counted_positions(counted);
+    FetchAnswer { counted, positions }
 }
 
 // The same around the picture's edges; 18 in the place of 14.
@@ -179,8 +183,10 @@ pub fn ring_fetch(
     i: i16,
     j: i16,
     out: &mut [u16],
-) -> Counted
-    ensures { λ r. ⌜ (r ≡ ringFetch book p w h (now (mem .entry)) n (at i j) (now (out .entry)) .answer) × (now (out .exit) ≡ ringFetch book p w h (now (mem .entry)) n (at i j) (now (out .entry)) .content) ⌝ }
+) -> FetchAnswer
+    ensures { λ r. ⌜ (r .counted ≡ ringFetch book p w h (now (mem .entry)) n (at i j) (now (out .entry)) .answer) × (now (out .exit) ≡ ringFetch book p w h (now (mem .entry)) n (at i j) (now (out .entry)) .content) × (r .positions ≡ positionsIn (ofCounted (ringFetch book p w h (now (mem .entry)) n (at i j) (now (out .entry)) .answer))) ⌝ }
 {
-    either_fetch(true, book, p, w, h, mem, n, i, j, out)
+    let counted = either_fetch(true, book, p, w, h, mem, n, i, j, out);
+    let positions = counted_positions(counted);
+    FetchAnswer { counted, positions }
 }

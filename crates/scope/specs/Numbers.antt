@@ -95,6 +95,16 @@ ofVerdict (Verdict.Suits c) = value c
 ofVerdict (Verdict.Clashes c) = turnedDown (Unsuited c)
 ofVerdict (Verdict.Refused r) = turnedDown r
 
+-- Document 02, Card 4, has a clash of up to nine positions. They stand in nine places beside the answer, 0 where none is left; today a
+-- clash has two, and an answer without a clash has none.
+abbrev pub positionsOf : Option Clash → List ℕ
+positionsOf none = 0 ∷ 0 ∷ 0 ∷ 0 ∷ 0 ∷ 0 ∷ 0 ∷ 0 ∷ 0 ∷ []
+positionsOf (some c) = c .earlier ∷ c .later ∷ 0 ∷ 0 ∷ 0 ∷ 0 ∷ 0 ∷ 0 ∷ 0 ∷ []
+
+abbrev pub positionsIn : {A : Type 0} → Answer A → List ℕ
+positionsIn (value x) = positionsOf none
+positionsIn (refusal n i c) = positionsOf c
+
 -- The conditions. 2: "pattern count not 1-16 or pixel count not 1-64"
 unfoldable pub countTest : ℕ → ℕ → ℕ → Option Refusal
 unfolding whenever

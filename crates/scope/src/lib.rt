@@ -1,9 +1,12 @@
 // Document 01's types. What each call does with them is defined in specs/; a plan's methods are in plans.rt, its formulas
-// in formulas.rt, and the number, place and clash of a refusal in refusals.rt.
+// in formulas.rt, the number, place and clash of a refusal in refusals.rt, and a clash's positions in positions.rt.
 mod formulas;
 mod plans;
+mod positions;
 mod refusals;
 
+pub use positions::counted_positions;
+pub use positions::verdict_positions;
 pub use refusals::Row;
 pub use refusals::number_of;
 pub use refusals::row_of;
@@ -109,6 +112,19 @@ pub enum Located {
 pub enum Outcome {
     Done,
     Refused(Refusal),
+}
+
+// The check's verdict, and beside it the positions of its clash in nine places, 0 where none is left: document 02, Card 4, has up to
+// nine positions, and today there are two.
+pub struct CheckAnswer {
+    pub verdict: Verdict,
+    pub positions: [usize; 9],
+}
+
+// What a fetch counts, and beside it the positions of its clash in the same way.
+pub struct FetchAnswer {
+    pub counted: Counted,
+    pub positions: [usize; 9],
 }
 
 // The answer of the reader. The book holds an array, so it stands beside the enum; on a refusal it is empty.

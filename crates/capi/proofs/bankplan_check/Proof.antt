@@ -14,7 +14,7 @@ returns c =
     let r = c .before .before in
     let f = r .before .before .fits in
     told-of ofVerdict
-    ((rw (r .before .book-of .ensures) at (r .check .ensures))
+    ((rw (r .before .book-of .ensures) at (r .check .ensures .0))
     ∙ ap₂ (check _) (pixel-handed (f .x1) (f .x2)) (pixel-handed (f .y1) (f .y2)))
     (c .tell-verdict .ensures)
 
