@@ -1,0 +1,56 @@
+-- What the finder's code goes by for r above 1 (document 02, Card 4), where it counts the pixels to a bank: the pixels of a book as
+-- cells of the window, and what a cell's column and row add to its bank.
+-- Assumes nothing.
+use Prim.Native.Nat.{ℕ, zero, suc, _+_, _*_, _/_, _%_, min, _<_}
+use mathlib.Core.Path.{_≡_}
+use mathlib.Core.Bool.{cond}
+use mathlib.Core.List.{List}
+use lib.Dec.{ltb}
+use lib.IntN.{pos}
+use lib.ListN.{length, getD}
+use Rattle.scope.specs.Search.{gather}
+use Rattle.scope.specs.Plans.{Pixel, at, pixelAt, patternAt}
+use Rattle.scope.specs.declared.Pattern.{Pattern}
+use Rattle.scope.specs.declared.Book.{Book}
+use Rattle.book.specs.Scan.{cellOf}
+
+-- A pattern's 65 entries: its pixel count, then the cells of its pixels
+unfoldable pub patternEntry : Pattern → ℕ → ℕ
+unfolding cellOf pixelAt
+patternEntry t zero = t .used
+patternEntry t (suc e) = cellOf (pixelAt t e)
+
+-- the entries of a book's patterns one after the other, then 0
+unfoldable pub cellsOf : Book → List ℕ
+unfolding gather patternEntry patternAt
+cellsOf book = gather 0 1040 λ k. cond (ltb k (65 * book .count)) (patternEntry (patternAt book (k / 65)) (k % 65)) 0
+
+-- the pixel of a cell, raised by 16, so that neither coordinate is negative
+unfoldable pub cellPixel : ℕ → Pixel
+unfolding at
+cellPixel k = at (pos (k % 32)) (pos (k / 32 % 32))
+
+-- the pattern that the entries have at number n, of at most 64 pixels
+unfoldable pub patternIn : List ℕ → ℕ → List Pixel
+unfolding gather cellPixel
+patternIn cells n = gather 0 (min (getD cells (65 * n) 0) 64) λ e. cellPixel (getD cells (65 * n + suc e) 0)
+
+-- Under a plan a, b, d column c is in lane c mod a,
+unfoldable pub lanesOf : ℕ → List ℕ
+unfolding gather
+lanesOf a = gather 0 32 λ c. c % a
+
+-- row j begins at bank (j mod d) × a,
+unfoldable pub basesOf : ℕ → ℕ → List ℕ
+unfolding gather
+basesOf a d = gather 0 32 λ j. (j % d) * a
+
+-- and it moves the lanes by x: that is -b × (j/d) modulo a
+pub record Shift (a b d j x : ℕ) : Type 0 where
+  pub below : x < a
+  pub times : ℕ
+  pub is : x + b * (j / d) ≡ times * a
+
+pub record ShiftsOf (a b d : ℕ) (shifts : List ℕ) : Type 0 where
+  pub size : length shifts ≡ 32
+  pub each : (j : ℕ) → j < 32 → Shift a b d j (getD shifts j 0)
