@@ -28,12 +28,12 @@ not-negative (pos n) h = refl
 not-negative (negsuc n) h = absurd (h .le)
 
 module _ (z : ℤ) (r : InRange z) where
-  offset-is : pos (offset z) ≡ z +ℤ pos 16
+  pub offset-is : pos (offset z) ≡ z +ℤ pos 16
   offset-is =
       not-negative (z +ℤ pos 16)
       (le-by (z ∷ []) (search reify depth 40) (omega (arith, of-le (z ∷ []) (r .0) (search reify depth 40))))
 
-  offset-below : offset z < 32
+  pub offset-below : offset z < 32
   offset-below =
       let ρ : List ℤ = pos (offset z) ∷ z ∷ [] in
       omega (arith, of-eq ρ offset-is (search reify depth 40), of-le ρ (r .1) (search reify depth 40))

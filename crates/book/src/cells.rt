@@ -9,7 +9,7 @@ ghost use Rattle.scope.specs.Plans.{at};
 ghost use Rattle.book.specs.Scan.{cellOf, isAmong, Tested};
 
 // A pixel's place in the window, row by row, from 0 to 1023; 1024 where its column is outside, else 1025 where its row is.
-fn cell(i: i8, j: i8) -> u16
+pub fn cell(i: i8, j: i8) -> u16
     ensures { λ r. ⌜ r ≡ cellOf (at i j) ⌝ }
 {
     let x = raised8(i) as u16;

@@ -6,6 +6,7 @@ mod record;
 mod scanner;
 mod writer;
 
+pub use cells::cell;
 pub use part::part_outcome;
 pub use part::part_place;
 pub use part::pattern_part;

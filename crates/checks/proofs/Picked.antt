@@ -201,6 +201,18 @@ module _ (f : ℕ → Bool) where
         ap length (picked-here e (l - suc e) pass),
       )
 
+  -- One number more: it counts if it passes.
+  one-more-splits : (n : ℕ) → length (picked 0 (suc n) f) ≡ length (picked 0 n f) + length (picked n 1 f)
+  one-more-splits n = let more : suc n ≡ n + 1 = omega arith in ap (λ (m : ℕ). length (picked 0 m f)) more ∙ count-splits n 1
+
+  pub picked-one-more : (n : ℕ) → f n ≡ true → length (picked 0 (suc n) f) ≡ suc (length (picked 0 n f))
+  unfolding picked
+  picked-one-more n e = omega (arith, one-more-splits n, ap length (picked-here n 0 e))
+
+  pub picked-no-more : (n : ℕ) → f n ≡ false → length (picked 0 (suc n) f) ≡ length (picked 0 n f)
+  unfolding picked
+  picked-no-more n e = omega (arith, one-more-splits n, ap length (picked-beyond n 0 e))
+
   -- The last of them comes after all others.
   abbrev pub LastPicked : ℕ → Type 0
   LastPicked n = (l : ℕ) × (l < n) × (f l ≡ true) × (length (picked 0 n f) ≡ suc (length (picked 0 l f)))
@@ -210,13 +222,10 @@ module _ (f : ℕ → Bool) where
   last-picked zero = inl refl
   last-picked (suc n) = by-test (f n) refl (last-picked n)
     where
-      split : length (picked 0 (suc n) f) ≡ length (picked 0 n f) + length (picked n 1 f)
-      split = let more : suc n ≡ n + 1 = omega arith in ap (λ (m : ℕ). length (picked 0 m f)) more ∙ count-splits n 1
-
       by-test : (b : Bool) → f n ≡ b → (length (picked 0 n f) ≡ 0) ⊎ LastPicked n → (length (picked 0 (suc n) f) ≡ 0) ⊎ LastPicked (suc n)
-      by-test true e r = inr (n, omega arith, e, omega (arith, split, ap length (picked-here n 0 e)))
-      by-test false e (inl no-one) = inl (omega (arith, split, ap length (picked-beyond n 0 e)))
-      by-test false e (inr (l, below, pass, size)) = inr (l, omega arith, pass, omega (arith, split, ap length (picked-beyond n 0 e)))
+      by-test true e r = inr (n, omega arith, e, picked-one-more n e)
+      by-test false e (inl no-one) = inl (picked-no-more n e ∙ no-one)
+      by-test false e (inr (l, below, pass, size)) = inr (l, omega arith, pass, picked-no-more n e ∙ size)
 
   -- A search for the first number that passes gives the first picked one.
   pub first-is-picked :

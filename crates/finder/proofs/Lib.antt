@@ -24,3 +24,9 @@ pub mod TableSearch  -- what the table tells of a plan on trial
 pub mod MetAnswers  -- what the answer about a clash shows
 pub mod Meetings  -- the clash from the last position to the first
 pub mod Verdicts  -- the clash of a book by those of its patterns
+pub mod BookCells  -- the cells of a book are its pixels, raised
+pub mod CellEntries  -- the tables of a plan and the cells of a book, entry by entry
+pub mod CellBanks  -- the bank of a pixel by lane, shift and the first bank of its row
+pub mod Shifts  -- the shifts of the rows, one row after the other
+pub mod CountedBanks  -- counting the pixels to a bank decides whether a plan suits for r
+pub mod CountedPlans  -- what counting tells of a plan on trial

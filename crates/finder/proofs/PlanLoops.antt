@@ -33,6 +33,12 @@ found-none : {o : Option Plan} → o ≡ none → noPlan ≡ found o
 unfolding found
 found-none e = sym (ap found e)
 
+-- what holds for each of some tests holds for fewer
+pub searched-by :
+    {Tests Fewer : (Plan → Bool) → Type 0} {searched : (Plan → Bool) → Option Plan} {r : Planned}
+    → ((test : Plan → Bool) → Fewer test → Tests test) → Searched Tests searched r → Searched Fewer searched r
+searched-by among s = record { is = λ test t. s .is test (among test t) }
+
 -- A search by number: the numbers from k on and below e give nothing.
 pub record NoneFrom (Tests : (Plan → Bool) → Type 0) (f : (Plan → Bool) → ℕ → Option Plan) (k e : ℕ) : Type 0 where
   pub each : (c : ℕ) → k ≤ c → c < e → Searched Tests (λ test. f test c) noPlan

@@ -1,6 +1,7 @@
 -- What a book's table tells of a plan on trial.
 -- Assumes nothing.
 use Prim.Native.Nat.{ℕ, _+_, _*_, _≤_, _<_}
+use native.Mathlib.Omega.{arith}
 use mathlib.Core.Path.{_≡_, refl, sym, _∙_, ap, ap₂}
 use mathlib.Core.Bool.{Bool, true, false, not, _&&_}
 use mathlib.Core.List.{List}
@@ -13,7 +14,9 @@ use Rattle.scope.specs.declared.Planned.{Planned}
 use Rattle.scope.proofs.MethodAnswers.{fails, holds}
 use Rattle.finder.specs.Table.{rowMarked, rowsMarked, TestOf}
 use Rattle.finder.specs.Searching.{Searched}
+use Rattle.checks.proofs.BookTests.{book-legal-iff}
 use Rattle.finder.proofs.Tables.{suits-by-table}
+use Rattle.finder.proofs.OneCycle.{suits-all-one}
 use Rattle.finder.proofs.PlanLoops.{noPlan, trial-gives}
 
 -- A plan suits where neither its row 0 nor a row above is marked.
@@ -21,9 +24,11 @@ module _ {marks : List ℕ} {a b d : ℕ} (d-least : 1 ≤ d) (b-below : b < a) 
   trial-by-table :
       {x : Bool} → not (rowMarked marks a 0 (31 + a)) && not (rowsMarked marks a b d) ≡ x
       → Searched (TestOf marks) (λ test. trial test (a * d) b d) (found (whenever x (plan a b d)))
+  unfolding plan
   trial-by-table unmarked =
       trial-gives d-least b-below (λ test t.
       ap (λ (f : Plan → Bool). f (plan a b d)) (t .is)
+      ∙ suits-all-one (t .book) (book-legal-iff (t .book) .0 (t .legal)) (plan a b d) (omega arith) d-least
       ∙ suits-by-table (t .book) (t .legal) a b d d-least b-below
       ∙ ap (λ (m : List ℕ). not (rowMarked m a 0 (31 + a)) && not (rowsMarked m a b d)) (sym (t .table))
       ∙ unmarked)

@@ -3,16 +3,21 @@
 -- Assumes nothing.
 use Prim.Native.Nat.{ℕ, zero, suc, _+_, _*_, _/_, _%_, min, _<_}
 use mathlib.Core.Path.{_≡_}
-use mathlib.Core.Bool.{cond}
+use mathlib.Core.Bool.{Bool, cond}
+use mathlib.Core.Option.{none}
 use mathlib.Core.List.{List}
 use lib.Dec.{ltb}
 use lib.IntN.{pos}
 use lib.ListN.{length, getD}
 use Rattle.scope.specs.Search.{gather}
-use Rattle.scope.specs.Plans.{Pixel, at, pixelAt, patternAt}
+use Rattle.scope.specs.Plans.{Pixel, at, pixelAt, patternAt, patterns}
+use Rattle.scope.specs.Numbers.{recordTest}
+use Rattle.scope.specs.Cycles.{suitableFor}
 use Rattle.scope.specs.declared.Pattern.{Pattern}
 use Rattle.scope.specs.declared.Book.{Book}
+use Rattle.scope.specs.declared.Plan.{Plan}
 use Rattle.book.specs.Scan.{cellOf}
+use Rattle.finder.specs.Table.{TestOf}
 
 -- A pattern's 65 entries: its pixel count, then the cells of its pixels
 unfoldable pub patternEntry : Pattern → ℕ → ℕ
@@ -54,3 +59,15 @@ pub record Shift (a b d j x : ℕ) : Type 0 where
 pub record ShiftsOf (a b d : ℕ) (shifts : List ℕ) : Type 0 where
   pub size : length shifts ≡ 32
   pub each : (j : ℕ) → j < 32 → Shift a b d j (getD shifts j 0)
+
+-- test is the test for r of a book whose cells these are
+pub record CellTest (r : ℕ) (cells : List ℕ) (test : Plan → Bool) : Type 0 where
+  pub book : Book
+  pub legal : recordTest book ≡ none
+  pub entries : cells ≡ cellsOf book
+  pub is : test ≡ suitableFor r (patterns book)
+
+-- The finder goes by a book's marks for r = 1, and by its cells for any other r.
+pub record TestFor (r : ℕ) (marks cells : List ℕ) (test : Plan → Bool) : Type 0 where
+  pub by-marks : r ≡ 1 → TestOf marks test
+  pub by-cells : (r ≡ 1 → ⊥) → CellTest r cells test

@@ -11,7 +11,7 @@ use lib.IntN.{ℤ, pos, negsuc, natAbs, _+ℤ_}
 use lib.ListN.{getD, set, replicate}
 use Rattle.scope.specs.Search.{someBelow}
 use Rattle.scope.specs.Plans.{Pixel, minus, pixelAt, patternAt, patterns}
-use Rattle.scope.specs.Finding.{suitable}
+use Rattle.scope.specs.Cycles.{suitableFor}
 use Rattle.scope.specs.Numbers.{recordTest}
 use Rattle.scope.specs.declared.Pattern.{Pattern}
 use Rattle.scope.specs.declared.Book.{Book}
@@ -61,9 +61,9 @@ unfolding someBelow rowMarked
 rowsMarked marks a b d =
     someBelow 32 λ j. leb 1 j && eqb (j % d) 0 && rowMarked marks a j ((31 + b * (j / d)) % a)
 
--- test is the finder's test of a book whose table this is
+-- test is the test for r = 1 of a book whose table this is
 pub record TestOf (marks : List ℕ) (test : Plan → Bool) : Type 0 where
   pub book : Book
   pub legal : recordTest book ≡ none
   pub table : marks ≡ markBook book (book .count)
-  pub is : test ≡ suitable (patterns book)
+  pub is : test ≡ suitableFor 1 (patterns book)

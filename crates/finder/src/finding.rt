@@ -1,5 +1,7 @@
 // The finder. It marks the differences of a book's patterns in a table of the upper half window, rows 0 to 31 and columns -31 to
 // 31, and tries the plans in order: a plan suits if no cell of its lattice is marked, but for the origin's.
+use crate::cells::put_cells;
+use crate::counting::counted_b;
 use book::record_outcome;
 use integers::raised8;
 use scope::Book;
@@ -13,12 +15,14 @@ ghost use mathlib.Core.Path.{_≡_};
 ghost use mathlib.Core.Option.{none};
 ghost use Prim.Native.Nat.{_+_, _*_, _%_, _≤_, _<_};
 ghost use lib.ListN.{length, replicate};
-ghost use Rattle.scope.specs.Plans.{at, minus};
+ghost use Rattle.scope.specs.Plans.{at, minus, patterns};
 ghost use Rattle.scope.specs.Finding.{firstWith, leastOf};
 ghost use Rattle.scope.specs.Numbers.{recordTest};
-ghost use Rattle.scope.specs.Calls.{find, fewest};
+ghost use Rattle.scope.specs.Cycles.{leastPlanFor};
+ghost use Rattle.scope.specs.Calls.{found, find, fewest};
 ghost use Rattle.finder.specs.Table.{tableCell, markFrom, markPattern, markBook, rowMarked, rowsMarked, TestOf};
 ghost use Rattle.finder.specs.Searching.{leastBelow, Searched};
+ghost use Rattle.finder.specs.Counting.{TestFor};
 
 // The cell of (i, j) - (x, y): 63 to a row, column -31 first; 2016 where the difference is outside the half window.
 fn difference_cell(i: i8, j: i8, x: i8, y: i8) -> usize
@@ -152,11 +156,22 @@ fn least_b(marks: &[u8], a: usize, d: usize, below: usize) -> Planned
     Planned::Refused(Refusal::NoPlan)
 }
 
-// Of the suiting plans with n banks the one with least b, then least d. It goes by d, and a later plan replaces an earlier one only
-// with a smaller b.
-fn first_with(marks: &[u8], n: usize) -> Planned
-    requires { ⌜ (length (now marks) ≡ 2017) × (n ≤ 1024) ⌝ }
-    ensures { λ r. ⌜ Searched (TestOf (now (marks .entry))) (λ test. firstWith test n) r ⌝ }
+// The same for r, of the plans that suit for r: by the marks for r = 1, and by the cells for any other.
+fn least_b_for(marks: &[u8], cells: &[u16], r: u8, a: usize, d: usize, below: usize) -> Planned
+    requires { ⌜ (length (now marks) ≡ 2017) × (length (now cells) ≡ 1040) × (1 ≤ a) × (1 ≤ d) × (a * d ≤ 1024) ⌝ }
+    ensures { λ x. ⌜ Searched (TestFor r (now (marks .entry)) (now (cells .entry))) (λ test. leastBelow test (a * d) d below) x ⌝ }
+{
+    if r == 1 {
+        return least_b(marks, a, d, below);
+    }
+    counted_b(cells, r, a, d, below)
+}
+
+// Of the plans with n banks that suit for r the one with least b, then least d. It goes by d, and a later plan replaces an earlier
+// one only with a smaller b.
+fn first_with(marks: &[u8], cells: &[u16], r: u8, n: usize) -> Planned
+    requires { ⌜ (length (now marks) ≡ 2017) × (length (now cells) ≡ 1040) × (n ≤ 1024) ⌝ }
+    ensures { λ x. ⌜ Searched (TestFor r (now (marks .entry)) (now (cells .entry))) (λ test. firstWith test n) x ⌝ }
 {
     let mut best = Planned::Refused(Refusal::NoPlan);
     let mut below = n;
@@ -164,7 +179,7 @@ fn first_with(marks: &[u8], n: usize) -> Planned
     while d < n {
         d += 1;
         if n % d == 0 {
-            let p = least_b(marks, n / d, d, below);
+            let p = least_b_for(marks, cells, r, n / d, d, below);
             if let Planned::Plan(q) = p {
                 best = p;
                 below = q.b as usize;
@@ -174,20 +189,35 @@ fn first_with(marks: &[u8], n: usize) -> Planned
     best
 }
 
-// Of the suiting plans with at most `limit` banks the one with the fewest, or 7.
-fn least_plan(marks: &[u8], limit: usize) -> Planned
-    requires { ⌜ (length (now marks) ≡ 2017) × (limit ≤ 1024) ⌝ }
-    ensures { λ r. ⌜ Searched (TestOf (now (marks .entry))) (λ test. leastOf test limit) r ⌝ }
+// Of the plans with at most `limit` banks that suit for r the one with the fewest, or 7.
+fn least_plan(marks: &[u8], cells: &[u16], r: u8, limit: usize) -> Planned
+    requires { ⌜ (length (now marks) ≡ 2017) × (length (now cells) ≡ 1040) × (limit ≤ 1024) ⌝ }
+    ensures { λ x. ⌜ Searched (TestFor r (now (marks .entry)) (now (cells .entry))) (λ test. leastOf test limit) x ⌝ }
 {
     let mut n = 1;
     while n <= limit {
-        let p = first_with(marks, n);
+        let p = first_with(marks, cells, r, n);
         if let Planned::Plan(_) = p {
             return p;
         }
         n += 1;
     }
     Planned::Refused(Refusal::NoPlan)
+}
+
+// The plan for r of a legal book with the fewest banks within the limit, or 7.
+fn plan_for(book: Book, r: u8, limit: usize) -> Planned
+    requires { ⌜ (recordTest book ≡ none) × (limit ≤ 1024) ⌝ }
+    ensures { λ x. ⌜ x ≡ found (leastPlanFor r (patterns book) limit) ⌝ }
+{
+    let mut marks = [0u8; 2017];
+    let mut cells = [0u16; 1040];
+    if r == 1 {
+        mark_book(book, &mut marks);
+        return least_plan(&marks, &cells, r, limit);
+    }
+    put_cells(book, &mut cells);
+    least_plan(&marks, &cells, r, limit)
 }
 
 // The plan with the fewest banks within the limit, of several the one with least b, then least d; or 2, 3, 4, 19, 6, 7.
@@ -204,9 +234,7 @@ pub fn find(book: Book, limit: u32) -> Planned
     if 1024 < limit {
         return Planned::Refused(Refusal::Limit);
     }
-    let mut marks = [0u8; 2017];
-    mark_book(book, &mut marks);
-    least_plan(&marks, limit as usize)
+    plan_for(book, 1, limit as usize)
 }
 
 // The least count of a book, the N of the finder's plan at limit 1024, or 2, 3, 4, 19.

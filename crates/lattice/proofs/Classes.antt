@@ -3,25 +3,26 @@
 -- Assumes nothing.
 use Prim.Native.Nat.{ℕ, _≤_, _<_}
 use native.Mathlib.Omega.{arith}
-use mathlib.Core.Path.{_≡_, refl, ap, subst}
+use mathlib.Core.Path.{_≡_, refl, _∙_, ap, ap₂, subst}
 use mathlib.Core.Logic.{_↔_}
 use mathlib.Core.Bool.{true, false, not}
-use mathlib.Core.List.{List, [], _∷_, List·Memᴰ, List·Memᴰ·head}
+use mathlib.Core.List.{List, [], _∷_, map, List·Memᴰ, List·Memᴰ·head}
 use lib.Dec.{ltb}
-use lib.IntN.{ℤ, pos, _-ℤ_}
-use lib.ListN.{length}
+use lib.IntN.{ℤ, pos, _-ℤ_, _+ℤ_}
+use lib.ListN.{length, length-map}
 use Rattle.integers.proofs.Ring.{ring, reify}
 use Rattle.integers.proofs.Comparisons.{ltb-false-iff}
-use Rattle.scope.specs.Search.{picked}
-use Rattle.scope.specs.Plans.{Pixel, at, minus, Combination, InLattice, along, up}
+use Rattle.scope.specs.Search.{picked, someBelow}
+use Rattle.scope.specs.Plans.{Pixel, at, plus, minus, Combination, InLattice, along, up, latticeTest}
 use Rattle.scope.specs.Finding.{pixelIn, together}
 use Rattle.scope.specs.Cycles.{classOf, suitsFor, suitsAllFor}
 use Rattle.scope.specs.promises.CyclePromises.{OneClass, UncrowdedIn, SuitsForMeans}
 use Rattle.scope.specs.declared.Plan.{Plan}
 use Rattle.scope.proofs.MethodAnswers.{fails}
-use Rattle.checks.proofs.Searches.{someBelow-none, none-someBelow, every-holds, holds-every}
-use Rattle.checks.proofs.Picked.{Ahead, mem-picked, picked-first, picked-ascend}
-use Rattle.checks.proofs.Patterns.{same-coordinates}
+use Rattle.checks.proofs.Searches.{someBelow-none, none-someBelow, someBelow-same, every-holds, holds-every}
+use Rattle.checks.proofs.Lists.{getD-map}
+use Rattle.checks.proofs.Picked.{mem-picked, picked-first, picked-ascend, picked-same}
+use Rattle.checks.proofs.Patterns.{origin, same-coordinates}
 use Rattle.lattice.proofs.Membership.{lattice-means, combination-of-difference, zero-is-combination}
 
 -- By positions: no class is larger.
@@ -101,6 +102,38 @@ pub suits-all-for-iff :
     (r : ℕ) (p : Plan) (ts : List (List Pixel)) → (suitsAllFor r p ts ≡ true) ↔ ((t : List Pixel) → List·Memᴰ t ts → suitsFor r p t ≡ true)
 unfolding suitsAllFor
 suits-all-for-iff r p ts = (every-holds (suitsFor r p) ts, holds-every (suitsFor r p) ts)
+
+-- moving two pixels alike keeps their difference
+pub moved-difference : (o v w : Pixel) → minus (plus o v) (plus o w) ≡ minus v w
+unfolding minus plus
+moved-difference o v w =
+    same-coordinates (along (o .column) (v .column) (w .column)) (along (o .row) (v .row) (w .row))
+  where
+    along : (x y z : ℤ) → (x +ℤ y) -ℤ (x +ℤ z) ≡ y -ℤ z
+    along x y z = ring (x ∷ y ∷ z ∷ []) (search reify depth 40 fits 9000) refl
+
+-- so moving a pattern keeps its classes, and what suits it.
+module _ (p : Plan) (o : Pixel) (t : List Pixel) where
+  moved-pixel : (e : ℕ) → e < length t → pixelIn (map (plus o) t) e ≡ plus o (pixelIn t e)
+  moved-pixel e h = getD-map (plus o) t e origin origin h
+
+  moved-together : (e l : ℕ) → e < length t → l < length t → together p (map (plus o) t) e l ≡ together p t e l
+  unfolding together
+  moved-together e l h k =
+      ap (latticeTest p) (ap₂ minus (moved-pixel l k) (moved-pixel e h) ∙ moved-difference o (pixelIn t l) (pixelIn t e))
+
+  moved-class : (e : ℕ) → e < length t → classOf p (map (plus o) t) e ≡ classOf p t e
+  unfolding classOf
+  moved-class e h =
+      ap (λ (n : ℕ). picked 0 n (together p (map (plus o) t) e)) (length-map t (plus o))
+      ∙ picked-same (together p (map (plus o) t) e) (together p t e) (length t) 0 (λ l _ k. moved-together e l h (omega arith))
+
+  pub moved-suits-for : (r : ℕ) → suitsFor r p (map (plus o) t) ≡ suitsFor r p t
+  unfolding suitsFor
+  moved-suits-for r =
+      ap not
+      (ap (λ (n : ℕ). someBelow n (λ e. ltb r (length (classOf p (map (plus o) t) e)))) (length-map t (plus o))
+      ∙ someBelow-same (length t) _ _ (λ e h. ap (λ (es : List ℕ). ltb r (length es)) (moved-class e h)))
 
 pub suits-for-means-classes : SuitsForMeans
 suits-for-means-classes =

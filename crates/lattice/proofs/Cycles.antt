@@ -7,11 +7,9 @@ use native.Mathlib.Omega.{arith}
 use mathlib.Core.Path.{_≡_, refl, _∙_, ap, subst}
 use mathlib.Core.Logic.{_↔_, _⊎_, inl, inr}
 use mathlib.Core.Bool.{Bool, true}
-use mathlib.Core.List.{List, [], _∷_}
+use mathlib.Core.List.{List}
 use lib.Dec.{eqb}
-use lib.IntN.{ℤ, _-ℤ_, _+ℤ_}
 use lib.ListN.{length}
-use Rattle.integers.proofs.Ring.{ring, reify}
 use Rattle.integers.proofs.Comparisons.{eqb-iff, same-truth}
 use Rattle.scope.specs.Search.{picked}
 use Rattle.scope.specs.Plans.{Pixel, plus, minus, InLattice}
@@ -22,19 +20,9 @@ use Rattle.scope.specs.promises.Meaning.{IsPlan}
 use Rattle.scope.specs.promises.CyclePromises.{CyclesPart}
 use Rattle.scope.specs.declared.Plan.{Plan}
 use Rattle.checks.proofs.Searches.{length-gather, getD-gather}
-use Rattle.checks.proofs.Patterns.{same-coordinates}
 use Rattle.checks.proofs.Picked.{LastPicked, picked-more, last-picked, picked-same}
 use Rattle.lattice.proofs.SameBank.{same-bank-means-lattice, lattice-means-same-bank}
-use Rattle.lattice.proofs.Classes.{suits-for-iff, together-iff}
-
--- moving two pixels alike keeps their difference
-moved-difference : (o v w : Pixel) → minus (plus o v) (plus o w) ≡ minus v w
-unfolding minus plus
-moved-difference o v w =
-    same-coordinates (along (o .column) (v .column) (w .column)) (along (o .row) (v .row) (w .row))
-  where
-    along : (x y z : ℤ) → (x +ℤ y) -ℤ (x +ℤ z) ≡ y -ℤ z
-    along x y z = ring (x ∷ y ∷ z ∷ []) (search reify depth 40 fits 9000) refl
+use Rattle.lattice.proofs.Classes.{suits-for-iff, together-iff, moved-difference}
 
 module _ (p : Plan) (t : List Pixel) where
   -- position l has a pixel in the bank of that at e
@@ -85,7 +73,7 @@ module _ (p : Plan) (legal : IsPlan p) (t : List Pixel) where
       )
 
   -- and where each cycle is below r it suits for r: the last pixel of a class has the others before it.
-  cycles-below-suits : (r : ℕ) → ((e : ℕ) → e < length t → cycleOf p t e < r) → suitsFor r p t ≡ true
+  pub cycles-below-suits : (r : ℕ) → ((e : ℕ) → e < length t → cycleOf p t e < r) → suitsFor r p t ≡ true
   unfolding cycleOf
   cycles-below-suits r h = suits-for-iff r p t .1 (λ e _. by-last e (last-picked (inBank p t e) (length t)))
     where

@@ -1,9 +1,9 @@
 -- `finder::finding::find` meets its contract: the record's tests come first, then that of the limit, and where neither refuses
--- the search by the book's table answers.
+-- the search for r = 1 answers.
 -- Assumes nothing.
 use Prim.Native.Nat.{ℕ, _≤_}
 use native.Mathlib.Omega.{arith}
-use mathlib.Core.Path.{_≡_, refl, sym, _∙_}
+use mathlib.Core.Path.{_≡_, sym, _∙_, ap}
 use mathlib.Core.Option.{none}
 use mathlib.Core.List.{[], _∷_}
 use borrow.Author.Needs.{needs}
@@ -19,6 +19,7 @@ use Rattle.checks.proofs.Deciding.{limit-decides}
 use Rattle.checks.proofs.BookTests.{book-legal-iff}
 use Rattle.book.proofs.Outcomes.{record-taken, record-turned-down}
 use Rattle.finder.proofs.FindAnswers.{find-refused, book-refused, legal-find}
+use Rattle.finder.proofs.OneCycle.{least-plan-one}
 use Rattle.finder.proofs.finding.find.Statement.{statement}
 use Rattle.finder.proofs.finding.find.Tie as tie
 
@@ -56,14 +57,15 @@ returns-3 c = limit-refused _ _ (legal (c .before .before)) (λ h. omega (arith,
 abbrev tested : tie.Else2 → tie.After-enum-told
 tested c = c .before .before
 
-mark-book-requires : tie.Need-mark-book-requires
-mark-book-requires c κs = (legal (tested (c .before)), refl)
+plan-for-requires : tie.Need-plan-for-requires
+plan-for-requires c κs = (legal (tested c), omega arith)
 
 returns-4 : tie.Need-returns-4
 returns-4 c =
-    let m = c .before .before .before in
-    let is-book = legal (tested (m .before .before)) in
-    c .least-plan .ensures .is _ (record { book = _; legal = is-book; table = m .mark-book .ensures; is = refl })
+    let e = c .before in
+    let is-book = legal (tested e) in
+    c .plan-for .ensures
+    ∙ ap found (least-plan-one _ (book-legal-iff _ .0 is-book) _)
     ∙ searched _ _ is-book (omega arith) (omega arith)
 
 pub find-spec : {M : Type 1} → statement M
@@ -75,7 +77,5 @@ find-spec =
     (λ c. search needs)
     returns-2
     returns-3
-    (λ c. search needs)
-    mark-book-requires
-    (λ c. search needs) (λ c κs. search needs)
+    plan-for-requires
     returns-4)

@@ -2,26 +2,26 @@
 -- the next one must have a smaller b. The measure is the number of d's that are left.
 -- Assumes nothing.
 use Prim.Native.Nat.{_+_, _-_, _≤_}
-use native.Mathlib.Nat.{le-div-iff-mul-le, div-le-self}
+use native.Mathlib.Nat.{le-div-iff-mul-le, div-add-mod'}
 use native.Mathlib.Omega.{arith}
 use mathlib.Core.Path.{refl}
 use borrow.Author.Needs.{needs}
-use Rattle.finder.specs.Table.{TestOf}
+use Rattle.finder.specs.Counting.{TestFor}
 use Rattle.finder.proofs.PlanLoops.{BestIn, none-best, best-replaced, best-stays, best-at-end, divisor-searched, no-divisor-none}
 use Rattle.finder.proofs.finding.first_with.Statement.{statement}
 use Rattle.finder.proofs.finding.first_with.Tie as tie
 
 abbrev Inv-loop : tie.InvT-loop
-Inv-loop marks n best₀ below₀ d₀ best below d = (d ≤ n) × BestIn (TestOf marks) n d best below
+Inv-loop marks cells r n best₀ below₀ d₀ best below d = (d ≤ n) × BestIn (TestFor r marks cells) n d best below
 
 abbrev μ-loop : tie.MeasureT-loop
-μ-loop marks n best₀ below₀ d₀ best below d = n - d
+μ-loop marks cells r n best₀ below₀ d₀ best below d = n - d
 
 loop-holds : tie.Need-loop-holds Inv-loop μ-loop
 loop-holds c = (omega arith, none-best _)
 
 abbrev start : tie.At-loop Inv-loop μ-loop → tie.Start Inv-loop μ-loop
-start c = c .before .before
+start c = c .before .before .before
 
 add-d : tie.Need-add-d Inv-loop μ-loop
 add-d c = omega (arith, start (c .before) .pre)
@@ -30,16 +30,16 @@ add-d c = omega (arith, start (c .before) .pre)
 abbrev head : tie.Then1 Inv-loop μ-loop → tie.At-loop Inv-loop μ-loop
 head c = c .before .before
 
-least-b-requires : tie.Need-least-b-requires Inv-loop μ-loop
-least-b-requires c κs =
+least-b-for-requires : tie.Need-least-b-for-requires Inv-loop μ-loop
+least-b-for-requires c κs =
     let l = head c in
     let n = start l .args .n in
     let h = start l .pre in (
       h .0,
+      h .1,
       le-div-iff-mul-le {k = l .loop .d + 1} (omega arith) .1 (omega arith),
-      omega (arith, h .1, div-le-self n (l .loop .d + 1)),
       omega arith,
-      omega (arith, h .1),
+      omega (arith, h .2, div-add-mod' n (l .loop .d + 1)),
     )
 
 -- what the search with this divisor gave
@@ -49,7 +49,7 @@ loop-again c =
     let l = head (k .before) in
     let n = start l .args .n in (
       omega arith,
-      best-replaced n (l .loop .d) (l .loop .inv .1) (divisor-searched n (l .loop .d + 1) _ (k .before .if1 .taken) (k .least-b .ensures))
+      best-replaced n (l .loop .d) (l .loop .inv .1) (divisor-searched n (l .loop .d + 1) _ (k .before .if1 .taken) (k .least-b-for .ensures))
           (c .before .before .p .given .1),
     )
 
@@ -59,7 +59,7 @@ loop-again-2 c =
     let l = head (k .before) in
     let n = start l .args .n in (
       omega arith,
-      best-stays n (l .loop .d) (l .loop .inv .1) (divisor-searched n (l .loop .d + 1) _ (k .before .if1 .taken) (k .least-b .ensures))
+      best-stays n (l .loop .d) (l .loop .inv .1) (divisor-searched n (l .loop .d + 1) _ (k .before .if1 .taken) (k .least-b-for .ensures))
           (c .enum-told .given .1),
     )
 
@@ -81,7 +81,7 @@ first-with-spec =
     loop-holds
     add-d
     (λ c. omega arith) (λ c. omega arith)
-    least-b-requires
+    least-b-for-requires
     (λ c. search needs)
     (λ c. record { fits = omega (arith, c .struct-known .given .1 .0 .fits) })
     (λ c. omega arith)

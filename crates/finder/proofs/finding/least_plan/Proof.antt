@@ -5,25 +5,25 @@ use Prim.Native.Nat.{_+_, _-_, _≤_}
 use native.Mathlib.Omega.{arith}
 use borrow.Author.Needs.{needs}
 use Rattle.scope.specs.Finding.{firstWith, leastOf}
-use Rattle.finder.specs.Table.{TestOf}
+use Rattle.finder.specs.Counting.{TestFor}
 use Rattle.finder.proofs.PlanLoops.{NoneFrom, none-yet, one-more-none, found-at, found-nowhere}
 use Rattle.finder.proofs.finding.least_plan.Statement.{statement}
 use Rattle.finder.proofs.finding.least_plan.Tie as tie
 
 abbrev Inv-loop : tie.InvT-loop
-Inv-loop marks limit n₀ n = (1 ≤ n) × (n ≤ limit + 1) × NoneFrom (TestOf marks) firstWith 1 n
+Inv-loop marks cells r limit n₀ n = (1 ≤ n) × (n ≤ limit + 1) × NoneFrom (TestFor r marks cells) firstWith 1 n
 
 abbrev μ-loop : tie.MeasureT-loop
-μ-loop marks limit n₀ n = limit + 1 - n
+μ-loop marks cells r limit n₀ n = limit + 1 - n
 
 loop-holds : tie.Need-loop-holds Inv-loop μ-loop
 loop-holds c = (omega arith, omega arith, none-yet firstWith 1)
 
 abbrev start : tie.At-loop Inv-loop μ-loop → tie.Start Inv-loop μ-loop
-start c = c .before .before
+start c = c .before .before .before
 
 first-with-requires : tie.Need-first-with-requires Inv-loop μ-loop
-first-with-requires c κs = let h = start (c .before) .pre in (h .0, omega (arith, h .1))
+first-with-requires c κs = let h = start (c .before) .pre in (h .0, h .1, omega (arith, h .2))
 
 -- the head of the turn in which n banks were searched
 abbrev head : tie.After-first-with Inv-loop μ-loop → tie.At-loop Inv-loop μ-loop

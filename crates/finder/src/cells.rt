@@ -1,0 +1,38 @@
+// The pixels of a book as cells of the window, in a lent array.
+use book::cell;
+use scope::Book;
+use scope::Pattern;
+ghost use mathlib.Core.Path.{_≡_};
+ghost use mathlib.Core.Option.{none};
+ghost use Prim.Native.Nat.{_≤_, _<_};
+ghost use lib.ListN.{replicate};
+ghost use Rattle.scope.specs.Numbers.{recordTest};
+ghost use Rattle.finder.specs.Counting.{patternEntry, cellsOf};
+
+// The entries of a pattern: its pixel count, then the cells of its pixels.
+fn entry_of(t: Pattern, k: usize) -> u16
+    requires { ⌜ (t .used ≤ 64) × (k < 65) ⌝ }
+    ensures { λ r. ⌜ r ≡ patternEntry t k ⌝ }
+{
+    if k == 0 {
+        return t.used as u16;
+    }
+    let e = k - 1;
+    let i = t.columns[e];
+    let j = t.rows[e];
+    cell(i, j)
+}
+
+// Puts the entries of a book's patterns one after the other; the rest stays 0.
+pub(crate) fn put_cells(book: Book, cells: &mut [u16])
+    requires { ⌜ (recordTest book ≡ none) × (now cells ≡ replicate 1040 0) ⌝ }
+    ensures { λ r. ⌜ now (cells .exit) ≡ cellsOf book ⌝ }
+{
+    let end = 65 * book.count;
+    let mut k = 0;
+    while k < end {
+        let t = book.patterns[k / 65];
+        cells[k] = entry_of(t, k % 65);
+        k += 1;
+    }
+}
