@@ -8,11 +8,11 @@ use lib.IntN.{ℤ, pos}
 use Rattle.scope.specs.Search.{gather}
 use Rattle.scope.specs.Plans.{Pixel, at, plan}
 use Rattle.scope.specs.Books.{bookOf}
-use Rattle.scope.specs.Numbers.{Answer, value, refusal}
-use Rattle.scope.specs.Calls.{bank, depth, address, locate, lent, store, load, clear, sum, fetch, ringFetch, fillRecords}
+use Rattle.scope.specs.Numbers.{Answer, value, refusal, ofCounted, ofVerdict, positionsIn}
+use Rattle.scope.specs.Calls.{check, bank, depth, address, locate, lent, store, load, clear, sum, fetch, ringFetch, fillRecords}
 use Rattle.scope.specs.code.Words.{word}
 use Rattle.scope.specs.promises.Demand as Demand
-use Rattle.scope.specs.values.Rows.{Row, Hold, row, is, refused, clashes, counted, loaded, located, done, records, neg, px, one, two, down, finds, checks}
+use Rattle.scope.specs.values.Rows.{Row, Hold, row, is, refused, clashes, counted, loaded, located, done, records, neg, px, one, two, down, gap, finds, checks}
 use Rattle.scope.specs.declared.Plan.{Plan}
 use Rattle.scope.specs.declared.Book.{Book}
 use Rattle.scope.specs.declared.PixelRecord.{PixelRecord}
@@ -135,6 +135,24 @@ ringFetching =
 ringFetching-hold : Hold ringFetching
 unfolding ringFetching
 ringFetching-hold = refl
+
+-- The positions beside an answer, in nine places: those of a clash, then 0; of a value and of another refusal 0. Under plan 2, 0, 1
+-- the second and the third pixel of `gap` have one bank.
+clashPositions : List Row
+unfolding row is plan two gap px bookOf upTo check fetch ringFetch
+clashPositions =
+    row (is (positionsIn (ofVerdict (check (bookOf gap) (px 2 0) (px 0 1))))) (is (1 ∷ 2 ∷ 0 ∷ 0 ∷ 0 ∷ 0 ∷ 0 ∷ 0 ∷ 0 ∷ []))
+    ∷ row (is (positionsIn (ofVerdict (check (bookOf (two ∷ [])) (px 2 0) (px 0 1))))) (is (0 ∷ 0 ∷ 0 ∷ 0 ∷ 0 ∷ 0 ∷ 0 ∷ 0 ∷ 0 ∷ []))
+    ∷ row (is (positionsIn (ofVerdict (check (bookOf gap) (px 2 0) (px 2 0))))) (is (0 ∷ 0 ∷ 0 ∷ 0 ∷ 0 ∷ 0 ∷ 0 ∷ 0 ∷ 0 ∷ []))
+    ∷ row (is (positionsIn (ofCounted (fetch (bookOf gap) (plan 2 0 1) 4 1 (upTo 4) 0 (px 0 0) [] .answer)))) (is (1 ∷ 2 ∷ 0 ∷ 0 ∷ 0 ∷ 0 ∷ 0 ∷ 0 ∷ 0 ∷ []))
+    ∷ row (is (positionsIn (ofCounted (fetch (bookOf (two ∷ [])) (plan 2 0 1) 2 2 (upTo 4) 0 (px 0 1) (8 ∷ 8 ∷ []) .answer)))) (is (0 ∷ 0 ∷ 0 ∷ 0 ∷ 0 ∷ 0 ∷ 0 ∷ 0 ∷ 0 ∷ []))
+    ∷ row (is (positionsIn (ofCounted (fetch (bookOf (two ∷ [])) (plan 2 0 1) 2 2 (upTo 4) 0 (px 1 1) [] .answer)))) (is (0 ∷ 0 ∷ 0 ∷ 0 ∷ 0 ∷ 0 ∷ 0 ∷ 0 ∷ 0 ∷ []))
+    ∷ row (is (positionsIn (ofCounted (ringFetch (bookOf gap) (plan 2 0 1) 4 2 (upTo 8) 0 (px 0 0) [] .answer)))) (is (1 ∷ 2 ∷ 0 ∷ 0 ∷ 0 ∷ 0 ∷ 0 ∷ 0 ∷ 0 ∷ []))
+    ∷ []
+
+clashPositions-hold : Hold clashPositions
+unfolding clashPositions
+clashPositions-hold = refl
 
 -- The record list: filled whole, or not at all.
 filling : List Row
