@@ -153,6 +153,14 @@ fn either_fetch(
     fetch_rest(start, ring, t, p, w, h, mem, i, j, out)
 }
 
+// An answer with the positions of its clash beside it.
+fn with_positions(counted: Counted) -> FetchAnswer
+    ensures { λ r. ⌜ (r .counted ≡ counted) × (r .positions ≡ positionsIn (ofCounted counted)) ⌝ }
+{
+    let positions = counted_positions(counted);
+    FetchAnswer { counted, positions }
+}
+
 // Fetches pattern n moved to (i, j) and tells how many words, or 2, 3, 4, 19, 11, 12, 13, 17, 10, 14, 16 and the output as it was.
 pub fn fetch(
     book: Book,
@@ -167,9 +175,7 @@ pub fn fetch(
 ) -> FetchAnswer
     ensures { λ r. ⌜ (r .counted ≡ fetch book p w h (now (mem .entry)) n (at i j) (now (out .entry)) .answer) × (now (out .exit) ≡ fetch book p w h (now (mem .entry)) n (at i j) (now (out .entry)) .content) × (r .positions ≡ positionsIn (ofCounted (fetch book p w h (now (mem .entry)) n (at i j) (now (out .entry)) .answer))) ⌝ }
 {
-    let counted = either_fetch(false, book, p, w, h, mem, n, i, j, out);
-    let positions = counted_positions(counted);
-    FetchAnswer { counted, positions }
+    with_positions(either_fetch(false, book, p, w, h, mem, n, i, j, out))
 }
 
 // The same around the picture's edges; 18 in the place of 14.
@@ -186,7 +192,5 @@ pub fn ring_fetch(
 ) -> FetchAnswer
     ensures { λ r. ⌜ (r .counted ≡ ringFetch book p w h (now (mem .entry)) n (at i j) (now (out .entry)) .answer) × (now (out .exit) ≡ ringFetch book p w h (now (mem .entry)) n (at i j) (now (out .entry)) .content) × (r .positions ≡ positionsIn (ofCounted (ringFetch book p w h (now (mem .entry)) n (at i j) (now (out .entry)) .answer))) ⌝ }
 {
-    let counted = either_fetch(true, book, p, w, h, mem, n, i, j, out);
-    let positions = counted_positions(counted);
-    FetchAnswer { counted, positions }
+    with_positions(either_fetch(true, book, p, w, h, mem, n, i, j, out))
 }

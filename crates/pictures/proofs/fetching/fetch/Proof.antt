@@ -14,7 +14,8 @@ returns c =
     let e = c .before .before .before in
     let f = e .before .before .before .before .fits in
     let (answer, content) = is-fetch _ _ _ _ _ _ _ _ (pixel-handed (f .i) (f .j)) (e .either-fetch .ensures) in
-    (answer, content, c .counted-positions .ensures ∙ ap (λ (x : Counted). positionsIn (ofCounted x)) answer)
+    let (counted, positions) = c .with-positions .ensures in
+    (counted ∙ answer, content, positions ∙ ap (λ (x : Counted). positionsIn (ofCounted x)) answer)
 
 pub fetch-spec : {M : Type 1} → statement M
 fetch-spec = tie.close (tie.spec (λ c κs. search needs) (λ c κs. search needs) (λ c. search needs) returns)
