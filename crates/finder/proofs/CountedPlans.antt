@@ -7,7 +7,7 @@ use native.Mathlib.Decide.{decLt}
 use mathlib.Core.Path.{_≡_, refl, sym, _∙_, ap, subst}
 use mathlib.Core.Bool.{Bool, true, false, not, Bool·not-not}
 use mathlib.Core.Option.{none}
-use mathlib.Core.List.{List, []}
+use mathlib.Core.List.{List}
 use Rattle.scope.specs.Search.{someBelow, whenever}
 use Rattle.scope.specs.Plans.{Pixel, plan, pixels, patternAt, patterns}
 use Rattle.scope.specs.Finding.{trial}

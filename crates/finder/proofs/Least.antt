@@ -1,19 +1,19 @@
 -- The finder's count is least among all pairs of integer vectors that part the pixels of each pattern, and 7 comes exactly where
 -- none is within the limit: the case r = 1 of LeastCycles.antt.
 -- Assumes nothing.
-use Prim.Native.Nat.{ℕ, _≤_}
+use Prim.Native.Nat.{ℕ}
 use mathlib.Core.Path.{_≡_, refl, sym, _∙_}
 use mathlib.Core.Logic.{_⊎_, inl, inr}
 use mathlib.Core.Option.{Option, none, some}
-use Rattle.scope.specs.Plans.{patterns, banks}
+use Rattle.scope.specs.Plans.{patterns}
 use Rattle.scope.specs.Finding.{leastPlan}
 use Rattle.scope.specs.Cycles.{leastPlanFor}
 use Rattle.scope.specs.Numbers.{value, refusal, ofPlanned}
 use Rattle.scope.specs.Calls.{find}
-use Rattle.scope.specs.promises.Meaning.{IsPlan, IsBook}
+use Rattle.scope.specs.promises.Meaning.{IsBook}
 use Rattle.scope.specs.promises.PlanPromises.{LeastFor, NoneWithin}
 use Rattle.scope.specs.promises.PlanPromises.{FinderIsLeast, FinderNone, FinderDecides, FinderOrder}
-use Rattle.scope.specs.promises.CyclePromises.{LeastForCycles, LeastInCycles}
+use Rattle.scope.specs.promises.CyclePromises.{LeastForCycles}
 use Rattle.scope.specs.declared.Plan.{Plan}
 use Rattle.scope.specs.declared.Book.{Book}
 use Rattle.finder.proofs.FindAnswers.{LegalFind, find-value-iff, find-none-iff}

@@ -1,13 +1,13 @@
 -- The one argument over r: of the plans that suit for r the search finds the one whose count is least among all pairs of integer
 -- vectors whose lattice has no class with more than r pixels of one pattern, and none exactly where all these are above the limit.
 -- Assumes nothing.
-use Prim.Native.Nat.{ℕ, suc, _+_, _*_, _≤_, _<_}
+use Prim.Native.Nat.{ℕ, suc, _+_, _*_, _≤_}
 use native.Mathlib.Omega.{arith}
 use mathlib.Core.Path.{_≡_, refl, sym, _∙_, ap}
 use mathlib.Core.Logic.{_↔_}
 use mathlib.Core.Bool.{true}
 use mathlib.Core.Option.{none, some}
-use mathlib.Core.List.{List, [], _∷_, List·Memᴰ}
+use mathlib.Core.List.{List, [], _∷_}
 use lib.IntN.{pos, natAbs}
 use lib.ListN.{length}
 use Rattle.integers.proofs.Integers.{pos-injective}
@@ -20,7 +20,7 @@ use Rattle.scope.specs.Banks.{bankOf}
 use Rattle.scope.specs.Cycles.{suitsFor, suitsAllFor, suitableFor, leastPlanFor, leastCountFor, cycleOf}
 use Rattle.scope.specs.promises.Meaning.{IsPlan, IsBook, Independent}
 use Rattle.scope.specs.promises.PlanPromises.{Generates}
-use Rattle.scope.specs.promises.CyclePromises.{OneClass, Uncrowded, LeastForCycles, NoneForCycles, LeastInCycles, LeastInCyclesEach}
+use Rattle.scope.specs.promises.CyclePromises.{OneClass, Uncrowded, LeastForCycles, NoneForCycles, LeastInCyclesEach}
 use Rattle.scope.specs.declared.Plan.{Plan}
 use Rattle.scope.specs.declared.Book.{Book}
 use Rattle.checks.proofs.Patterns.{different-in-book}

@@ -1,9 +1,8 @@
 -- Of a legal book the search for r = 1 is the finder's: the same plans suit, so the same plan is found and the same least count.
 -- Assumes nothing.
-use Prim.Native.Nat.{ℕ, _≤_, _<_}
+use Prim.Native.Nat.{ℕ, _≤_}
 use mathlib.Core.Path.{_≡_, sym, _∙_}
 use mathlib.Core.Logic.{_↔_}
-use mathlib.Core.Option.{some}
 use mathlib.Core.List.{List, List·Memᴰ}
 use native.Mathlib.Omega.{arith}
 use Rattle.integers.proofs.Comparisons.{same-truth}
@@ -12,7 +11,7 @@ use Rattle.scope.specs.Finding.{suitable, leastPlan, leastCount}
 use Rattle.scope.specs.Cycles.{suitsFor, suitsAllFor, suitableFor, leastPlanFor, leastCountFor}
 use Rattle.scope.specs.promises.Meaning.{IsBook}
 use Rattle.scope.specs.promises.PlanPromises.{Parted}
-use Rattle.scope.specs.promises.CyclePromises.{Uncrowded, OneCycle, OneCycleIsBefore}
+use Rattle.scope.specs.promises.CyclePromises.{Uncrowded, OneCycleIsBefore}
 use Rattle.scope.specs.declared.Plan.{Plan}
 use Rattle.scope.specs.declared.Book.{Book}
 use Rattle.checks.proofs.Patterns.{Different, different-in-book}

@@ -17,9 +17,9 @@ use Rattle.scope.specs.Search.{first, whenever}
 use Rattle.scope.specs.Plans.{Pixel, minus, InLattice, along, up}
 use Rattle.scope.specs.Finding.{pixelIn, together}
 use Rattle.scope.specs.Cycles.{suitsFor, suitsAllFor, LongClash, followers, clashInFor, clashFor}
-use Rattle.scope.specs.promises.CyclePromises.{OneClass, NotAfter, FirstOfClass, LongClashIsFirst, LongClashes}
+use Rattle.scope.specs.promises.CyclePromises.{OneClass, NotAfter, FirstOfClass, LongClashes}
 use Rattle.scope.specs.declared.Plan.{Plan}
-use Rattle.checks.proofs.Searches.{Found, first-found, first-none, none-first, whenever-some, whenever-none, none-whenever, not-true-is-false, true-not-false}
+use Rattle.checks.proofs.Searches.{Found, first-found, first-none, none-first, whenever-some, whenever-none, none-whenever, not-true-is-false}
 use Rattle.checks.proofs.Lists.{mem-getD, getD-mem}
 use Rattle.checks.proofs.Picked.{Passes, Ahead, mem-picked, picked-first, picked-ascend, ascending-rest, ascending-above, ascending-cons, ahead-not-after, take-mem, take-ascend}
 use Rattle.lattice.proofs.Classes.{together-iff, itself-joined, joined-by-third, suits-for-means, suits-all-for-iff}

@@ -1,18 +1,17 @@
 -- r = 1 is what there was before: a class with no more than one pixel means that no combination joins two different ones, a plan suits
 -- for 1 exactly if it suits, and the clash for 1 is the clash.
 -- Assumes nothing.
-use Prim.Native.Nat.{ℕ, zero, suc, _-_, _≤_, _<_}
+use Prim.Native.Nat.{ℕ, suc, _-_, _≤_, _<_}
 use native.Mathlib.Omega.{arith}
 use native.Mathlib.Decide.{decLt}
 use mathlib.Core.Path.{_≡_, refl, sym, _∙_, ap, subst}
 use mathlib.Core.Logic.{_↔_, _⊎_, inl, inr}
-use mathlib.Core.Bool.{true, false}
 use mathlib.Core.Option.{Option, none, some, Option·map}
 use mathlib.Core.List.{List, [], _∷_, List·Memᴰ, List·Memᴰ·head, List·Memᴰ·tail, List·Memᴰ·not-nil, List·Memᴰ·cases-cons}
 use lib.Dec.{leb}
 use lib.ListN.{length, getD, take}
 use Rattle.integers.proofs.Comparisons.{same-truth, leb-iff}
-use Rattle.scope.specs.Search.{first, picked, whenever}
+use Rattle.scope.specs.Search.{first, whenever}
 use Rattle.scope.specs.Plans.{Pixel, minus, Combination, along, up, suits}
 use Rattle.scope.specs.Finding.{pixelIn, together, meeting, clashIn, clash}
 use Rattle.scope.specs.Cycles.{suitsFor, LongClash, followers, clashInFor, clashFor}

@@ -5,7 +5,7 @@ use native.Mathlib.Omega.{arith}
 use native.Mathlib.Nat.{mul-le-mul-left}
 use native.Mathlib.Decide.{ℕ-discrete}
 use mathlib.Core.Path.{_≡_, refl, sym, _∙_, ap}
-use mathlib.Core.Bool.{Bool, true, false, not}
+use mathlib.Core.Bool.{Bool, false, not}
 use mathlib.Core.List.{List}
 use borrow.Author.Needs.{needs}
 use Rattle.scope.specs.Cycles.{suitsFor}
@@ -13,7 +13,7 @@ use Rattle.scope.specs.promises.Meaning.{IsPlan}
 use Rattle.scope.specs.declared.Plan.{Plan}
 use Rattle.scope.proofs.PlanFacts.{plan-means}
 use Rattle.checks.proofs.Searches.{found-someBelow, none-someBelow}
-use Rattle.finder.specs.Counting.{patternIn, ShiftsOf}
+use Rattle.finder.specs.Counting.{patternIn}
 use Rattle.finder.proofs.counting.book_crowded.Statement.{statement}
 use Rattle.finder.proofs.counting.book_crowded.Tie as tie
 

@@ -1,7 +1,7 @@
 -- `finder::counting::counted_b` meets its contract. The loop's invariant: it ends at the smaller of `below` and a, and no plan with a
 -- smaller b suits for r. The measure is the number of b's that are left.
 -- Assumes nothing.
-use Prim.Native.Nat.{ℕ, _+_, _*_, _-_, min, _≤_, _<_}
+use Prim.Native.Nat.{ℕ, _*_, _-_, min, _≤_, _<_}
 use native.Mathlib.Nat.{mul-le-mul-left, mul-le-mul-right}
 use native.Mathlib.Omega.{arith}
 use mathlib.Core.Path.{_≡_, refl}

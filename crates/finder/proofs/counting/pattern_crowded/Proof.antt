@@ -1,7 +1,7 @@
 -- `finder::counting::pattern_crowded` meets its contract. The loop's invariant: the first e pixels are counted, and each has a cycle
 -- below r.
 -- Assumes nothing.
-use Prim.Native.Nat.{ℕ, suc, _+_, _*_, _-_, min, _≤_, _<_}
+use Prim.Native.Nat.{ℕ, suc, _+_, _*_, _-_, _≤_}
 use native.Mathlib.Omega.{arith}
 use native.Mathlib.Nat.{min-le-right}
 use mathlib.Core.Path.{_≡_, sym, _∙_, ap}

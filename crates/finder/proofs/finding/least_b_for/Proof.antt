@@ -1,6 +1,5 @@
 -- `finder::finding::least_b_for` meets its contract: it hands on what the one search or the other gives.
 -- Assumes nothing.
-use Prim.Native.Nat.{_≤_}
 use native.Mathlib.Nat.{mul-le-mul-left, mul-le-mul-right}
 use native.Mathlib.Omega.{arith}
 use borrow.Author.Needs.{needs}
