@@ -11,8 +11,8 @@ pub mod Rings  -- wrapping around a picture keeps the bank
 pub mod Suits  -- what it means that a plan suits
 pub mod Classes  -- lattice classes of a pattern, and plans that suit for r
 pub mod LongClashes  -- the clash for r is the first, and nothing is found exactly if the plan suits for r
-pub mod TestMeanings  -- the test for 10, and the meaning of all tests together
 pub mod Cycles  -- bank and cycle of a pixel are its own, and the cycle is below r
 pub mod OneCycle  -- r = 1 is what there was before
+pub mod TestMeanings  -- the test for 10, and the meaning of all tests together
 pub mod Apart  -- the banks that a fetch reads are all different
 pub mod Formulas  -- pixels and patterns entry by entry; the formulas by division

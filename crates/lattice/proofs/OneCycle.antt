@@ -1,30 +1,32 @@
 -- r = 1 is what there was before: a class with no more than one pixel means that no combination joins two different ones, a plan suits
--- for 1 exactly if it suits, and the clash for 1 is the clash.
+-- for 1 exactly if it suits, and the clash for 1 is the clash, so this is the first pair of positions of one class.
 -- Assumes nothing.
 use Prim.Native.Nat.{ℕ, suc, _-_, _≤_, _<_}
 use native.Mathlib.Omega.{arith}
 use native.Mathlib.Decide.{decLt}
 use mathlib.Core.Path.{_≡_, refl, sym, _∙_, ap, subst}
-use mathlib.Core.Logic.{_↔_, _⊎_, inl, inr}
+use mathlib.Core.Logic.{_↔_, Iff·trans, _⊎_, inl, inr}
+use mathlib.Core.Bool.{true}
 use mathlib.Core.Option.{Option, none, some, Option·map}
 use mathlib.Core.List.{List, [], _∷_, List·Memᴰ, List·Memᴰ·head, List·Memᴰ·tail, List·Memᴰ·not-nil, List·Memᴰ·cases-cons}
 use lib.Dec.{leb}
 use lib.ListN.{length, getD, take}
 use Rattle.integers.proofs.Comparisons.{same-truth, leb-iff}
 use Rattle.scope.specs.Search.{first, whenever}
-use Rattle.scope.specs.Plans.{Pixel, minus, Combination, along, up, suits}
+use Rattle.scope.specs.Plans.{Pixel, minus, Combination, InLattice, along, up, suits}
 use Rattle.scope.specs.Finding.{pixelIn, together, meeting, clashIn, clash}
 use Rattle.scope.specs.Cycles.{suitsFor, LongClash, followers, clashInFor, clashFor}
-use Rattle.scope.specs.promises.CyclePromises.{Ascending, OneClass, UncrowdedIn, lengthened}
+use Rattle.scope.specs.promises.CyclePromises.{Ascending, OneClass, UncrowdedIn, NotAfter, lengthened}
 use Rattle.scope.specs.declared.Plan.{Plan}
 use Rattle.scope.specs.declared.Clash.{Clash}
-use Rattle.checks.proofs.Searches.{first-same, first-mapped, some-whenever}
+use Rattle.checks.proofs.Searches.{none-not-some, first-same, first-mapped, some-whenever}
 use Rattle.checks.proofs.Lists.{mem-getD, getD-mem}
 use Rattle.checks.proofs.Picked.{ascending-cons, ascending-none, first-is-picked}
 use Rattle.checks.proofs.Patterns.{origin, Different}
 use Rattle.lattice.proofs.Membership.{combination-of-negative}
 use Rattle.lattice.proofs.Suits.{suits-means}
 use Rattle.lattice.proofs.Classes.{itself-joined, suits-for-means}
+use Rattle.lattice.proofs.LongClashes.{found-is-first, none-found-iff}
 
 -- what holds of two entries holds of each entry of their list
 of-two : (P : ℕ → Type 0) (e l : ℕ) → P e → P l → (i : ℕ) → List·Memᴰ i (e ∷ l ∷ []) → P i
@@ -141,3 +143,58 @@ module _ (p : Plan) where
   clash-for-one ts =
       first-same 0 (length ts) _ _ (λ n _ _. clash-for-one-in n (getD ts n []))
       ∙ first-mapped lengthened 0 (length ts) (λ n. clashIn p n (getD ts n []))
+
+module _ (p : Plan) (a-least : 1 ≤ p .a) (d-least : 1 ≤ p .d) (n : ℕ) (t : List Pixel) where
+  -- the pixels at positions e and l are in one class
+  abbrev Joined : ℕ → ℕ → Type 0
+  Joined e l = InLattice p (minus (pixelIn t l) (pixelIn t e))
+
+  -- of the pairs of positions of one class c names the one with the least earlier position, then the least later one
+  pub record FirstPair (c : Clash) : Type 0 where
+    pub number : c .pattern ≡ n
+    pub ordered : c .earlier < c .later
+    pub within : c .later < length t
+    pub joined : Joined (c .earlier) (c .later)
+    pub earliest : (e l : ℕ) → e < l → l < length t → Joined e l → (c .earlier < e) ⊎ ((c .earlier ≡ e) × (c .later ≤ l))
+
+  -- So the clash of a pattern is its first pair,
+  pub clash-is-first-pair : (c : Clash) → clashIn p n t ≡ some c → FirstPair c
+  unfolding lengthened
+  clash-is-first-pair c h =
+      let (number, f) = found-is-first 1 p a-least d-least t n (lengthened c) (clash-for-one-in p n t ∙ ap (Option·map lengthened) h) in
+      record {
+        number = number;
+        ordered = f .class .ascending 0 1 (omega arith) (omega arith);
+        within = f .class .within (c .later) (List·Memᴰ·tail (List·Memᴰ·head refl));
+        joined = f .class .joined (c .earlier) (c .later) (List·Memᴰ·head refl) (List·Memᴰ·tail (List·Memᴰ·head refl));
+        earliest = λ e l below within joined.
+            by-order e l (f .first (e ∷ l ∷ []) refl (two-joined (along p) (up p) t e l below within joined));
+      }
+    where
+      by-order : (e l : ℕ) → NotAfter (c .earlier ∷ c .later ∷ []) (e ∷ l ∷ []) → (c .earlier < e) ⊎ ((c .earlier ≡ e) × (c .later ≤ l))
+      by-order e l (inl sooner) = inl sooner
+      by-order e l (inr (same, inl sooner)) = inr (same, omega arith)
+      by-order e l (inr (same, inr (again, _))) = inr (same, omega arith)
+
+  -- and there is none exactly if the plan suits for 1: then no pair is joined, and of different pixels, if the plan suits.
+  no-clash-iff-suits-one : (clashIn p n t ≡ none) ↔ (suitsFor 1 p t ≡ true)
+  no-clash-iff-suits-one =
+      Iff·trans (λ e. clash-for-one-in p n t ∙ ap (Option·map lengthened) e, by-found (clashIn p n t) refl)
+      (none-found-iff 1 p a-least d-least t n)
+    where
+      by-found : (o : Option Clash) → clashIn p n t ≡ o → clashInFor 1 p n t ≡ none → clashIn p n t ≡ none
+      by-found none h e = h
+      by-found (some c) h e = absurd (none-not-some (sym e ∙ clash-for-one-in p n t ∙ ap (Option·map lengthened) h))
+
+  pub no-clash-none-joined : clashIn p n t ≡ none → (e l : ℕ) → e < l → l < length t → Joined e l → ⊥
+  no-clash-none-joined h e l below within joined =
+      absurd (omega (
+        arith,
+        suits-for-means p a-least d-least t 1 .0 (no-clash-iff-suits-one .0 h) (e ∷ l ∷ [])
+            (two-joined (along p) (up p) t e l below within joined),
+      ))
+
+  pub no-clash-iff-suits : Different t → (clashIn p n t ≡ none) ↔ (suits p t ≡ true)
+  no-clash-iff-suits different =
+      Iff·trans no-clash-iff-suits-one
+      (λ h. sym (suits-for-one p a-least d-least t different) ∙ h, λ h. suits-for-one p a-least d-least t different ∙ h)

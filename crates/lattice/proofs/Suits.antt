@@ -1,25 +1,17 @@
--- What it means that a plan suits a pattern: by differences, by combinations, and by positions.
+-- What it means that a plan suits a pattern: by differences, and by combinations.
 -- Assumes nothing.
-use Prim.Native.Nat.{ℕ, suc, _-_, _≤_, _<_}
-use native.Mathlib.Omega.{arith}
-use native.Mathlib.Decide.{decLt}
+use Prim.Native.Nat.{_-_}
 use mathlib.Core.Path.{_≡_, refl, sym, _∙_, ap}
-use mathlib.Core.Logic.{_↔_, Iff·symm, Iff·trans, _⊎_, inl, inr}
+use mathlib.Core.Logic.{_↔_, Iff·trans, _⊎_, inl, inr}
 use mathlib.Core.Bool.{Bool, true, false, not, cond}
-use mathlib.Core.Option.{Option, none}
 use mathlib.Core.List.{List, [], _∷_, flatMap, List·Memᴰ, List·Memᴰ·head, List·Memᴰ·not-nil, List·Memᴰ·cases-cons}
-use lib.ListN.{length, getD}
-use Rattle.scope.specs.Search.{first}
 use Rattle.scope.specs.Plans.{Pixel, samePixel, minus, differences, latticeTest, suits, suitsAll}
-use Rattle.scope.specs.Finding.{meeting, clashIn}
 use Rattle.scope.specs.promises.Meaning.{SuitsMeans}
 use Rattle.scope.specs.declared.Plan.{Plan}
-use Rattle.scope.specs.declared.Clash.{Clash}
-use Rattle.checks.proofs.Searches.{true-not-false, fails-iff, not-true-is-false, first-none, none-first, whenever-none, none-whenever, every-holds, holds-every}
-use Rattle.checks.proofs.Lists.{mem-getD, getD-mem, mem-flatMap, flatMap-mem}
+use Rattle.checks.proofs.Searches.{true-not-false, not-true-is-false, every-holds, holds-every}
+use Rattle.checks.proofs.Lists.{mem-flatMap, flatMap-mem}
 use Rattle.checks.proofs.BookTests.{same-pixel-iff}
-use Rattle.checks.proofs.Patterns.{origin, Different}
-use Rattle.lattice.proofs.Membership.{lattice-means, lattice-symmetric}
+use Rattle.lattice.proofs.Membership.{lattice-means}
 
 -- v is the difference of two different pixels of t
 pub record DifferenceIn (t : List Pixel) (v : Pixel) : Type 0 where
@@ -92,39 +84,6 @@ pub suits-all-iff :
 unfolding suitsAll
 suits-all-iff p ts = (every-holds (suits p) ts, holds-every (suits p) ts)
 
--- positions e and l of t have pixels whose difference passes the lattice test
-abbrev pub MeetsAt : Plan → List Pixel → ℕ → ℕ → Type 0
-MeetsAt p t e l = latticeTest p (minus (getD t l origin) (getD t e origin)) ≡ true
-
--- no two positions of t meet
-abbrev pub NoneMeets : Plan → List Pixel → Type 0
-NoneMeets p t = (e l : ℕ) → e < l → l < length t → MeetsAt p t e l → ⊥
-
--- A pair of positions is no clash exactly if it does not meet.
-pub no-meeting-iff : (p : Plan) (t : List Pixel) (n e l : ℕ) → (meeting p t n e l ≡ none) ↔ (MeetsAt p t e l → ⊥)
-unfolding meeting
-no-meeting-iff p t n e l = Iff·trans (whenever-none _ _, none-whenever _ _) (fails-iff _)
-
--- The search for a clash finds nothing exactly if no two positions meet.
-pub no-clash-iff-none-meets : (p : Plan) (n : ℕ) (t : List Pixel) → (clashIn p n t ≡ none) ↔ NoneMeets p t
-unfolding clashIn
-no-clash-iff-none-meets p n t = (there, back)
-  where
-    from : ℕ → Option Clash
-    from e = first (suc e) (length t - suc e) (meeting p t n e)
-
-    there : clashIn p n t ≡ none → NoneMeets p t
-    there h e l below within =
-        let none-from : from e ≡ none = first-none 0 (length t) from h e (omega arith) (omega arith) in
-        no-meeting-iff p t n e l .0
-        (first-none (suc e) (length t - suc e) (meeting p t n e) none-from l (omega arith) (omega arith))
-
-    back : NoneMeets p t → clashIn p n t ≡ none
-    back h =
-        none-first 0 (length t) from
-        (λ e _ e-in. none-first (suc e) (length t - suc e) (meeting p t n e)
-        (λ l above l-in. no-meeting-iff p t n e l .1 (h e l (omega arith) (omega arith))))
-
 -- A plan suits a pattern exactly if no combination is the difference of two different pixels of it.
 pub suits-means : SuitsMeans
 suits-means p a-least d-least t =
@@ -132,30 +91,3 @@ suits-means p a-least d-least t =
       λ h v w m k n c. h v w m k n (lattice-means p a-least d-least (minus v w) .1 c),
       λ h v w m k n e. h v w m k n (lattice-means p a-least d-least (minus v w) .0 e),
     )
-
--- Of a pattern of different pixels: a plan has no clash exactly if it suits.
-pub no-clash-iff-suits :
-    (p : Plan) → 1 ≤ p .a → 1 ≤ p .d → (n : ℕ) (t : List Pixel) → Different t → (clashIn p n t ≡ none) ↔ (suits p t ≡ true)
-no-clash-iff-suits p a-least d-least n t different =
-    Iff·trans (no-clash-iff-none-meets p n t) (Iff·trans (there, back) (Iff·symm (suits-iff-apart p t)))
-  where
-    there : NoneMeets p t → Apart p t
-    there h v w m k unlike e =
-        let i = getD-mem t origin m in
-        let j = getD-mem t origin k in
-        at-positions (i .0) (j .0) (i .1) (j .1) (λ s. unlike (sym (i .2) ∙ s ∙ j .2)) (rw (i .2, j .2) e)
-      where
-        at-positions : (i j : ℕ) → i < length t → j < length t → (getD t i origin ≡ getD t j origin → ⊥) → MeetsAt p t j i → ⊥
-        at-positions i j i-in j-in unlike e = by-test (decLt j i) (decLt i j)
-          where
-            by-test : Dec (j < i) → Dec (i < j) → ⊥
-            by-test (yes below) l = h j i below i-in e
-            by-test (no k) (yes above) =
-                h i j above j-in (lattice-symmetric p a-least d-least (getD t j origin) (getD t i origin) ∙ e)
-            by-test (no k) (no l) = let same : i ≡ j = omega arith in unlike (ap (λ (m : ℕ). getD t m origin) same)
-
-    back : Apart p t → NoneMeets p t
-    back h e l below within m =
-        h (getD t l origin) (getD t e origin) (mem-getD t l origin within) (mem-getD t e origin (omega arith))
-        (λ s. different e l below within (sym s))
-        m

@@ -19,7 +19,7 @@ use Rattle.checks.proofs.BookTests.{book-legal-iff}
 use Rattle.checks.proofs.Patterns.{pattern-different}
 use Rattle.checks.proofs.Tests.{limit-legal-iff, independent-iff, size-within-iff, plan-legal-iff, sides-legal-iff, memory-enough-iff}
 use Rattle.checks.proofs.Tests.{all-inside-iff, bank-below-iff, cell-legal-iff, output-enough-iff, number-in-book-iff, ring-allowed-iff}
-use Rattle.lattice.proofs.Suits.{no-clash-iff-suits}
+use Rattle.lattice.proofs.OneCycle.{no-clash-iff-suits}
 
 -- The test for 10 finds what the search for a clash finds.
 module _ (p : Plan) (n : ℕ) (t : Pattern) where

@@ -29,7 +29,8 @@ pub record OneClass (x y : Pixel) (t : List Pixel) (es : List ℕ) : Type 0 wher
   pub within : (e : ℕ) → List·Memᴰ e es → e < length t
   pub joined : (e l : ℕ) → List·Memᴰ e es → List·Memᴰ l es → Combination x y (minus (pixelIn t l) (pixelIn t e))
 
--- "the pairs whose lattice has no class with more than r pixels of one pattern": any two integer vectors, one pattern, each pattern
+-- "the pairs whose lattice has no class with more than r pixels of one pattern", x and y being any two integer vectors: of one
+-- pattern, and of each
 abbrev pub UncrowdedIn : ℕ → Pixel → Pixel → List Pixel → Type 0
 UncrowdedIn r x y t = (es : List ℕ) → OneClass x y t es → length es ≤ r
 
@@ -132,7 +133,7 @@ LeastInCyclesEach = (r : ℕ) (book : Book) → LeastInCycles r book
 unfoldable pub lengthened : Clash → LongClash
 lengthened c = record { pattern = c .pattern; positions = c .earlier ∷ c .later ∷ [] }
 
--- "At r = 1 everything agrees with the finder as it was.", of a book whose patterns have no pixel twice
+-- "At r = 1 everything agrees with the finder as it was.": of a legal book, as no pattern has a pixel twice
 pub record OneCycle (book : Book) : Type 0 where
   pub uncrowded : (x y : Pixel) → Uncrowded 1 x y (patterns book) ↔ Parted x y (patterns book)
   pub suiting :
