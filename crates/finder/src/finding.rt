@@ -1,5 +1,6 @@
 // The finder. It marks the differences of a book's patterns in a table of the upper half window, rows 0 to 31 and columns -31 to
-// 31, and tries the plans in order: a plan suits if no cell of its lattice is marked, but for the origin's.
+// 31, and tries the plans in order: a plan suits if no cell of its lattice is marked, but for the origin's. That is for r = 1, which is
+// all that a call asks for; for r above 1 counting.rt tests the plans.
 use crate::cells::put_cells;
 use crate::counting::counted_b;
 use book::record_outcome;
