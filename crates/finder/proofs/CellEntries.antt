@@ -1,7 +1,8 @@
 -- The tables of a plan, and the pattern that the cells of a book have, entry by entry.
 -- Assumes nothing.
-use Prim.Native.Nat.{ℕ, suc, _+_, _*_, _%_, min, _<_}
-use native.Mathlib.Nat.{zero-add}
+use Prim.Native.Nat.{ℕ, suc, _+_, _*_, _%_, min, _≤_, _<_}
+use native.Mathlib.Nat.{zero-add, mod-lt, mod-add-mod}
+use native.Mathlib.Omega.{arith}
 use mathlib.Core.Path.{_≡_, _∙_, ap}
 use mathlib.Core.List.{List}
 use lib.IntN.{pos}
@@ -27,6 +28,13 @@ length-bases a d = length-gather 0 32 (λ j. (j % d) * a)
 pub base-at : (a d j : ℕ) → j < 32 → getD (basesOf a d) j 0 ≡ (j % d) * a
 unfolding basesOf
 base-at a d j h = getD-gather 0 32 (λ j. (j % d) * a) j 0 h ∙ ap (λ (j : ℕ). (j % d) * a) (zero-add j)
+
+-- a remainder that is counted along: it is below a, and the next one
+pub remainder-below : (x c a : ℕ) → 1 ≤ a → x ≡ c % a → x < a
+remainder-below x c a h e = omega (arith, mod-lt c h, e)
+
+pub next-remainder : (x y c a : ℕ) → x ≡ c % a → y ≡ (x + 1) % a → y ≡ (c + 1) % a
+next-remainder x y c a e i = i ∙ ap (λ (k : ℕ). (k + 1) % a) e ∙ mod-add-mod c a 1
 
 -- the pattern of the entries by position
 pub length-pattern-in : (cells : List ℕ) (n : ℕ) → length (patternIn cells n) ≡ min (getD cells (65 * n) 0) 64
