@@ -4,7 +4,7 @@
 use Prim.Native.Nat.{ℕ, _*_, _≤_, _<_}
 use native.Mathlib.Omega.{arith}
 use native.Mathlib.Decide.{decLt}
-use mathlib.Core.Path.{_≡_, refl, sym, _∙_, ap, subst}
+use mathlib.Core.Path.{_≡_, refl, sym, _∙_, ap}
 use mathlib.Core.Bool.{Bool, true, false, not, Bool·not-not}
 use mathlib.Core.Option.{none}
 use mathlib.Core.List.{List}
@@ -62,20 +62,21 @@ module _ (r : ℕ) (p : Plan) (book : Book) (legal : recordTest book ≡ none) w
 -- A plan on trial: it suits for r where no pattern of the cells is crowded.
 module _ {r : ℕ} {cells : List ℕ} {a b d : ℕ} (d-least : 1 ≤ d) (b-below : b < a) {x : Bool}
     (is : x ≡ someBelow 16 (λ n. not (suitsFor r (plan a b d) (patternIn cells n)))) where
-  trial-by-cells : Searched (CellTest r cells) (λ test. trial test (a * d) b d) (found (whenever (not x) (plan a b d)))
-  trial-by-cells =
+  trial-by-cells : {y : Bool} → not x ≡ y → Searched (CellTest r cells) (λ test. trial test (a * d) b d) (found (whenever y (plan a b d)))
+  trial-by-cells uncrowded =
       trial-gives d-least b-below (λ test t.
       ap (λ (f : Plan → Bool). f (plan a b d)) (t .is)
       ∙ sym (Bool·not-not _)
       ∙ ap not
       (sym (crowded-is-unsuited r (plan a b d) (t .book) (t .legal))
       ∙ ap (λ (es : List ℕ). someBelow 16 (λ n. not (suitsFor r (plan a b d) (patternIn es n)))) (sym (t .entries))
-      ∙ sym is))
+      ∙ sym is)
+      ∙ uncrowded)
 
   pub crowded-none : not x ≡ false → Searched (CellTest r cells) (λ test. trial test (a * d) b d) noPlan
   unfolding found whenever
-  crowded-none h = subst (λ (y : Bool). Searched (CellTest r cells) (λ test. trial test (a * d) b d) (found (whenever y (plan a b d)))) h trial-by-cells
+  crowded-none h = trial-by-cells h
 
   pub uncrowded-found : not x ≡ true → Searched (CellTest r cells) (λ test. trial test (a * d) b d) (Planned.Plan (plan a b d))
   unfolding found whenever
-  uncrowded-found h = subst (λ (y : Bool). Searched (CellTest r cells) (λ test. trial test (a * d) b d) (found (whenever y (plan a b d)))) h trial-by-cells
+  uncrowded-found h = trial-by-cells h

@@ -28,8 +28,8 @@ module _ (d j k : ℕ) (row : k ≡ j % d) where
   same-quotient : k + 1 < d → (j + 1) / d ≡ j / d
   same-quotient h = ap (λ (n : ℕ). n / d) next-row ∙ upper-digit (j / d) d (k + 1) h
 
-  next-remainder : k + 1 < d → k + 1 ≡ (j + 1) % d
-  next-remainder h = sym (ap (λ (n : ℕ). n % d) next-row ∙ lower-digit (j / d) d (k + 1) h)
+  next-in-strip : k + 1 < d → k + 1 ≡ (j + 1) % d
+  next-in-strip h = sym (ap (λ (n : ℕ). n % d) next-row ∙ lower-digit (j / d) d (k + 1) h)
 
   -- or the first of the next strip
   next-strip : k + 1 ≡ d → j + 1 ≡ (j / d + 1) * d + 0
@@ -82,7 +82,7 @@ module _ {a b d : ℕ} where
       record {
         size = length-set shifts j x ∙ t .size;
         each = one-more h t;
-        row = next-remainder d j k (t .row) below;
+        row = next-in-strip d j k (t .row) below;
         shift = same-shift (same-quotient d j k (t .row) below) (t .shift);
       }
 

@@ -1,6 +1,6 @@
 -- `finder::bank_tables::next_below` meets its contract.
 -- Assumes nothing.
-use Prim.Native.Nat.{ℕ, _%_, _<_}
+use Prim.Native.Nat.{ℕ, _%_}
 use native.Mathlib.Omega.{arith}
 use native.Mathlib.Nat.{mod-self, mod-eq-of-lt}
 use mathlib.Core.Path.{_≡_, sym, _∙_, ap}
