@@ -1,16 +1,17 @@
 -- The cells of a book: what stands at each entry, and that the entries of a pattern give its pixels, raised by 16.
 -- Assumes nothing.
-use Prim.Native.Nat.{ℕ, suc, _+_, _*_, _/_, _%_, min, _≤_, _<_}
+use Prim.Native.Nat.{ℕ, suc, _+_, _-_, _*_, _/_, _%_, min, _≤_, _<_}
 use native.Mathlib.Nat.{zero-add, add-zero, mul-comm, min-eq-left, mod-eq-of-lt}
 use native.Mathlib.Omega.{arith}
-use native.Mathlib.Decide.{decLt}
+use native.Mathlib.Decide.{decLt, ℕ-discrete}
 use mathlib.Core.Path.{_≡_, refl, sym, _∙_, ap, ap₂}
+use mathlib.Core.Logic.{_⊎_, inl, inr, ⊎-elim}
 use mathlib.Core.Bool.{cond}
 use mathlib.Core.Option.{none}
 use mathlib.Core.List.{List, [], _∷_, map}
 use lib.Dec.{ltb}
 use lib.IntN.{ℤ, pos, _+ℤ_}
-use lib.ListN.{length, getD, length-map, replicate, length-replicate, getD-replicate}
+use lib.ListN.{length, getD, set, length-map, length-set, replicate, length-replicate, getD-replicate}
 use Rattle.integers.proofs.Ring.{ring, reify}
 use Rattle.integers.proofs.Comparisons.{ltb-iff, ltb-false-iff}
 use Rattle.integers.proofs.Digits.{upper-digit, lower-digit}
@@ -20,14 +21,14 @@ use Rattle.scope.specs.Numbers.{recordTest}
 use Rattle.scope.specs.promises.Meaning.{InRange, IsPattern, IsBook}
 use Rattle.scope.specs.declared.Pattern.{Pattern}
 use Rattle.scope.specs.declared.Book.{Book}
-use Rattle.checks.proofs.Lists.{getD-map}
+use Rattle.checks.proofs.Lists.{getD-map, getD-set-same, getD-set-other}
 use Rattle.checks.proofs.Searches.{getD-gather}
 use Rattle.checks.proofs.FilledArrays.{Filled, gathered}
 use Rattle.checks.proofs.Patterns.{origin, same-coordinates, length-pixels, getD-pixels}
 use Rattle.checks.proofs.BookTests.{book-legal-iff}
 use Rattle.book.specs.Scan.{cellOf}
 use Rattle.book.proofs.Window.{offset, offset-is, offset-below, cell-inside}
-use Rattle.finder.specs.Counting.{patternEntry, cellsOf, cellPixel, patternIn}
+use Rattle.finder.specs.Counting.{patternEntry, cellsOf, EntriesPut, cellPixel, patternIn}
 
 -- A pattern's entries: its count, then the cells of its pixels.
 pub count-entry : (t : Pattern) (k : ℕ) → k ≡ 0 → t .used ≡ patternEntry t k
@@ -37,6 +38,26 @@ count-entry t k i = rw i
 pub pixel-entry : (t : Pattern) (k e : ℕ) → k ≡ suc e → cellOf (pixelAt t e) ≡ patternEntry t k
 unfolding patternEntry
 pixel-entry t k e i = rw i
+
+-- They are put one after the other.
+module _ {t : Pattern} {n : ℕ} where
+  pub none-put : (xs : List ℕ) → EntriesPut t n 0 xs xs
+  none-put xs = record { size = refl; own = λ e h. absurd (omega arith); others = λ k h. refl }
+
+  pub one-more-put :
+      (m : ℕ) {xs ys : List ℕ} {x : ℕ} → EntriesPut t n m xs ys → 65 * n + m < length ys → x ≡ patternEntry t m
+      → EntriesPut t n (m + 1) xs (set ys (65 * n + m) x)
+  one-more-put m {xs} {ys} {x} s within is =
+      record {
+        size = length-set ys (65 * n + m) x ∙ s .size;
+        own = λ e h. by-place e h (ℕ-discrete e m);
+        others = λ k h. getD-set-other ys (65 * n + m) k x 0 (⊎-elim (λ u. λ i. omega arith) (λ u. λ i. omega arith) h)
+            ∙ s .others k (⊎-elim inl (λ u. inr (omega arith)) h);
+      }
+    where
+      by-place : (e : ℕ) → e < m + 1 → Dec (e ≡ m) → getD (set ys (65 * n + m) x) (65 * n + e) 0 ≡ patternEntry t e
+      by-place e h (yes d) = rw d (getD-set-same ys (65 * n + m) x 0 within ∙ is)
+      by-place e h (no d) = getD-set-other ys (65 * n + m) (65 * n + e) x 0 (λ i. d (omega arith)) ∙ s .own e (omega arith)
 
 -- what a book's patterns have at entry k
 abbrev pub entryAt : Book → ℕ → ℕ
@@ -57,17 +78,43 @@ module _ (book : Book) where
   unfolding cellsOf
   getD-cells k h = getD-gather 0 1040 entry k 0 h ∙ ap entry (zero-add k)
 
-  -- entry e of number n, where the book has that pattern, and where it has not
+  -- entry e of number n
+  entry-of-pattern : (n e : ℕ) → e < 65 → entryAt book (65 * n + e) ≡ patternEntry (patternAt book n) e
+  entry-of-pattern n e below =
+      ap₂ (λ (n e : ℕ). patternEntry (patternAt book n) e) (rw (mul-comm 65 n) (upper-digit n 65 e below))
+      (rw (mul-comm 65 n) (lower-digit n 65 e below))
+
+  -- in the cells, where the book has that pattern, and where it has not
   module _ (n e : ℕ) (below : e < 65) where
     getD-used : book .count ≤ 16 → n < book .count → getD (cellsOf book) (65 * n + e) 0 ≡ patternEntry (patternAt book n) e
     getD-used most h =
         getD-cells (65 * n + e) (omega arith)
         ∙ entry-used (65 * n + e) (omega arith)
-        ∙ ap₂ (λ (n e : ℕ). patternEntry (patternAt book n) e) (rw (mul-comm 65 n) (upper-digit n 65 e below))
-        (rw (mul-comm 65 n) (lower-digit n 65 e below))
+        ∙ entry-of-pattern n e below
 
     getD-unused : book .count ≤ n → n < 16 → getD (cellsOf book) (65 * n + e) 0 ≡ 0
     getD-unused h less = getD-cells (65 * n + e) (omega arith) ∙ entry-unused (65 * n + e) (omega arith)
+
+  -- after those of pattern n the entries up to the next pattern are put
+  pub one-more-pattern :
+      (n : ℕ) {xs ys zs : List ℕ} → Filled 0 (entryAt book) (65 * n) xs ys → EntriesPut (patternAt book n) n 65 ys zs
+      → Filled 0 (entryAt book) (65 * (n + 1)) xs zs
+  one-more-pattern n {xs} {ys} {zs} t s =
+      record {
+        size = s .size ∙ t .size;
+        new = λ m b h. by-place m b h (decLt m (65 * n));
+        old = λ m b. s .others m (inr (omega arith)) ∙ t .old m (omega arith);
+      }
+    where
+      by-place : (m : ℕ) → m < 65 * (n + 1) → m < length zs → Dec (m < 65 * n) → getD zs m 0 ≡ entryAt book m
+      by-place m b h (yes u) = s .others m (inl u) ∙ t .new m u (omega (arith, s .size))
+      by-place m b h (no u) =
+          let at-entry : m ≡ 65 * n + (m - 65 * n) = omega arith in
+          let below : m - 65 * n < 65 = omega arith in
+          ap (λ (k : ℕ). getD zs k 0) at-entry
+          ∙ s .own (m - 65 * n) below
+          ∙ sym (entry-of-pattern n (m - 65 * n) below)
+          ∙ ap (entryAt book) (sym at-entry)
 
   -- the cells, where the entries of all patterns were put
   pub all-entries-put :

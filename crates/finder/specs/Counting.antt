@@ -1,8 +1,9 @@
 -- What the finder's code goes by for r above 1 (document 02, Card 4), where it counts the pixels to a bank: the pixels of a book as
 -- cells of the window, and what a cell's column and row add to its bank.
 -- Assumes nothing.
-use Prim.Native.Nat.{ℕ, zero, suc, _+_, _*_, _/_, _%_, min, _<_}
+use Prim.Native.Nat.{ℕ, zero, suc, _+_, _*_, _/_, _%_, min, _≤_, _<_}
 use mathlib.Core.Path.{_≡_}
+use mathlib.Core.Logic.{_⊎_}
 use mathlib.Core.Bool.{Bool, cond}
 use mathlib.Core.Option.{none}
 use mathlib.Core.List.{List}
@@ -29,6 +30,12 @@ patternEntry t (suc e) = cellOf (pixelAt t e)
 unfoldable pub cellsOf : Book → List ℕ
 unfolding gather patternEntry patternAt
 cellsOf book = gather 0 1040 λ k. cond (ltb k (65 * book .count)) (patternEntry (patternAt book (k / 65)) (k % 65)) 0
+
+-- After m steps the first m entries of t stand at number n, and all others are as they were
+pub record EntriesPut (t : Pattern) (n m : ℕ) (before after : List ℕ) : Type 0 where
+  pub size : length after ≡ length before
+  pub own : (e : ℕ) → e < m → getD after (65 * n + e) 0 ≡ patternEntry t e
+  pub others : (k : ℕ) → (k < 65 * n) ⊎ (65 * n + m ≤ k) → getD after k 0 ≡ getD before k 0
 
 -- the pixel of a cell, raised by 16, so that neither coordinate is negative
 unfoldable pub cellPixel : ℕ → Pixel

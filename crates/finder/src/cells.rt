@@ -5,9 +5,9 @@ use scope::Pattern;
 ghost use mathlib.Core.Path.{_≡_};
 ghost use mathlib.Core.Option.{none};
 ghost use Prim.Native.Nat.{_≤_, _<_};
-ghost use lib.ListN.{replicate};
+ghost use lib.ListN.{length, replicate};
 ghost use Rattle.scope.specs.Numbers.{recordTest};
-ghost use Rattle.finder.specs.Counting.{patternEntry, cellsOf};
+ghost use Rattle.finder.specs.Counting.{patternEntry, cellsOf, EntriesPut};
 
 // The entries of a pattern: its pixel count, then the cells of its pixels.
 fn entry_of(t: Pattern, k: usize) -> u16
@@ -23,16 +23,28 @@ fn entry_of(t: Pattern, k: usize) -> u16
     cell(i, j)
 }
 
+// Puts the entries of the pattern t, number n.
+fn put_entries(t: Pattern, n: usize, cells: &mut [u16])
+    requires { ⌜ (t .used ≤ 64) × (n < 16) × (length (now cells) ≡ 1040) ⌝ }
+    ensures { λ r. ⌜ EntriesPut t n 65 (now (cells .entry)) (now (cells .exit)) ⌝ }
+{
+    let mut e = 0;
+    while e < 65 {
+        cells[65 * n + e] = entry_of(t, e);
+        e += 1;
+    }
+}
+
 // Puts the entries of a book's patterns one after the other; the rest stays 0.
 pub(crate) fn put_cells(book: Book, cells: &mut [u16])
     requires { ⌜ (recordTest book ≡ none) × (now cells ≡ replicate 1040 0) ⌝ }
     ensures { λ r. ⌜ now (cells .exit) ≡ cellsOf book ⌝ }
 {
-    let end = 65 * book.count;
-    let mut k = 0;
-    while k < end {
-        let t = book.patterns[k / 65];
-        cells[k] = entry_of(t, k % 65);
-        k += 1;
+    let count = book.count;
+    let mut n = 0;
+    while n < count {
+        let t = book.patterns[n];
+        put_entries(t, n, cells);
+        n += 1;
     }
 }

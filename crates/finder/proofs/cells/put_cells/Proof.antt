@@ -1,23 +1,23 @@
--- `finder::cells::put_cells` meets its contract. The loop's invariant: the first k entries are the patterns'.
+-- `finder::cells::put_cells` meets its contract. The loop's invariant: the entries of the patterns before n are put.
 -- Assumes nothing.
-use Prim.Native.Nat.{ℕ, _/_, _-_, _≤_}
+use Prim.Native.Nat.{ℕ, _*_, _-_, _≤_}
 use native.Mathlib.Omega.{arith}
 use mathlib.Core.Path.{_≡_, _∙_, ap, subst}
 use mathlib.Core.List.{List}
 use lib.ListN.{length, length-replicate}
 use Rattle.scope.specs.Plans.{patternAt}
 use Rattle.scope.specs.promises.Meaning.{IsBook}
-use Rattle.checks.proofs.FilledArrays.{Filled, filled-none, filled-more}
+use Rattle.checks.proofs.FilledArrays.{Filled, filled-none}
 use Rattle.checks.proofs.BookTests.{book-legal-iff}
-use Rattle.finder.proofs.BookCells.{entryAt, all-entries-put}
+use Rattle.finder.proofs.BookCells.{entryAt, one-more-pattern, all-entries-put}
 use Rattle.finder.proofs.cells.put_cells.Statement.{statement}
 use Rattle.finder.proofs.cells.put_cells.Tie as tie
 
 abbrev Inv-loop : tie.InvT-loop
-Inv-loop cells₀ book end k₀ cells k = (k ≤ end) × Filled 0 (entryAt book) k cells₀ cells
+Inv-loop cells₀ book count n₀ cells n = (n ≤ count) × Filled 0 (entryAt book) (65 * n) cells₀ cells
 
 abbrev μ-loop : tie.MeasureT-loop
-μ-loop cells₀ book end k₀ cells k = end - k
+μ-loop cells₀ book count n₀ cells n = count - n
 
 loop-holds : tie.Need-loop-holds Inv-loop μ-loop
 loop-holds c = (omega arith, filled-none _)
@@ -33,29 +33,25 @@ module _ (c : tie.At-loop Inv-loop μ-loop) where
   size : length (c .loop .cells) ≡ 1040
   size = c .loop .inv .1 .size ∙ ap length (start .pre .1) ∙ length-replicate {A = ℕ} 1040 0
 
-entry-of-requires : tie.Need-entry-of-requires Inv-loop μ-loop
+put-entries-requires : tie.Need-put-entries-requires Inv-loop μ-loop
 unfolding patternAt
-entry-of-requires c κs =
-    let l = c .before .before in
-    (legal l .each (l .loop .k / 65) (omega arith) .most, omega arith)
-
--- the head of the turn in which an entry is put
-abbrev head : tie.After-entry-of Inv-loop μ-loop → tie.At-loop Inv-loop μ-loop
-head c = c .before .before .before
+put-entries-requires c κs =
+    let l = c .before .before .before in
+    (legal l .each (l .loop .n) (c .before .before .loop-test .taken) .most, omega (arith, legal l .most, c .before .before .loop-test .taken), size l)
 
 loop-again : tie.Need-loop-again Inv-loop μ-loop
 unfolding patternAt
-loop-again c = (omega arith, filled-more (head c .loop .inv .1) (c .entry-of .ensures))
-
-same-length : tie.Need-same-length Inv-loop μ-loop
-same-length c = c .before .loop .inv .1 .size
+loop-again c =
+    let e = c .before .before in
+    let l = e .before .before .before .before in
+    (omega (arith, e .before .before .before .loop-test .taken), one-more-pattern (start l .args .t1) (l .loop .n) (l .loop .inv .1) (e .put-entries .ensures))
 
 returns : tie.Need-returns Inv-loop μ-loop
 returns c =
     let l = c .before in
     let book = start l .args .t1 in
-    all-entries-put book (l .loop .k)
-    (subst (λ (xs : List ℕ). Filled 0 (entryAt book) (l .loop .k) xs (l .loop .cells)) (start l .pre .1) (l .loop .inv .1))
+    all-entries-put book (65 * l .loop .n)
+    (subst (λ (xs : List ℕ). Filled 0 (entryAt book) (65 * l .loop .n) xs (l .loop .cells)) (start l .pre .1) (l .loop .inv .1))
     (omega arith)
 
 pub put-cells-spec : {M : Type 1} → statement M
@@ -64,12 +60,11 @@ put-cells-spec =
     (tie.spec
     Inv-loop
     μ-loop
-    (λ c. omega (arith, book-legal-iff _ .0 (c .before .pre .0) .most))
     loop-holds
     (λ c. omega (arith, legal (c .before) .most)) (λ c. omega (arith, legal (c .before) .most))
-    entry-of-requires
-    (λ c. omega (arith, legal (head c) .most)) (λ c. omega (arith, legal (head c) .most, size (head c)))
-    (λ c. omega (arith, legal (head c) .most)) (λ c. omega arith)
+    put-entries-requires
+    (λ c. omega arith)
+    (λ c. omega arith)
     loop-again
-    same-length
+    (λ c. c .before .loop .inv .1 .size)
     returns)
