@@ -7,6 +7,8 @@ use std::time::Instant;
 #[path = "../bindings/bankplan.rs"]
 #[allow(dead_code)]
 mod bankplan;
+mod counting;
+mod cycles;
 mod pictures;
 mod records;
 mod runs;
@@ -25,14 +27,14 @@ fn answer(number: u64, told: &[u64]) -> Told {
     (number, row)
 }
 
-fn proved_find(r: &Record) -> Told {
+fn proved_find(book: &Record, r: u32) -> Told {
     let mut answer = [0; 12];
-    (unsafe { bankplan_find(&r.columns, &r.rows, &r.used, r.count, 1024, &mut answer) }, answer)
+    (unsafe { bankplan_find(&book.columns, &book.rows, &book.used, book.count, r, 1024, &mut answer) }, answer)
 }
 
-fn proved_check(r: &Record, x: (i16, i16), y: (i16, i16)) -> Told {
-    let mut answer = [0; 12];
-    (unsafe { bankplan_check(&r.columns, &r.rows, &r.used, r.count, x.0, x.1, y.0, y.1, &mut answer) }, answer)
+fn proved_check(book: &Record, r: u32, x: (i16, i16), y: (i16, i16)) -> Told {
+    let (Record { columns, rows, used, count }, mut answer) = (book, [0; 12]);
+    (unsafe { bankplan_check(columns, rows, used, *count, r, x.0, x.1, y.0, y.1, &mut answer) }, answer)
 }
 
 fn told(p: Result<Plan, u64>) -> Told {
@@ -41,7 +43,7 @@ fn told(p: Result<Plan, u64>) -> Told {
 
 fn told_verdict(v: Result<unverified::Verdict, u64>) -> Told {
     match v {
-        Ok(unverified::Verdict::Clash(n, e, l)) => answer(10, &[0, n as u64, e as u64, l as u64]),
+        Ok(unverified::Verdict::Clash(c)) => answer(10, &[&[0, c.pattern as u64], &c.positions[..]].concat()),
         Ok(unverified::Verdict::Suits(p, s)) => answer(0, &[p.a.into(), p.b.into(), p.d.into(), s.into()]),
         Err(n) => answer(n, &[]),
     }
@@ -96,14 +98,19 @@ fn full(w: i8, h: i8) -> Record {
     record(&book)
 }
 
-fn random_book(seed: u64, patterns: usize, pixels: usize, width: u64, height: u64) -> Record {
+// Numbers below those given, the same in every run.
+fn below(seed: u64) -> impl FnMut(u64) -> u64 {
     let mut state = seed * 2 + 1;
-    let mut below = |n: u64| {
+    move |n| {
         state ^= state << 13;
         state ^= state >> 7;
         state ^= state << 17;
         (state >> 11) % n
-    };
+    }
+}
+
+fn random_book(seed: u64, patterns: usize, pixels: usize, width: u64, height: u64) -> Record {
+    let mut below = below(seed);
     let book: Vec<_> = (0..patterns)
         .map(|_| {
             let mut t = Vec::new();
@@ -124,10 +131,12 @@ fn random_book(seed: u64, patterns: usize, pixels: usize, width: u64, height: u6
 fn same_refusals() {
     for (t, number) in [(vec![(0, 0), (-1, 0), (1, 0), (0, -1), (0, 1)], 19), (vec![(0, 0), (1, 0), (0, 0)], 4)] {
         let (r, refused) = (record(&[t]), answer(number, &[]));
-        assert_eq!(proved_find(&r), refused);
-        assert_eq!(told(unverified::find(&r, 1024)), refused);
-        assert_eq!(proved_check(&r, (32, 0), (0, 32)), refused);
-        assert_eq!(told_verdict(unverified::check(&r, (32, 0), (0, 32))), refused);
+        for cycles in [1, 2, 9] {
+            assert_eq!(proved_find(&r, cycles), refused);
+            assert_eq!(told(unverified::find(&r, cycles, 1024)), refused);
+            assert_eq!(proved_check(&r, cycles, (32, 0), (0, 32)), refused);
+            assert_eq!(told_verdict(unverified::check(&r, cycles, (32, 0), (0, 32))), refused);
+        }
     }
 }
 
@@ -179,47 +188,51 @@ fn main() {
         ("hardest, full 32 by 32", full(32, 32)),
     ];
     for (name, r) in &books {
-        let (number, plan) = proved_find(r);
-        assert_eq!((number, plan), told(unverified::find(r, 1024)), "{name}");
-        assert_eq!((number, plan), told(unverified::find_by_counting(r, 1024).ok_or(7)), "{name}");
+        let (number, plan) = proved_find(r, 1);
+        assert_eq!((number, plan), told(unverified::find(r, 1, 1024)), "{name}");
+        assert_eq!((number, plan), told(counting::find_by_counting(r, 1024).ok_or(7)), "{name}");
     }
     for ((_, r), n) in books[6..].iter().zip([64, 128, 256, 512, 1024]) {
-        let plan = proved_find(r).1;
+        let plan = proved_find(r, 1).1;
         assert_eq!(plan[0] * plan[2], n);
     }
     let vectors = [((32, 0), (0, 32)), ((31, 0), (0, 1)), ((1024, 0), (32, 1))];
     let checked = [&books[2], &books[4], &books[10]];
     for (name, r) in checked {
         for (x, y) in vectors {
-            assert_eq!(proved_check(r, x, y), told_verdict(unverified::check(r, x, y)), "{name}");
+            for cycles in [1, 2, 8, 9] {
+                let checked = unverified::check(r, cycles, x, y);
+                assert_eq!(proved_check(r, cycles, x, y), told_verdict(checked), "{name}");
+            }
         }
     }
     same_refusals();
     let mut fetched = Vec::from([2, 3, 4, 9].map(|k| {
-        let [a, b, d, ..] = proved_find(&books[k].1).1.map(|x| x as u32);
+        let [a, b, d, ..] = proved_find(&books[k].1, 1).1.map(|x| x as u32);
         (books[k].0, &books[k].1, Plan { a, b, d })
     }));
     // a supplier's plan of several rows
     fetched.push(("3 by 3 block, plan 6, 4, 5", &books[2].1, Plan { a: 6, b: 4, d: 5 }));
     let listed = [fetched[0].2, fetched[4].2];
     // lists of fetches of one small pattern, and of all patterns of the largest book
-    let [a, b, d, ..] = proved_find(&books[10].1).1.map(|x| x as u32);
+    let [a, b, d, ..] = proved_find(&books[10].1, 1).1.map(|x| x as u32);
     let runs = [fetched[0], (books[10].0, &books[10].1, Plan { a, b, d })];
     if std::env::args().nth(1).as_deref() == Some("answers") {
         pictures::pictures(&fetched, false);
         records::lists(&listed, false);
         runs::lists(&runs, false);
+        cycles::tables(&books[2], &books[10], false);
         println!("the unverified versions give the same answers");
         return;
     }
     println!("| find | N | proved | unverified | ratio | counting per bank | ahead of it |");
     println!("|---|---|---|---|---|---|---|");
     for (name, r) in &books {
-        let plan = proved_find(r).1;
+        let plan = proved_find(r, 1).1;
         let [proved, unproved, counting] = seconds([
-            &|| proved_find(black_box(r)).0,
-            &|| unverified::find(black_box(r), 1024).is_ok().into(),
-            &|| unverified::find_by_counting(black_box(r), 1024).is_some().into(),
+            &|| proved_find(black_box(r), 1).0,
+            &|| unverified::find(black_box(r), 1, 1024).is_ok().into(),
+            &|| counting::find_by_counting(black_box(r), 1024).is_some().into(),
         ]);
         println!(
             "| {name} | {} | {} | {} | {:.2} | {} | {:.1} times |",
@@ -236,9 +249,10 @@ fn main() {
     println!("|---|---|---|---|---|");
     for (name, r) in checked {
         for (x, y) in vectors {
-            let (number, answer) = proved_check(r, x, y);
-            let [proved, unproved] =
-                seconds([&|| proved_check(black_box(r), x, y).0, &|| unverified::check(black_box(r), x, y).is_ok().into()]);
+            let (number, answer) = proved_check(r, 1, x, y);
+            let [proved, unproved] = seconds([&|| proved_check(black_box(r), 1, x, y).0, &|| {
+                unverified::check(black_box(r), 1, x, y).is_ok().into()
+            }]);
             let said = if number == 10 { "clash".into() } else { format!("surplus {}", answer[3]) };
             println!("| {name}, {x:?} {y:?} | {said} | {} | {} | {:.2} |", time(proved), time(unproved), proved / unproved);
         }
@@ -246,4 +260,5 @@ fn main() {
     pictures::pictures(&fetched, true);
     records::lists(&listed, true);
     runs::lists(&runs, true);
+    cycles::tables(&books[2], &books[10], true);
 }

@@ -71,6 +71,7 @@ impl Picture {
                 &r.rows,
                 &r.used,
                 r.count,
+                1,
                 p.a,
                 p.b,
                 p.d,
@@ -91,7 +92,7 @@ impl Picture {
 
     fn unverified_fetch(&self, ring: bool, r: &Record, n: usize, o: (i16, i16), out: &mut [u16]) -> Told {
         let call = if ring { words::ring_fetch } else { words::fetch };
-        told(call(r, &self.p, self.w, self.h, &self.mem.borrow(), n, o, out).map(|x| x as u64))
+        told(call(r, 1, &self.p, self.w, self.h, &self.mem.borrow(), n, o, out).map(|x| x as u64))
     }
 }
 

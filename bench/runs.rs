@@ -35,6 +35,7 @@ impl List<'_> {
                 &r.rows,
                 &r.used,
                 r.count,
+                1,
                 p.a,
                 p.b,
                 p.d,
@@ -54,7 +55,7 @@ impl List<'_> {
     }
 
     fn unverified(&self, l: &mut Lent) -> u64 {
-        run_list(self.r, &self.p, self.w, self.h, &mut l.mem, &self.numbers, &mut l.outs, &mut l.replies)
+        run_list(self.r, 1, &self.p, self.w, self.h, &mut l.mem, &self.numbers, &mut l.outs, &mut l.replies)
     }
 
     fn lent(&self) -> Lent {
@@ -94,7 +95,8 @@ fn list_fault(numbers: &[u64], mut room: u64, replies: usize) -> u64 {
 /// A list of calls in Rust as one would write it without proofs.
 #[inline(never)]
 pub fn run_list(
-    r: &Record,
+    book: &Record,
+    r: u32,
     p: &Plan,
     w: u32,
     h: u32,
@@ -107,7 +109,7 @@ pub fn run_list(
     if fault != 0 {
         return fault;
     }
-    let pic = Tested::new(r, p, w, h, mem.len());
+    let pic = Tested::new(book, r, p, w, h, mem.len());
     let mut outs = outs;
     for (c, reply) in numbers.chunks_exact(5).zip(replies.chunks_exact_mut(12)) {
         let (i, j) = (c[1] as u16 as i16, c[2] as u16 as i16);
@@ -126,8 +128,9 @@ pub fn run_list(
             Ok(x) => reply[1] = x,
             Err((number, clash)) => {
                 reply[0] = number;
-                if let Some((n, e, l)) = clash {
-                    reply[2..5].copy_from_slice(&[n as u64, e as u64, l as u64]);
+                if let Some(c) = clash {
+                    reply[2] = c.pattern as u64;
+                    reply[3..].copy_from_slice(&c.positions);
                 }
             }
         }

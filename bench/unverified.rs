@@ -1,6 +1,9 @@
-//! The same work in Rust as one would write it without proofs: the same checks, the same table, the same order of search.
+//! The same work in Rust as one would write it without proofs: the same checks, the same table, the same order of search. The
+//! searches that count pixels are in counting.rs.
 
 use crate::bankplan::{Book as Record, Plan};
+use crate::counting::search_for;
+use crate::words::is_plan;
 
 fn small(z: i8) -> bool {
     (-16..=15).contains(&z)
@@ -28,6 +31,15 @@ pub fn test_record(r: &Record) -> u64 {
         }
     }
     0
+}
+
+/// 2, 3, 4, 19, 20.
+pub fn test_book(book: &Record, r: u32) -> Result<(), u64> {
+    match test_record(book) {
+        0 if (1..=8).contains(&r) => Ok(()),
+        0 => Err(20),
+        number => Err(number),
+    }
 }
 
 /// The differences of a legal record in the rows 0 to 31 and the columns -31 to 31, 63 to a row.
@@ -114,55 +126,24 @@ fn search(marks: &[bool; 2016], limit: usize) -> Option<Plan> {
     None
 }
 
-/// The plan within the limit, or the refusal's number.
-pub fn find(r: &Record, limit: u32) -> Result<Plan, u64> {
-    match test_record(r) {
+// The plan of a legal record.
+fn plan_for(book: &Record, r: u32, limit: usize) -> Option<Plan> {
+    if r == 1 { search(&marks(book), limit) } else { search_for(book, r as u8, limit) }
+}
+
+/// The plan for r within the limit, or the refusal's number.
+pub fn find(book: &Record, r: u32, limit: u32) -> Result<Plan, u64> {
+    match test_record(book) {
         0 => {}
         number => return Err(number),
     }
     if !(1..=1024).contains(&limit) {
         return Err(6);
     }
-    search(&marks(r), limit as usize).ok_or(7)
-}
-
-/// The search that counts pixels per bank, pattern after pattern, and gives a plan up at the first bank with two. The pixels are
-/// moved by (16, 16), which keeps clashes, so that nothing is negative.
-pub fn find_by_counting(r: &Record, limit: u32) -> Option<Plan> {
-    let mut taken = [0u32; 1024];
-    let mut stamp = 0;
-    for n in 1..=limit {
-        let (mut best, mut below) = (None, n);
-        for d in 1..=n {
-            if n % d != 0 {
-                continue;
-            }
-            let a = n / d;
-            let strips: [(u32, u32); 32] = std::array::from_fn(|j| (j as u32 / d, j as u32 % d * a));
-            for b in 0..a.min(below) {
-                let one_to_a_bank = |t: usize| {
-                    stamp += 1;
-                    for e in 64 * t..64 * t + r.used[t] {
-                        let (q, first) = strips[(r.rows[e] + 16) as usize];
-                        let bank = first + ((r.columns[e] + 16) as u32 + (a - b) * q) % a;
-                        if std::mem::replace(&mut taken[bank as usize], stamp) == stamp {
-                            return false;
-                        }
-                    }
-                    true
-                };
-                if (0..r.count).all(one_to_a_bank) {
-                    best = Some(Plan { a, b, d });
-                    below = b;
-                    break;
-                }
-            }
-        }
-        if best.is_some() {
-            return best;
-        }
+    if !(1..=8).contains(&r) {
+        return Err(20);
     }
-    None
+    plan_for(book, r, limit as usize).ok_or(7)
 }
 
 fn gcd(a: i32, b: i32) -> i32 {
@@ -193,39 +174,79 @@ fn normal_form(x: (i16, i16), y: (i16, i16)) -> Result<Plan, u64> {
     Ok(Plan { a: a as u32, b: u1.rem_euclid(a) as u32, d: d as u32 })
 }
 
+/// A pattern's number and the positions of r + 1 pixels in it, then 0.
+#[derive(Clone, Copy)]
+pub struct Clash {
+    pub pattern: usize,
+    pub positions: [u64; 9],
+}
+
 /// A clash, or the plan with its surplus.
 pub enum Verdict {
-    Clash(usize, usize, usize),
+    Clash(Clash),
     Suits(Plan, u32),
 }
 
-/// The clash of pattern n.
-pub fn clash_of(r: &Record, p: &Plan, n: usize) -> Option<Verdict> {
+fn bank_of(book: &Record, p: &Plan, e: usize) -> usize {
     let (a, b, d) = (p.a as i32, p.b as i32, p.d as i32);
-    let mut next = [0u8; 1024];
-    let mut met = None;
-    for e in (0..r.used[n]).rev() {
-        let (i, j) = (i32::from(r.columns[64 * n + e]), i32::from(r.rows[64 * n + e]));
-        let bank = (j.rem_euclid(d) * a + (i - b * j.div_euclid(d)).rem_euclid(a)) as usize;
-        if next[bank] > 0 {
-            met = Some(Verdict::Clash(n, e, next[bank] as usize));
-        }
-        next[bank] = e as u8;
-    }
-    met
+    let (i, j) = (i32::from(book.columns[e]), i32::from(book.rows[e]));
+    (j.rem_euclid(d) * a + (i - b * j.div_euclid(d)).rem_euclid(a)) as usize
 }
 
-/// The verdict on two vectors, or the refusal's number.
-pub fn check(r: &Record, x: (i16, i16), y: (i16, i16)) -> Result<Verdict, u64> {
-    match test_record(r) {
-        0 => {}
-        number => return Err(number),
+/// The clash of pattern n for r: each bank's pixels are counted from the last on.
+pub fn clash_of(book: &Record, r: u32, p: &Plan, n: usize) -> Option<Clash> {
+    let (mut counts, mut first) = ([0u8; 1024], None);
+    let entries = 64 * n..64 * n + book.used[n];
+    for e in entries.clone().rev() {
+        let bank = bank_of(book, p, e);
+        counts[bank] += 1;
+        if u32::from(counts[bank]) > r {
+            first = Some((e, bank));
+        }
     }
+    let (first, bank) = first?;
+    let mut positions = [0; 9];
+    let same = (first..entries.end).filter(|&e| bank_of(book, p, e) == bank);
+    for (to, e) in positions.iter_mut().zip(same.take(r as usize + 1)) {
+        *to = (e - 64 * n) as u64;
+    }
+    Some(Clash { pattern: n, positions })
+}
+
+/// The verdict for r on two vectors, or the refusal's number.
+pub fn check(book: &Record, r: u32, x: (i16, i16), y: (i16, i16)) -> Result<Verdict, u64> {
+    test_book(book, r)?;
     let p = normal_form(x, y)?;
-    if let Some(met) = (0..r.count).find_map(|n| clash_of(r, &p, n)) {
-        return Ok(met);
+    if let Some(met) = (0..book.count).find_map(|n| clash_of(book, r, &p, n)) {
+        return Ok(Verdict::Clash(met));
     }
-    let least = search(&marks(r), 1024).map_or(1024, |q| q.a * q.d);
+    let least = plan_for(book, r, 1024).map_or(1024, |q| q.a * q.d);
     let surplus = p.a * p.d - least;
     Ok(Verdict::Suits(p, surplus))
+}
+
+/// Puts the cycles of pattern n at the start of the output, or 2, 3, 4, 19, 20, 11, 17, 10, 16.
+#[inline(never)]
+pub fn write_cycles(book: &Record, r: u32, p: &Plan, n: usize, out: &mut [u8]) -> Result<usize, u64> {
+    test_book(book, r)?;
+    if !is_plan(p) {
+        return Err(11);
+    }
+    if n >= book.count {
+        return Err(17);
+    }
+    let (used, mut counts, mut cycles) = (book.used[n], [0u8; 1024], [0u8; 64]);
+    for (e, cycle) in cycles[..used].iter_mut().enumerate() {
+        let count = &mut counts[bank_of(book, p, 64 * n + e)];
+        *cycle = *count;
+        *count += 1;
+        if u32::from(*count) > r {
+            return Err(10);
+        }
+    }
+    if out.len() < used {
+        return Err(16);
+    }
+    out[..used].copy_from_slice(&cycles[..used]);
+    Ok(used)
 }

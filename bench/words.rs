@@ -1,7 +1,7 @@
 //! The calls on a picture in Rust as one would write them without proofs: the same checks, the same memory.
 
 use crate::bankplan::{Book as Record, Plan};
-use crate::unverified::{clash_of, test_record, Verdict};
+use crate::unverified::{clash_of, test_book, Clash};
 
 /// Words in a bank, and words from one strip of rows to the next.
 struct Layout {
@@ -9,7 +9,7 @@ struct Layout {
     across: usize,
 }
 
-fn is_plan(p: &Plan) -> bool {
+pub fn is_plan(p: &Plan) -> bool {
     p.d > 0 && p.b < p.a && u64::from(p.a) * u64::from(p.d) <= 1024
 }
 
@@ -87,17 +87,14 @@ pub fn sum(p: &Plan, w: u32, h: u32, mem: &[u16], k: u64) -> Result<u64, u64> {
     Ok(mem[k as usize * l.depth..][..l.depth].iter().map(|x| u64::from(*x)).sum())
 }
 
-/// 2, 3, 4, 19, 11, 12, 13, 17, 10.
-fn start(r: &Record, p: &Plan, w: u32, h: u32, words: usize, n: usize) -> Result<Layout, u64> {
-    match test_record(r) {
-        0 => {}
-        number => return Err(number),
-    }
+/// 2, 3, 4, 19, 20, 11, 12, 13, 17, 10.
+fn start(book: &Record, r: u32, p: &Plan, w: u32, h: u32, words: usize, n: usize) -> Result<Layout, u64> {
+    test_book(book, r)?;
     let l = layout(p, w, h, words)?;
-    if n >= r.count {
+    if n >= book.count {
         return Err(17);
     }
-    match clash_of(r, p, n) {
+    match clash_of(book, r, p, n) {
         None => Ok(l),
         Some(_) => Err(10),
     }
@@ -110,38 +107,44 @@ fn moved(r: &Record, n: usize, (i, j): (i16, i16)) -> impl Iterator<Item = (i32,
     pixels.map(move |(x, y)| (i32::from(i) + i32::from(*x), i32::from(j) + i32::from(*y)))
 }
 
+#[rustfmt::skip]
 #[inline(never)]
-pub fn fetch(r: &Record, p: &Plan, w: u32, h: u32, mem: &[u16], n: usize, o: (i16, i16), out: &mut [u16]) -> Result<usize, u64> {
-    let l = start(r, p, w, h, mem.len(), n)?;
-    if !moved(r, n, o).all(|(i, j)| inside(w, h, i, j)) {
+pub fn fetch(
+    book: &Record, r: u32, p: &Plan, w: u32, h: u32, mem: &[u16], n: usize, o: (i16, i16), out: &mut [u16],
+) -> Result<usize, u64> {
+    let l = start(book, r, p, w, h, mem.len(), n)?;
+    if !moved(book, n, o).all(|(i, j)| inside(w, h, i, j)) {
         return Err(14);
     }
-    if out.len() < r.used[n] {
+    if out.len() < book.used[n] {
         return Err(16);
     }
-    for (x, (i, j)) in out.iter_mut().zip(moved(r, n, o)) {
+    for (x, (i, j)) in out.iter_mut().zip(moved(book, n, o)) {
         *x = mem[place(p, &l, i, j)];
     }
-    Ok(r.used[n])
+    Ok(book.used[n])
 }
 
+#[rustfmt::skip]
 #[inline(never)]
-pub fn ring_fetch(r: &Record, p: &Plan, w: u32, h: u32, mem: &[u16], n: usize, o: (i16, i16), out: &mut [u16]) -> Result<usize, u64> {
-    let l = start(r, p, w, h, mem.len(), n)?;
+pub fn ring_fetch(
+    book: &Record, r: u32, p: &Plan, w: u32, h: u32, mem: &[u16], n: usize, o: (i16, i16), out: &mut [u16],
+) -> Result<usize, u64> {
+    let l = start(book, r, p, w, h, mem.len(), n)?;
     if w % (p.a * p.d) != 0 || h % (p.a * p.d) != 0 {
         return Err(18);
     }
-    if out.len() < r.used[n] {
+    if out.len() < book.used[n] {
         return Err(16);
     }
-    for (x, (i, j)) in out.iter_mut().zip(moved(r, n, o)) {
+    for (x, (i, j)) in out.iter_mut().zip(moved(book, n, o)) {
         *x = mem[place(p, &l, i.rem_euclid(w as i32), j.rem_euclid(h as i32))];
     }
-    Ok(r.used[n])
+    Ok(book.used[n])
 }
 
 /// A refusal: its number, and of 10 the clash.
-type Refused = (u64, Option<(usize, usize, usize)>);
+type Refused = (u64, Option<Clash>);
 
 /// A book under a plan in a picture, with what a list of calls need find out only once.
 pub struct Tested<'a> {
@@ -154,16 +157,13 @@ pub struct Tested<'a> {
 }
 
 impl<'a> Tested<'a> {
-    pub fn new(r: &'a Record, p: &'a Plan, w: u32, h: u32, words: usize) -> Self {
-        let (book, layout) = (test_record(r), layout(p, w, h, words));
+    pub fn new(r: &'a Record, cycles: u32, p: &'a Plan, w: u32, h: u32, words: usize) -> Self {
+        let (book, layout) = (test_book(r, cycles), layout(p, w, h, words));
         let start = |n| match (book, &layout) {
-            (0, Ok(_)) if n >= r.count => Err((17, None)),
-            (0, Ok(_)) => match clash_of(r, p, n) {
-                Some(Verdict::Clash(n, e, l)) => Err((10, Some((n, e, l)))),
-                _ => Ok(()),
-            },
-            (0, Err(number)) => Err((*number, None)),
-            (number, _) => Err((number, None)),
+            (Ok(()), Ok(_)) if n >= r.count => Err((17, None)),
+            (Ok(()), Ok(_)) => clash_of(r, cycles, p, n).map_or(Ok(()), |clash| Err((10, Some(clash)))),
+            (Ok(()), Err(number)) => Err((*number, None)),
+            (Err(number), _) => Err((number, None)),
         };
         let starts = std::array::from_fn(start);
         Tested { r, p, w, h, layout, starts }

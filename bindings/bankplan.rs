@@ -8,7 +8,7 @@ use std::fmt;
 use std::mem::{offset_of, size_of};
 
 /// The version of this file, and of the library that is built from the same tree.
-pub const VERSION: &str = "0.4.0";
+pub const VERSION: &str = "0.5.0";
 
 /// The banks of a plan, the finder's limit and a determinant's size, at most.
 pub const MAX_BANKS: u32 = 1024;
@@ -20,6 +20,8 @@ pub const MAX_PATTERNS: usize = 16;
 pub const MAX_BOOK_BYTES: usize = 2065;
 /// The width or height of a picture, at most.
 pub const MAX_SIDE: u32 = 4096;
+/// The cycles of a pattern, r, at most.
+pub const MAX_CYCLES: u32 = 8;
 /// The least and the greatest column or row of a pattern's pixel.
 pub const LEAST_COORDINATE: i8 = -16;
 pub const GREATEST_COORDINATE: i8 = 15;
@@ -29,10 +31,10 @@ pub const ENTRIES: usize = 1024;
 pub const ANSWER_NUMBERS: usize = 12;
 
 // How they hang together: the window of all coordinates has as many pixels as a plan may have banks, and a picture's pixels
-// have 16-bit coordinates.
+// have 16-bit coordinates. A clash has one position more than there are cycles; place and pattern stand before it in an answer.
 const _: () = assert!(ENTRIES == MAX_PATTERNS * MAX_PIXELS && MAX_BOOK_BYTES == 1 + MAX_PATTERNS * (1 + 2 * MAX_PIXELS));
 const _: () = assert!(MAX_BANKS == (GREATEST_COORDINATE as i32 - LEAST_COORDINATE as i32 + 1).pow(2) as u32);
-const _: () = assert!(MAX_SIDE <= i16::MAX as u32);
+const _: () = assert!(MAX_SIDE <= i16::MAX as u32 && 2 + CLASH_PIXELS <= ANSWER_NUMBERS && 3 + CLASH_PIXELS <= REPLY_NUMBERS);
 
 // A count, a place or a length passes as 64 bits, a pixel record as 12 bytes.
 const _: () = assert!(usize::BITS == 64 && size_of::<PixelRecord>() == 12);
@@ -63,11 +65,16 @@ pub mod raw {
             columns: &[i8; 1024], rows: &[i8; 1024], used: &[usize; 16], count: usize, answer: &mut [u64; 12],
         ) -> u64;
         pub fn bankplan_find(
-            columns: &[i8; 1024], rows: &[i8; 1024], used: &[usize; 16], count: usize, limit: u32, answer: &mut [u64; 12],
+            columns: &[i8; 1024], rows: &[i8; 1024], used: &[usize; 16], count: usize,
+            r: u32, limit: u32, answer: &mut [u64; 12],
         ) -> u64;
         pub fn bankplan_check(
             columns: &[i8; 1024], rows: &[i8; 1024], used: &[usize; 16], count: usize,
-            x1: i16, x2: i16, y1: i16, y2: i16, answer: &mut [u64; 12],
+            r: u32, x1: i16, x2: i16, y1: i16, y2: i16, answer: &mut [u64; 12],
+        ) -> u64;
+        pub fn bankplan_write_cycles(
+            columns: &[i8; 1024], rows: &[i8; 1024], used: &[usize; 16], count: usize,
+            r: u32, a: u32, b: u32, d: u32, n: usize, out: *mut u8, out_length: usize, answer: &mut [u64; 12],
         ) -> u64;
         pub fn bankplan_store(
             a: u32, b: u32, d: u32, w: u32, h: u32, mem: *mut u16, mem_length: usize,
@@ -85,23 +92,23 @@ pub mod raw {
         ) -> u64;
         pub fn bankplan_fetch(
             columns: &[i8; 1024], rows: &[i8; 1024], used: &[usize; 16], count: usize,
-            a: u32, b: u32, d: u32, w: u32, h: u32, mem: *const u16, mem_length: usize,
+            r: u32, a: u32, b: u32, d: u32, w: u32, h: u32, mem: *const u16, mem_length: usize,
             n: usize, i: i16, j: i16, out: *mut u16, out_length: usize, answer: &mut [u64; 12],
         ) -> u64;
         pub fn bankplan_ring_fetch(
             columns: &[i8; 1024], rows: &[i8; 1024], used: &[usize; 16], count: usize,
-            a: u32, b: u32, d: u32, w: u32, h: u32, mem: *const u16, mem_length: usize,
+            r: u32, a: u32, b: u32, d: u32, w: u32, h: u32, mem: *const u16, mem_length: usize,
             n: usize, i: i16, j: i16, out: *mut u16, out_length: usize, answer: &mut [u64; 12],
         ) -> u64;
         pub fn bankplan_run_list(
             columns: &[i8; 1024], rows: &[i8; 1024], used: &[usize; 16], count: usize,
-            a: u32, b: u32, d: u32, w: u32, h: u32, mem: *mut u16, mem_length: usize,
+            r: u32, a: u32, b: u32, d: u32, w: u32, h: u32, mem: *mut u16, mem_length: usize,
             numbers: *const u64, numbers_length: usize, outs: *mut u16, outs_length: usize,
             replies: *mut u64, replies_length: usize, answer: &mut [u64; 12],
         ) -> u64;
         pub fn bankplan_find_and_run(
             columns: &[i8; 1024], rows: &[i8; 1024], used: &[usize; 16], count: usize,
-            limit: u32, w: u32, h: u32, mem: *mut u16, mem_length: usize,
+            r: u32, limit: u32, w: u32, h: u32, mem: *mut u16, mem_length: usize,
             numbers: *const u64, numbers_length: usize, outs: *mut u16, outs_length: usize,
             replies: *mut u64, replies_length: usize, answer: &mut [u64; 12],
         ) -> u64;
@@ -119,19 +126,55 @@ pub struct Plan {
     pub d: u32,
 }
 
-/// A plan and how many banks it has above the least count.
+/// A plan and how many banks it has above the least count for its r.
 #[derive(Clone, Copy, Debug, PartialEq, Eq)]
 pub struct Checked {
     pub plan: Plan,
     pub surplus: u32,
 }
 
-/// Two pixels of one pattern in one bank: the pattern's number and the positions of both, counted from 0.
-#[derive(Clone, Copy, Debug, PartialEq, Eq)]
+/// The positions of a clash, at most.
+const CLASH_PIXELS: usize = MAX_CYCLES as usize + 1;
+
+/// More than r pixels of one pattern in one bank: the pattern's number, and the positions of r + 1 of them, ascending. All are
+/// counted from 0.
+#[derive(Clone, Copy, PartialEq, Eq)]
 pub struct Clash {
     pub pattern: usize,
-    pub earlier: usize,
-    pub later: usize,
+    // the first `count`; the others are 0
+    positions: [usize; CLASH_PIXELS],
+    count: usize,
+}
+
+impl Clash {
+    /// The clash of a pattern at these positions; those past the ninth do not count.
+    pub fn new(pattern: usize, positions: &[usize]) -> Clash {
+        let mut clash = Clash { pattern, positions: [0; CLASH_PIXELS], count: positions.len().min(CLASH_PIXELS) };
+        clash.positions.iter_mut().zip(positions).for_each(|(to, from)| *to = *from);
+        clash
+    }
+
+    /// The positions, r + 1 of them.
+    pub fn positions(&self) -> &[usize] {
+        self.positions.get(..self.count).unwrap_or_default()
+    }
+
+    // The clash in a row, behind the place. Positions ascend, so what is not above the one before it is none.
+    fn of(row: &[u64]) -> Clash {
+        let at = |k: usize| row.get(k).map_or(0, |&x| x as usize);
+        let mut clash = Clash::new(at(1), &[at(2)]);
+        while clash.count < CLASH_PIXELS && at(2 + clash.count) > at(1 + clash.count) {
+            clash.positions[clash.count] = at(2 + clash.count);
+            clash.count += 1;
+        }
+        clash
+    }
+}
+
+impl fmt::Debug for Clash {
+    fn fmt(&self, f: &mut fmt::Formatter) -> fmt::Result {
+        f.debug_struct("Clash").field("pattern", &self.pattern).field("positions", &self.positions()).finish()
+    }
 }
 
 /// A book record. Pattern n has the entries 64 × n to 64 × n + 63 of columns and rows, of which the first used[n] count; of the
@@ -192,7 +235,7 @@ pub enum Reply {
 /// Why a list was not made. Then nothing was changed, and no call of it was made.
 #[derive(Clone, Copy, Debug, PartialEq, Eq)]
 pub enum NotMade {
-    /// There is no plan: the finder's refusal, 2, 3, 4, 19, 6 or 7.
+    /// There is no plan: the finder's refusal, 2, 3, 4, 19, 6, 20 or 7.
     Refused(Refused),
     /// The five numbers from this place on are no call's, or fewer than five stand there. (255: document 01 has no number)
     NotCalls { place: usize },
@@ -211,8 +254,8 @@ pub const KIND_CLEAR: u64 = 1;
 pub const KIND_LOAD: u64 = 2;
 pub const KIND_FETCH: u64 = 3;
 
-/// A call turned down: document 01's number, 1 to 18, or 19 of document 02; the place, a byte offset for 1 to 5 and 19 where the
-/// call was given bytes, else 0; and the clash of 10.
+/// A call turned down: document 01's number, 1 to 18, or 19 or 20 of document 02; the place, a byte offset for 1 to 5 and 19 where
+/// the call was given bytes, else 0; and the clash of 10.
 #[derive(Clone, Copy, Debug, PartialEq, Eq)]
 pub struct Refused {
     pub number: u64,
@@ -220,8 +263,8 @@ pub struct Refused {
     pub clash: Option<Clash>,
 }
 
-/// The conditions from 1 to 19: document 01's, and the last of Card 3 in document 02.
-pub const CONDITIONS: [&str; 19] = [
+/// The conditions from 1 to 20: document 01's, and the last two of Cards 3 and 4 in document 02.
+pub const CONDITIONS: [&str; 20] = [
     "book ends early",
     "pattern count not 1-16 or pixel count not 1-64",
     "coordinate not -16..15",
@@ -241,6 +284,7 @@ pub const CONDITIONS: [&str; 19] = [
     "pattern number not in the book",
     "ring sides not multiples of N",
     "pixel lower than the one before it, by row, then column",
+    "r outside 1 to 8",
 ];
 
 impl Refused {
@@ -256,10 +300,27 @@ impl fmt::Display for Refused {
     fn fmt(&self, f: &mut fmt::Formatter) -> fmt::Result {
         write!(f, "refused {}: {}", self.number, self.condition())?;
         match self.clash {
-            Some(c) => write!(f, ", pattern {}, positions {} and {}", c.pattern, c.earlier, c.later),
+            Some(c) => write!(f, ", {c}"),
             None if self.place > 0 => write!(f, ", place {}", self.place),
             None => Ok(()),
         }
+    }
+}
+
+// It reads like "pattern 0, positions 1, 4 and 7".
+impl fmt::Display for Clash {
+    fn fmt(&self, f: &mut fmt::Formatter) -> fmt::Result {
+        let positions = self.positions();
+        write!(f, "pattern {}, positions", self.pattern)?;
+        for (k, position) in positions.iter().enumerate() {
+            let before = match k {
+                0 => " ",
+                _ if k + 1 < positions.len() => ", ",
+                _ => " and ",
+            };
+            write!(f, "{before}{position}")?;
+        }
+        Ok(())
     }
 }
 
@@ -300,9 +361,8 @@ fn told(call: impl FnOnce(&mut [u64; ANSWER_NUMBERS]) -> u64) -> Result<[u64; AN
 
 // The refusal of this number, with its place and its clash in a row.
 fn refused(number: u64, row: &[u64]) -> Refused {
-    let at = |k: usize| row.get(k).map_or(0, |&x| x as usize);
-    let clash = (number == 10).then(|| Clash { pattern: at(1), earlier: at(2), later: at(3) });
-    Refused { number, place: at(0), clash }
+    let place = row.first().map_or(0, |&x| x as usize);
+    Refused { number, place, clash: (number == 10).then(|| Clash::of(row)) }
 }
 
 fn plan_of(answer: [u64; ANSWER_NUMBERS]) -> Plan {
@@ -379,17 +439,27 @@ impl Book {
         told(|t| unsafe { raw::bankplan_write_book(columns, rows, used, *count, out, length, t) }).map(|r| r[0] as usize)
     }
 
-    /// The plan with the fewest banks within the limit; of several the one with the least b, then the least d. Refused by 2, 3, 4,
-    /// 19, 6, 7.
-    pub fn find(&self, limit: u32) -> Result<Plan, Refused> {
-        told(|t| unsafe { raw::bankplan_find(&self.columns, &self.rows, &self.used, self.count, limit, t) }).map(plan_of)
+    /// The plan with the fewest banks within the limit that suits for r; of several the one with the least b, then the least d.
+    /// Refused by 2, 3, 4, 19, 6, 20, 7.
+    pub fn find(&self, r: u32, limit: u32) -> Result<Plan, Refused> {
+        told(|t| unsafe { raw::bankplan_find(&self.columns, &self.rows, &self.used, self.count, r, limit, t) }).map(plan_of)
     }
 
-    /// The verdict on a supplier's two vectors: their plan and its surplus. Refused by 2, 3, 4, 19, 8, 9, and by 10 with a clash.
-    pub fn check(&self, x: (i16, i16), y: (i16, i16)) -> Result<Checked, Refused> {
+    /// The verdict for r on a supplier's two vectors: their plan and its surplus. Refused by 2, 3, 4, 19, 20, 8, 9, and by 10 with
+    /// a clash.
+    pub fn check(&self, r: u32, x: (i16, i16), y: (i16, i16)) -> Result<Checked, Refused> {
         let Book { columns, rows, used, count } = self;
-        let answer = told(|t| unsafe { raw::bankplan_check(columns, rows, used, *count, x.0, x.1, y.0, y.1, t) })?;
+        let answer = told(|t| unsafe { raw::bankplan_check(columns, rows, used, *count, r, x.0, x.1, y.0, y.1, t) })?;
         Ok(Checked { plan: plan_of(answer), surplus: answer[3] as u32 })
+    }
+
+    /// Puts the cycle of each pixel of pattern n under a plan at the start of the output, a byte each in the book's pixel order,
+    /// and gives their count. Refused by 2, 3, 4, 19, 20, 11, 17, 10, 16.
+    pub fn write_cycles(&self, r: u32, plan: Plan, n: usize, out: &mut [u8]) -> Result<usize, Refused> {
+        let (Book { columns, rows, used, count }, Plan { a, b, d }) = (self, plan);
+        let (out, length) = (out.as_mut_ptr(), out.len());
+        let call = |t: &mut _| unsafe { raw::bankplan_write_cycles(columns, rows, used, *count, r, a, b, d, n, out, length, t) };
+        told(call).map(|r| r[0] as usize)
     }
 }
 
@@ -439,24 +509,32 @@ impl Picture {
     }
 
     /// Puts the words of pattern n, moved to (i, j), at the start of the output in the book's pixel order, and gives their
-    /// count. Refused by 2, 3, 4, 19, 11, 12, 13, 17, 10, 14, 16.
-    pub fn fetch(self, book: &Book, mem: &[u16], n: usize, (i, j): (i16, i16), out: &mut [u16]) -> Result<usize, Refused> {
+    /// count. Refused by 2, 3, 4, 19, 20, 11, 12, 13, 17, 10, 14, 16.
+    pub fn fetch(self, book: &Book, r: u32, mem: &[u16], n: usize, (i, j): (i16, i16), out: &mut [u16]) -> Result<usize, Refused> {
         let Picture { plan: Plan { a, b, d }, width: w, height: h } = self;
         let Book { columns, rows, used, count } = book;
         let (words, mem, room, out) = (mem.len(), mem.as_ptr(), out.len(), out.as_mut_ptr());
         let call = |t: &mut _| unsafe {
-            raw::bankplan_fetch(columns, rows, used, *count, a, b, d, w, h, mem, words, n, i, j, out, room, t)
+            raw::bankplan_fetch(columns, rows, used, *count, r, a, b, d, w, h, mem, words, n, i, j, out, room, t)
         };
         told(call).map(|r| r[0] as usize)
     }
 
-    /// The same with columns modulo the width and rows modulo the height. Refused by 2, 3, 4, 19, 11, 12, 13, 17, 10, 18, 16.
-    pub fn ring_fetch(self, book: &Book, mem: &[u16], n: usize, (i, j): (i16, i16), out: &mut [u16]) -> Result<usize, Refused> {
+    /// The same with columns modulo the width and rows modulo the height. Refused by 2, 3, 4, 19, 20, 11, 12, 13, 17, 10, 18, 16.
+    pub fn ring_fetch(
+        self,
+        book: &Book,
+        r: u32,
+        mem: &[u16],
+        n: usize,
+        (i, j): (i16, i16),
+        out: &mut [u16],
+    ) -> Result<usize, Refused> {
         let Picture { plan: Plan { a, b, d }, width: w, height: h } = self;
         let Book { columns, rows, used, count } = book;
         let (words, mem, room, out) = (mem.len(), mem.as_ptr(), out.len(), out.as_mut_ptr());
         let call = |t: &mut _| unsafe {
-            raw::bankplan_ring_fetch(columns, rows, used, *count, a, b, d, w, h, mem, words, n, i, j, out, room, t)
+            raw::bankplan_ring_fetch(columns, rows, used, *count, r, a, b, d, w, h, mem, words, n, i, j, out, room, t)
         };
         told(call).map(|r| r[0] as usize)
     }
@@ -539,10 +617,10 @@ fn made<T>(
 }
 
 impl Picture {
-    /// Makes the calls one after the other, each on the memory as the one before left it, and gives their replies. A call that
-    /// is refused is a reply too, and those behind it are made.
-    pub fn run_list(self, book: &Book, mem: &mut [u16], calls: &[Call]) -> Result<Vec<Reply>, NotMade> {
-        made(calls, |numbers, outs, replies| self.run_numbers(book, mem, numbers, outs, replies)).map(|((), replies)| replies)
+    /// Makes the calls one after the other, fetches for r, each on the memory as the one before left it, and gives their replies. A
+    /// call that is refused is a reply too, and those behind it are made.
+    pub fn run_list(self, book: &Book, r: u32, mem: &mut [u16], calls: &[Call]) -> Result<Vec<Reply>, NotMade> {
+        made(calls, |numbers, outs, replies| self.run_numbers(book, r, mem, numbers, outs, replies)).map(|((), replies)| replies)
     }
 
     /// The same of a list in numbers, five to a call. Each fetch has the next `room` words of the outputs, each call the next
@@ -550,6 +628,7 @@ impl Picture {
     pub fn run_numbers(
         self,
         book: &Book,
+        r: u32,
         mem: &mut [u16],
         numbers: &[u64],
         outs: &mut [u16],
@@ -561,7 +640,7 @@ impl Picture {
         let (outs, room, replies, places) = (outs.as_mut_ptr(), outs.len(), replies.as_mut_ptr(), replies.len());
         let call = |t: &mut _| unsafe {
             raw::bankplan_run_list(
-                columns, rows, used, *count, a, b, d, w, h, mem, words, list, length, outs, room, replies, places, t,
+                columns, rows, used, *count, r, a, b, d, w, h, mem, words, list, length, outs, room, replies, places, t,
             )
         };
         told(call)?;
@@ -570,22 +649,24 @@ impl Picture {
 }
 
 impl Book {
-    /// Finds the plan with the fewest banks within the limit and makes the calls under it, as `Picture::run_list` does. Gives
+    /// Finds the plan with the fewest banks within the limit for r and makes the calls under it, as `Picture::run_list` does. Gives
     /// the plan and the replies. The memory needs N × depth words under that plan, or each call is refused by 13; (width + limit)
     /// × (height + limit) words are always enough.
     pub fn find_and_run(
         &self,
+        r: u32,
         limit: u32,
         (width, height): (u32, u32),
         mem: &mut [u16],
         calls: &[Call],
     ) -> Result<(Plan, Vec<Reply>), NotMade> {
-        made(calls, |numbers, outs, replies| self.find_and_run_numbers(limit, (width, height), mem, numbers, outs, replies))
+        made(calls, |numbers, outs, replies| self.find_and_run_numbers(r, limit, (width, height), mem, numbers, outs, replies))
     }
 
     /// The same of a list in numbers, as for `Picture::run_numbers`. Gives the plan.
     pub fn find_and_run_numbers(
         &self,
+        r: u32,
         limit: u32,
         (w, h): (u32, u32),
         mem: &mut [u16],
@@ -598,7 +679,7 @@ impl Book {
         let (outs, room, replies, places) = (outs.as_mut_ptr(), outs.len(), replies.as_mut_ptr(), replies.len());
         let call = |t: &mut _| unsafe {
             raw::bankplan_find_and_run(
-                columns, rows, used, *count, limit, w, h, mem, words, list, length, outs, room, replies, places, t,
+                columns, rows, used, *count, r, limit, w, h, mem, words, list, length, outs, room, replies, places, t,
             )
         };
         Ok(plan_of(told(call)?))

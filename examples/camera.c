@@ -1,7 +1,7 @@
 /*
  * A camera's buffer, from C: a filter of five pixels in a cross, the plan with the fewest banks for it, a picture of 7 by 4 under
- * that plan, what shuffled books, suppliers and wrong positions get, and a list of calls made at once. camera.rs does the same in
- * Rust.
+ * that plan, what shuffled books, suppliers and wrong positions get, a list of calls made at once, and the same filter read in two
+ * cycles. camera.rs does the same in Rust.
  *
  *   cc -std=c11 -o target/camera-c examples/camera.c target/staticlib/libcapi.a
  */
@@ -13,21 +13,29 @@
 enum { WIDTH = 7, HEIGHT = 4 };
 
 /* Says what turned a call down; the number is handed on. */
-static uint64_t said(const char *call, uint64_t number, const uint64_t answer[12]) {
-    if (number == BANKPLAN_UNSUITED)
-        printf("%s: refused %d, pixels %d and %d of pattern %d share a bank\n", call, (int)number, (int)answer[2],
-               (int)answer[3], (int)answer[1]);
-    else if (number != 0)
+static uint64_t said(const char *call, uint64_t number) {
+    if (number != 0)
         printf("%s: refused %d\n", call, (int)number);
     return number;
 }
 
-/* The replies of four calls; the words are those of the fetch. */
+/* The same of a call for r, whose clash is r + 1 pixels. */
+static uint64_t said_for(uint32_t r, const char *call, uint64_t number, const uint64_t answer[12]) {
+    if (number != BANKPLAN_UNSUITED)
+        return said(call, number);
+    printf("%s: refused %d, pixels", call, (int)number);
+    for (uint32_t k = 0; k <= r; k++)
+        printf("%s%d", k == 0 ? " " : k < r ? ", " : " and ", (int)answer[2 + k]);
+    printf(" of pattern %d share a bank\n", (int)answer[1]);
+    return number;
+}
+
+/* The replies of four calls for r = 1; the words are those of the fetch. */
 static void show(const uint64_t *numbers, const uint64_t *replies, const uint16_t *words) {
     for (int k = 0; k < 4; k++) {
         const uint64_t *reply = replies + k * BANKPLAN_REPLY_NUMBERS;
         uint64_t kind = numbers[k * BANKPLAN_CALL_NUMBERS];
-        if (said("list", reply[0], reply + 1) != 0)
+        if (said_for(1, "list", reply[0], reply + 1) != 0)
             continue;
         printf(kind == BANKPLAN_KIND_LOAD ? "list: word" : kind == BANKPLAN_KIND_FETCH ? "list: words" : "list: done");
         if (kind == BANKPLAN_KIND_LOAD)
@@ -36,6 +44,24 @@ static void show(const uint64_t *numbers, const uint64_t *replies, const uint16_
             printf(" %02d", words[e]);
         printf("\n");
     }
+}
+
+/* A camera that may take two cycles needs fewer banks: each pixel's bank and cycle, and what a plan of two banks gets. */
+static int two_cycles(const int8_t columns[1024], const int8_t rows[1024], const size_t used[16], size_t count) {
+    uint64_t answer[12];
+    uint8_t cycles[64];
+    if (said("find", bankplan_find(columns, rows, used, count, 2, 1024, answer)) != 0)
+        return 1;
+    uint32_t a = (uint32_t)answer[0], b = (uint32_t)answer[1], d = (uint32_t)answer[2];
+    printf("plan in two cycles: %d %d %d, %d banks\n", (int)a, (int)b, (int)d, (int)(a * d));
+    if (said_for(2, "cycles", bankplan_write_cycles(columns, rows, used, count, 2, a, b, d, 0, cycles, 64, answer), answer) != 0)
+        return 1;
+    size_t written = (size_t)answer[0];
+    for (size_t e = 0; e < written; e++)
+        if (said("bank", bankplan_bank(a, b, d, columns[e], rows[e], answer)) == 0)
+            printf("cycles: (%d, %d) from bank %d in cycle %d\n", columns[e], rows[e], (int)answer[0], cycles[e]);
+    said_for(2, "check in two cycles", bankplan_check(columns, rows, used, count, 2, 2, 0, 0, 1, answer), answer);
+    return 0;
 }
 
 int main(void) {
@@ -49,27 +75,27 @@ int main(void) {
     uint64_t answer[12];
 
     /* the book, as a record */
-    if (said("read", bankplan_read_book(bytes, sizeof bytes, columns, rows, used, answer), answer) != 0)
+    if (said("read", bankplan_read_book(bytes, sizeof bytes, columns, rows, used, answer)) != 0)
         return 1;
     size_t count = (size_t)answer[0];
     printf("book: %d pattern, %d pixels\n", (int)count, (int)used[0]);
 
     /* shuffled pixels are no book; the record stays as it is */
-    said("shuffled", bankplan_read_book(shuffled, sizeof shuffled, columns, rows, used, answer), answer);
+    said("shuffled", bankplan_read_book(shuffled, sizeof shuffled, columns, rows, used, answer));
 
-    /* the plan with the fewest banks */
-    if (said("find", bankplan_find(columns, rows, used, count, 1024, answer), answer) != 0)
+    /* the plan with the fewest banks, all pixels in one cycle */
+    if (said("find", bankplan_find(columns, rows, used, count, 1, 1024, answer)) != 0)
         return 1;
     uint32_t a = (uint32_t)answer[0], b = (uint32_t)answer[1], d = (uint32_t)answer[2];
     printf("plan: %d %d %d, %d banks\n", (int)a, (int)b, (int)d, (int)(a * d));
 
     /* what two suppliers send: twice as many banks as needed, and too few */
-    if (said("check", bankplan_check(columns, rows, used, count, 10, 0, 2, 1, answer), answer) == 0)
+    if (said_for(1, "check", bankplan_check(columns, rows, used, count, 1, 10, 0, 2, 1, answer), answer) == 0)
         printf("check: %d %d %d, surplus %d\n", (int)answer[0], (int)answer[1], (int)answer[2], (int)answer[3]);
-    said("check", bankplan_check(columns, rows, used, count, 2, 0, 0, 1, answer), answer);
+    said_for(1, "check", bankplan_check(columns, rows, used, count, 1, 2, 0, 0, 1, answer), answer);
 
     /* the memory that the picture needs: N * depth words */
-    if (said("depth", bankplan_depth(a, b, d, WIDTH, HEIGHT, answer), answer) != 0)
+    if (said("depth", bankplan_depth(a, b, d, WIDTH, HEIGHT, answer)) != 0)
         return 1;
     size_t length = (size_t)(a * d * answer[0]);
     printf("memory: %d words, %d to a bank\n", (int)length, (int)answer[0]);
@@ -80,37 +106,38 @@ int main(void) {
     /* each pixel gets a word of its own: its row, then its column */
     for (int16_t j = 0; j < HEIGHT; j++)
         for (int16_t i = 0; i < WIDTH; i++)
-            if (said("store", bankplan_store(a, b, d, WIDTH, HEIGHT, mem, length, i, j, (uint16_t)(10 * j + i), answer), answer))
+            if (said("store", bankplan_store(a, b, d, WIDTH, HEIGHT, mem, length, i, j, (uint16_t)(10 * j + i), answer)))
                 return 1;
 
     /* the cross at (3, 2): five words from five banks */
-    if (said("fetch",
-             bankplan_fetch(columns, rows, used, count, a, b, d, WIDTH, HEIGHT, mem, length, 0, 3, 2, words, 64, answer),
-             answer) != 0)
+    if (said_for(1, "fetch",
+                 bankplan_fetch(columns, rows, used, count, 1, a, b, d, WIDTH, HEIGHT, mem, length, 0, 3, 2, words, 64, answer),
+                 answer) != 0)
         return 1;
     size_t fetched = (size_t)answer[0];
     for (size_t e = 0; e < fetched; e++) {
         int16_t i = (int16_t)(3 + columns[e]), j = (int16_t)(2 + rows[e]);
-        if (said("bank", bankplan_bank(a, b, d, i, j, answer), answer) == 0)
+        if (said("bank", bankplan_bank(a, b, d, i, j, answer)) == 0)
             printf("fetch: word %02d at (%d, %d) from bank %d\n", words[e], i, j, (int)answer[0]);
     }
 
     /* where the words of three pixels stand */
     bankplan_pixel_record list[3] = {{0, 0, 0, 0}, {3, 2, 0, 0}, {6, 3, 0, 0}};
-    if (said("records", bankplan_fill_records(a, b, d, WIDTH, HEIGHT, list, 3, answer), answer) == 0)
+    if (said("records", bankplan_fill_records(a, b, d, WIDTH, HEIGHT, list, 3, answer)) == 0)
         for (int k = 0; k < 3; k++)
             printf("record: (%d, %d) in bank %d, address %d\n", list[k].column, list[k].row, (int)list[k].bank,
                    (int)list[k].address);
 
     /* at the corner the cross leaves the picture */
-    said("fetch at the corner",
-         bankplan_fetch(columns, rows, used, count, a, b, d, WIDTH, HEIGHT, mem, length, 0, 0, 0, words, 64, answer), answer);
+    said_for(1, "fetch at the corner",
+             bankplan_fetch(columns, rows, used, count, 1, a, b, d, WIDTH, HEIGHT, mem, length, 0, 0, 0, words, 64, answer),
+             answer);
 
     /* the sum of bank 0, before and after it is cleared */
     for (int round = 0; round < 2; round++) {
-        if (said("sum", bankplan_sum(a, b, d, WIDTH, HEIGHT, mem, length, 0, answer), answer) == 0)
+        if (said("sum", bankplan_sum(a, b, d, WIDTH, HEIGHT, mem, length, 0, answer)) == 0)
             printf("bank 0: sum %d\n", (int)answer[0]);
-        said("clear", bankplan_clear(a, b, d, WIDTH, HEIGHT, mem, length, 0, answer), answer);
+        said("clear", bankplan_clear(a, b, d, WIDTH, HEIGHT, mem, length, 0, answer));
     }
 
     /* four calls in one list: five numbers each, replies of twelve; the fetch has an output of five words */
@@ -122,9 +149,8 @@ int main(void) {
     };
     uint64_t replies[4 * BANKPLAN_REPLY_NUMBERS];
     if (said("list",
-             bankplan_run_list(columns, rows, used, count, a, b, d, WIDTH, HEIGHT, mem, length, numbers,
-                               4 * BANKPLAN_CALL_NUMBERS, words, 5, replies, 4 * BANKPLAN_REPLY_NUMBERS, answer),
-             answer) != 0)
+             bankplan_run_list(columns, rows, used, count, 1, a, b, d, WIDTH, HEIGHT, mem, length, numbers,
+                               4 * BANKPLAN_CALL_NUMBERS, words, 5, replies, 4 * BANKPLAN_REPLY_NUMBERS, answer)) != 0)
         return 1;
     show(numbers, replies, words);
 
@@ -132,12 +158,11 @@ int main(void) {
     for (size_t k = 0; k < length; k++)
         mem[k] = 0;
     if (said("find and run",
-             bankplan_find_and_run(columns, rows, used, count, 1024, WIDTH, HEIGHT, mem, length, numbers,
-                                   4 * BANKPLAN_CALL_NUMBERS, words, 5, replies, 4 * BANKPLAN_REPLY_NUMBERS, answer),
-             answer) != 0)
+             bankplan_find_and_run(columns, rows, used, count, 1, 1024, WIDTH, HEIGHT, mem, length, numbers,
+                                   4 * BANKPLAN_CALL_NUMBERS, words, 5, replies, 4 * BANKPLAN_REPLY_NUMBERS, answer)) != 0)
         return 1;
     printf("list under plan %d %d %d\n", (int)answer[0], (int)answer[1], (int)answer[2]);
     show(numbers, replies, words);
     free(mem);
-    return 0;
+    return two_cycles(columns, rows, used, count);
 }

@@ -1,11 +1,11 @@
 //! A camera's buffer, from Rust: a filter of five pixels in a cross, the plan with the fewest banks for it, a picture of 7 by 4
-//! under that plan, what shuffled books, suppliers and wrong positions get, and a list of calls made at once. camera.c does the
-//! same in C.
+//! under that plan, what shuffled books, suppliers and wrong positions get, a list of calls made at once, and the same filter read
+//! in two cycles. camera.c does the same in C.
 //!
 //!     rustc --edition 2021 -O --crate-type rlib --out-dir target -L native=target/staticlib -l static=capi bindings/bankplan.rs
 //!     rustc --edition 2021 -O --out-dir target --extern bankplan=target/libbankplan.rlib examples/camera.rs
 
-use bankplan::{read_book, Call, Picture, PixelRecord, Refused, Reply};
+use bankplan::{read_book, Book, Call, Picture, PixelRecord, Refused, Reply};
 use std::error::Error;
 
 // One pattern of five pixels, which ascend by row, then column: (0,-1), (-1,0), (0,0), (1,0), (0,1); column byte first.
@@ -18,7 +18,9 @@ fn say(call: &str, refused: Refused) {
     let number = refused.number;
     match refused.clash {
         Some(c) => {
-            println!("{call}: refused {number}, pixels {} and {} of pattern {} share a bank", c.earlier, c.later, c.pattern)
+            let pixels: Vec<String> = c.positions().iter().map(|e| e.to_string()).collect();
+            let (last, before) = pixels.split_last().expect("a clash has r + 1 pixels");
+            println!("{call}: refused {number}, pixels {} and {last} of pattern {} share a bank", before.join(", "), c.pattern)
         }
         None => println!("{call}: refused {number}"),
     }
@@ -38,6 +40,21 @@ fn show(replies: Vec<Reply>) {
     }
 }
 
+// A camera that may take two cycles needs fewer banks: each pixel's bank and cycle, and what a plan of two banks gets.
+fn two_cycles(book: &Book) -> Result<(), Refused> {
+    let plan = book.find(2, 1024)?;
+    println!("plan in two cycles: {} {} {}, {} banks", plan.a, plan.b, plan.d, plan.banks());
+    let mut cycles = [0; 64];
+    let written = book.write_cycles(2, plan, 0, &mut cycles)?;
+    for ((i, j), cycle) in book.pattern(0).into_iter().flatten().zip(&cycles[..written]) {
+        println!("cycles: ({i}, {j}) from bank {} in cycle {cycle}", plan.bank((i.into(), j.into()))?);
+    }
+    if let Err(refused) = book.check(2, (2, 0), (0, 1)) {
+        say("check in two cycles", refused);
+    }
+    Ok(())
+}
+
 fn main() -> Result<(), Box<dyn Error>> {
     // the book, as a record
     let book = read_book(&BYTES)?;
@@ -49,13 +66,13 @@ fn main() -> Result<(), Box<dyn Error>> {
         say("shuffled", refused);
     }
 
-    // the plan with the fewest banks
-    let plan = book.find(1024)?;
+    // the plan with the fewest banks, all pixels in one cycle
+    let plan = book.find(1, 1024)?;
     println!("plan: {} {} {}, {} banks", plan.a, plan.b, plan.d, plan.banks());
 
     // what two suppliers send: twice as many banks as needed, and too few
     for (x, y) in [((10, 0), (2, 1)), ((2, 0), (0, 1))] {
-        match book.check(x, y) {
+        match book.check(1, x, y) {
             Ok(c) => println!("check: {} {} {}, surplus {}", c.plan.a, c.plan.b, c.plan.d, c.surplus),
             Err(refused) => say("check", refused),
         }
@@ -76,7 +93,7 @@ fn main() -> Result<(), Box<dyn Error>> {
 
     // the cross at (3, 2): five words from five banks
     let mut words = [0; 64];
-    let fetched = picture.fetch(&book, &mem, 0, (3, 2), &mut words)?;
+    let fetched = picture.fetch(&book, 1, &mem, 0, (3, 2), &mut words)?;
     for ((column, row), word) in cross.iter().zip(&words[..fetched]) {
         let (i, j) = (3 + i16::from(*column), 2 + i16::from(*row));
         println!("fetch: word {word:02} at ({i}, {j}) from bank {}", plan.bank((i, j))?);
@@ -90,7 +107,7 @@ fn main() -> Result<(), Box<dyn Error>> {
     }
 
     // at the corner the cross leaves the picture
-    if let Err(refused) = picture.fetch(&book, &mem, 0, (0, 0), &mut words) {
+    if let Err(refused) = picture.fetch(&book, 1, &mem, 0, (0, 0), &mut words) {
         say("fetch at the corner", refused);
     }
 
@@ -107,12 +124,13 @@ fn main() -> Result<(), Box<dyn Error>> {
         Call::Clear { bank: 3 },
         Call::Fetch { pattern: 0, at: (3, 2), room: 5 },
     ];
-    show(picture.run_list(&book, &mut mem, &calls)?);
+    show(picture.run_list(&book, 1, &mut mem, &calls)?);
 
     // the finder too, and the same list on a memory of 0
     mem.fill(0);
-    let (plan, replies) = book.find_and_run(1024, (7, 4), &mut mem, &calls)?;
+    let (plan, replies) = book.find_and_run(1, 1024, (7, 4), &mut mem, &calls)?;
     println!("list under plan {} {} {}", plan.a, plan.b, plan.d);
     show(replies);
+    two_cycles(&book)?;
     Ok(())
 }

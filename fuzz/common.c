@@ -47,9 +47,14 @@ struct told take_answer(uint64_t number, uint64_t *answer) {
 }
 
 void must_refuse(struct told t, uint64_t number) {
-    MUST(t.number == number);
-    MUST(t.values == (number == 10 ? 4 : 1));
-    MUST(t.row[0] == 0);
+    MUST(number != 10 && t.number == number);
+    MUST(t.values == 1 && t.row[0] == 0);
+}
+
+void must_clash(struct told t, uint32_t r, size_t n, const size_t positions[CLASH_LENGTH]) {
+    MUST(t.number == 10 && t.values == (int)r + 3);
+    MUST(t.row[0] == 0 && t.row[1] == n);
+    for (uint32_t m = 0; m <= r; m++) MUST(t.row[2 + m] == positions[m]);
 }
 
 unsigned byte(struct feed *f) {
@@ -68,6 +73,13 @@ uint64_t eight(struct feed *f) {
     for (int k = 0; k < 8; k++) x |= (uint64_t)byte(f) << (8 * k);
     return x;
 }
+
+uint32_t cycles_from(struct feed *f) {
+    unsigned x = byte(f);
+    return x < 200 ? 1 + x % 8 : x < 250 ? x - 200 : (uint32_t)eight(f);
+}
+
+bool is_cycles(uint32_t r) { return r >= 1 && r <= 8; }
 
 // Whether (i, j) is lower than (x, y): by row, then column.
 static bool lower(int i, int j, int x, int y) { return j < y || (j == y && i < x); }
@@ -173,14 +185,13 @@ unsigned plain_test(const struct record *r) {
     return 0;
 }
 
-bool plain_clash(const struct record *r, size_t n, struct plan p, size_t *earlier, size_t *later) {
-    const int8_t *columns = r->columns + 64 * n, *rows = r->rows + 64 * n;
-    for (size_t m = 0; m < r->used[n]; m++)
-        for (size_t k = m + 1; k < r->used[n]; k++)
-            if (in_lattice(p, columns[k] - columns[m], rows[k] - rows[m])) {
-                *earlier = m;
-                *later = k;
-                return true;
-            }
+bool plain_clash(const struct record *book, size_t n, uint32_t r, struct plan p, size_t positions[CLASH_LENGTH]) {
+    const int8_t *columns = book->columns + 64 * n, *rows = book->rows + 64 * n;
+    for (size_t m = 0; m < book->used[n]; m++) {
+        size_t count = 0;
+        for (size_t k = m; k < book->used[n] && count <= r; k++)
+            if (in_lattice(p, columns[k] - columns[m], rows[k] - rows[m])) positions[count++] = k;
+        if (count > r) return true;
+    }
     return false;
 }

@@ -39,8 +39,10 @@ struct told take_answer(uint64_t number, uint64_t *answer);
         name = take_answer(number_, answer);            \
     } while (0)
 
-// A refusal tells its place alone; here that is 0.
+// A refusal but 10 tells its place alone; here that is 0. 10 also tells the pattern and r + 1 positions.
+enum { CLASH_LENGTH = BANKPLAN_MAX_CYCLES + 1 };
 void must_refuse(struct told t, uint64_t number);
+void must_clash(struct told t, uint32_t r, size_t n, const size_t positions[CLASH_LENGTH]);
 
 // An input's bytes, 0 once they are used up.
 struct feed {
@@ -50,6 +52,9 @@ struct feed {
 unsigned byte(struct feed *f);
 unsigned two(struct feed *f);
 uint64_t eight(struct feed *f);
+// Cycles: from 1 to 8 most often, near them, or any number.
+uint32_t cycles_from(struct feed *f);
+bool is_cycles(uint32_t r);
 
 // A record in exactly sized arrays.
 struct record {
@@ -73,6 +78,10 @@ uint32_t plain_bank(struct plan p, int i, int j);
 
 // 0, or the number that a record is refused by.
 unsigned plain_test(const struct record *r);
-// The least pair of positions of pattern n with a difference in the lattice.
-bool plain_clash(const struct record *r, size_t n, struct plan p, size_t *earlier, size_t *later);
+// The first r + 1 positions of pattern n, compared one by one, whose differences are in the lattice; r is from 1 to 8.
+bool plain_clash(const struct record *book, size_t n, uint32_t r, struct plan p, size_t positions[CLASH_LENGTH]);
+
+// cycles.c: the cycles of pattern n under a plan, with an output of so many bytes, by the number that must be told and by the
+// differences of the pixels. The plan and the record may be wrong; `refused` is the number of the record's refusal, or 0.
+void cycles(const struct record *book, unsigned refused, uint32_t r, struct plan p, size_t n, size_t room);
 #endif

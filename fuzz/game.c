@@ -40,8 +40,8 @@ void choose_plan(struct game *g, struct feed *f, unsigned how) {
         g->p.b = (uint32_t)number(f);
         g->p.d = (uint32_t)number(f);
     } else {
-        TOLD(t, bankplan_find(RECORD(&g->r), 1024, answer));
-        MUST(t.number == g->record_refused);
+        TOLD(t, bankplan_find(RECORD(&g->r), g->cycles, 1024, answer));
+        MUST(t.number == (g->record_refused ? g->record_refused : is_cycles(g->cycles) ? 0 : 20));
         if (t.number == 0) g->p = (struct plan){(uint32_t)t.row[0], (uint32_t)t.row[1], (uint32_t)t.row[2]};
     }
 }
@@ -78,12 +78,12 @@ unsigned outcome(const struct game *g, unsigned condition, bool holds) {
     return g->refused ? g->refused : holds ? condition : 0;
 }
 
-// The number that a fetch is refused by, in document 01's order; of a clash, where.
-unsigned fetch_number(const struct game *g, size_t n, int i, int j, size_t room, bool ring, size_t clash[2]) {
+unsigned fetch_number(const struct game *g, size_t n, int i, int j, size_t room, bool ring, size_t clash[CLASH_LENGTH]) {
     if (g->record_refused) return g->record_refused;
+    if (!is_cycles(g->cycles)) return 20;
     if (g->refused) return g->refused;
     if (n >= g->r.count) return 17;
-    if (plain_clash(&g->r, n, g->p, clash, clash + 1)) return 10;
+    if (plain_clash(&g->r, n, g->cycles, g->p, clash)) return 10;
     if (ring && (g->w % g->banks || g->h % g->banks)) return 18;
     for (size_t m = 0; !ring && m < g->r.used[n]; m++)
         if (!inside(g, i + g->r.columns[64 * n + m], j + g->r.rows[64 * n + m])) return 14;

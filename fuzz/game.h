@@ -11,6 +11,7 @@ enum { PAST = 0xbeef }; // what stands in the words past the picture's
 struct game {
     struct record r;
     unsigned record_refused; // the number that the record is refused by, or 0
+    uint32_t cycles;
     struct plan p;
     uint32_t w, h;
     uint64_t banks, depth; // 0 where there are none
@@ -35,8 +36,8 @@ uint64_t plain_address(const struct game *g, int i, int j);
 
 // The number that a call on the picture is refused by, where its own condition holds or not, or 0.
 unsigned outcome(const struct game *g, unsigned condition, bool holds);
-// That of a fetch, in document 01's order; of a clash, where.
-unsigned fetch_number(const struct game *g, size_t n, int i, int j, size_t room, bool ring, size_t clash[2]);
+// That of a fetch, in document 01's order, with 20 behind the book; of a clash, where.
+unsigned fetch_number(const struct game *g, size_t n, int i, int j, size_t room, bool ring, size_t clash[CLASH_LENGTH]);
 
 // runs.c: some calls made as one list
 void run(struct game *g, struct feed *f);

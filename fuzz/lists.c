@@ -84,15 +84,16 @@ static void locate(const struct game *g, struct feed *f) {
 }
 
 static void fetch(const struct game *g, struct feed *f, bool ring) {
-    size_t n = number(f), room = byte(f) % 67, clash[2] = {0, 0}, used = 0;
+    size_t n = number(f), room = byte(f) % 67, clash[CLASH_LENGTH], used = 0;
     int16_t i = coordinate(f), j = coordinate(f);
     unsigned no = fetch_number(g, n, i, j, room, ring, clash);
     uint16_t *out = lent(room * sizeof *out);
     for (size_t m = 0; m < room; m++) out[m] = PAST;
-    TOLD(t, (ring ? bankplan_ring_fetch : bankplan_fetch)(RECORD(&g->r), PICTURE(g), n, i, j, out, room, answer));
-    if (no) {
+    TOLD(t, (ring ? bankplan_ring_fetch : bankplan_fetch)(RECORD(&g->r), g->cycles, PICTURE(g), n, i, j, out, room, answer));
+    if (no == 10) {
+        must_clash(t, g->cycles, n, clash);
+    } else if (no) {
         must_refuse(t, no);
-        MUST(no != 10 || (t.row[1] == n && t.row[2] == clash[0] && t.row[3] == clash[1]));
     } else {
         used = g->r.used[n];
         MUST(t.number == 0 && t.values == 1 && t.row[0] == used);
@@ -131,7 +132,7 @@ static void fill(const struct game *g, struct feed *f) {
 }
 
 static void step(struct game *g, struct feed *f) {
-    switch (byte(f) % 10) {
+    switch (byte(f) % 11) {
     case 0:
     case 1: store(g, f); break;
     case 2: load(g, f); break;
@@ -141,7 +142,11 @@ static void step(struct game *g, struct feed *f) {
     case 6: fetch(g, f, false); break;
     case 7: fetch(g, f, true); break;
     case 8: fill(g, f); break;
-    default: run(g, f);
+    case 9: run(g, f); break;
+    default: {
+        size_t n = number(f), room = byte(f) % 67;
+        cycles(&g->r, g->record_refused, g->cycles, g->p, n, room);
+    }
     }
 }
 
@@ -164,6 +169,7 @@ int LLVMFuzzerTestOneInput(const uint8_t *data, size_t size) {
     struct feed f = {data, size};
     struct game g = {0};
     unsigned how = byte(&f);
+    g.cycles = cycles_from(&f);
     g.r = record_of(&f, !(how & 32));
     g.record_refused = plain_test(&g.r);
     choose_plan(&g, &f, how);

@@ -80,7 +80,7 @@ static void clear_pixels(struct game *g, uint64_t bank) {
 // A call on the plain array: its reply and, of a fetch, its words; how many there are.
 static size_t plain_call(struct game *g, const uint64_t *call, uint64_t reply[BANKPLAN_REPLY_NUMBERS], uint16_t words[64]) {
     int i = (int16_t)(uint16_t)call[1], j = (int16_t)(uint16_t)call[2];
-    size_t n = call[3], clash[2] = {0, 0};
+    size_t n = call[3], clash[CLASH_LENGTH];
     bool outside = !inside(g, i, j);
     memset(reply, 0, BANKPLAN_REPLY_NUMBERS * sizeof *reply);
     if (call[0] == BANKPLAN_KIND_CLEAR) {
@@ -92,7 +92,8 @@ static size_t plain_call(struct game *g, const uint64_t *call, uint64_t reply[BA
         if (!reply[0] && call[0] == BANKPLAN_KIND_LOAD) reply[1] = *pixel(g, i, j);
     } else {
         reply[0] = fetch_number(g, n, i, j, call[4], false, clash);
-        if (reply[0] == 10) reply[2] = n, reply[3] = clash[0], reply[4] = clash[1];
+        if (reply[0] == 10) reply[2] = n;
+        for (uint32_t m = 0; reply[0] == 10 && m <= g->cycles; m++) reply[3 + m] = clash[m];
         if (reply[0]) return 0;
         reply[1] = g->r.used[n];
         for (size_t m = 0; m < reply[1]; m++)
@@ -126,14 +127,14 @@ static void must_not_be_made(const struct list *x) {
 #define LIST(x) (x)->numbers, (x)->length, (x)->outs, (x)->room, (x)->replies, (x)->places
 // By the finder first, if its plan is the one that the picture has or it gives none; else under the plan.
 static struct told make(const struct game *g, const struct list *x, unsigned limit, struct told *found) {
-    TOLD(f, bankplan_find(RECORD(&g->r), limit, answer));
+    TOLD(f, bankplan_find(RECORD(&g->r), g->cycles, limit, answer));
     *found = f;
     if (f.number != 0 || (f.row[0] == g->p.a && f.row[1] == g->p.b && f.row[2] == g->p.d)) {
-        TOLD(t, bankplan_find_and_run(RECORD(&g->r), limit, g->w, g->h, g->memory, g->words, LIST(x), answer));
+        TOLD(t, bankplan_find_and_run(RECORD(&g->r), g->cycles, limit, g->w, g->h, g->memory, g->words, LIST(x), answer));
         return t;
     }
     *found = (struct told){0};
-    TOLD(t, bankplan_run_list(RECORD(&g->r), PICTURE(g), LIST(x), answer));
+    TOLD(t, bankplan_run_list(RECORD(&g->r), g->cycles, PICTURE(g), LIST(x), answer));
     return t;
 }
 
@@ -147,7 +148,7 @@ void run(struct game *g, struct feed *f) {
     if (finder) {
         t = make(g, &x, limit, &found);
     } else {
-        TOLD(u, bankplan_run_list(RECORD(&g->r), PICTURE(g), LIST(&x), answer));
+        TOLD(u, bankplan_run_list(RECORD(&g->r), g->cycles, PICTURE(g), LIST(&x), answer));
         t = u;
     }
     if (found.number) { // the finder's refusal before all that is wrong with the list

@@ -5,14 +5,14 @@
  *
  * What a call answers. Every function returns a number; bankplan_refusal_text gives the text of each:
  *   0                  the call was not refused
- *   1 to 19            the call was refused by this number (enum bankplan_refusal)
+ *   1 to 20            the call was refused by this number (enum bankplan_refusal)
  *   255                the numbers that it was given are no list of calls (BANKPLAN_NOT_CALLS)
  * A function also puts a row of numbers at the start of the lent array `answer` of 12, and leaves the rest of the 12 as they
  * were. The row is:
  *   not refused        the values that stand behind "tells" below, from answer[0] on
  *   refused            answer[0]: the place
- *   refused by 10      answer[0]: the place; answer[1], answer[2], answer[3]: the clash, that is the pattern's number and the
- *                      numbers of two pixels in it, the earlier and the later, all counted from 0
+ *   refused by 10      answer[0]: the place; answer[1]: the pattern's number; answer[2] to answer[2 + r]: the clash, that is the
+ *                      numbers of r + 1 pixels in it that share a bank, ascending; all are counted from 0
  * The place is a byte offset for 1 to 5 and 19 where the call was given a book's bytes, for 255 the index of a number in the
  * list, and 0 elsewhere. For 4 and 19 it is the pixel's first byte. What a caller hands over for the time of a call is lent. A
  * refused call leaves all that it was lent as it was, but for the answer's row.
@@ -24,6 +24,11 @@
  *
  * What things are. A plan is a, b, d; it has N = a * d banks. A picture has width w and height h. A pixel is (i, j), column and
  * row.
+ *
+ * A camera may take r cycles for a pattern, r from 1 to 8. A plan suits a pattern for r if no bank has more than r of its pixels.
+ * The cycle of a pixel is the count of earlier pixels of its pattern in its bank; it is below r under a plan that suits. So each
+ * bank gives at most one word in each cycle. Of several clashes of a pattern that one is told whose pixels' numbers come first,
+ * compared one by one.
  *
  * The pixels of a pattern ascend by row, then by column: each has a greater row than the one before it, or the same row and a
  * greater column. The caller puts them so; no call sorts them. So two books with the same patterns under the same numbers are the
@@ -59,17 +64,18 @@ extern "C" {
 
 /* The version of this header, and of the library that is built from the same tree. */
 #define BANKPLAN_VERSION_MAJOR 0
-#define BANKPLAN_VERSION_MINOR 4
+#define BANKPLAN_VERSION_MINOR 5
 #define BANKPLAN_VERSION_PATCH 0
-#define BANKPLAN_VERSION "0.4.0"
+#define BANKPLAN_VERSION "0.5.0"
 
-/* The limits of document 01, and how long the arrays are that go with them. */
+/* The limits of documents 01 and 02, and how long the arrays are that go with them. */
 enum bankplan_limit {
     BANKPLAN_MAX_BANKS = 1024,         /* banks of a plan, the finder's limit, and a determinant's size */
     BANKPLAN_MAX_PIXELS = 64,          /* pixels of a pattern, so words of a fetch */
     BANKPLAN_MAX_PATTERNS = 16,        /* patterns of a book, and entries of `used` */
     BANKPLAN_MAX_BOOK_BYTES = 2065,    /* bytes of the longest book: 1 + 16 * (1 + 2 * 64) */
     BANKPLAN_MAX_SIDE = 4096,          /* width or height of a picture */
+    BANKPLAN_MAX_CYCLES = 8,           /* cycles of a pattern, r; a clash has one pixel more */
     BANKPLAN_LEAST_COORDINATE = -16,   /* column or row of a pattern's pixel */
     BANKPLAN_GREATEST_COORDINATE = 15, /* the same */
     BANKPLAN_ENTRIES = 1024,           /* entries of `columns`, and of `rows`: 16 * 64 */
@@ -77,27 +83,28 @@ enum bankplan_limit {
 };
 
 /* Why a call was turned down: each refusal's name, number and text. The number and the text are those of document 01, and of
-   Card 3 of document 02 for 19. Two texts hold signs that are not ASCII, × and ≥; they are UTF-8. */
-#define BANKPLAN_REFUSALS(X)                                                  \
-    X(BANKPLAN_ENDS, 1, "book ends early")                                    \
-    X(BANKPLAN_COUNT, 2, "pattern count not 1-16 or pixel count not 1-64")    \
-    X(BANKPLAN_COORDINATE, 3, "coordinate not -16..15")                       \
-    X(BANKPLAN_REPEAT, 4, "pixel already in this pattern")                    \
-    X(BANKPLAN_EXTRA, 5, "bytes after the last pattern")                      \
-    X(BANKPLAN_LIMIT, 6, "limit not 1-1024")                                  \
-    X(BANKPLAN_NO_PLAN, 7, "no suiting plan within limit")                    \
-    X(BANKPLAN_DEPENDENT, 8, "determinant 0")                                 \
-    X(BANKPLAN_LARGE, 9, "determinant's size above 1024")                     \
-    X(BANKPLAN_UNSUITED, 10, "plan doesn't suit")                             \
-    X(BANKPLAN_NOT_PLAN, 11, "not a plan as defined")                         \
-    X(BANKPLAN_SIDES, 12, "W or H not 1-4096")                                \
-    X(BANKPLAN_MEMORY, 13, "memory shorter than N × depth")                   \
-    X(BANKPLAN_OUTSIDE, 14, "pixel outside the picture")                      \
-    X(BANKPLAN_CELL, 15, "bank ≥ N, address ≥ depth, or their pixel outside") \
-    X(BANKPLAN_OUTPUT, 16, "output too short")                                \
-    X(BANKPLAN_NO_PATTERN, 17, "pattern number not in the book")              \
-    X(BANKPLAN_RING, 18, "ring sides not multiples of N")                     \
-    X(BANKPLAN_LOWER, 19, "pixel lower than the one before it, by row, then column")
+   Cards 3 and 4 of document 02 for 19 and 20. Two texts hold signs that are not ASCII, × and ≥; they are UTF-8. */
+#define BANKPLAN_REFUSALS(X)                                                         \
+    X(BANKPLAN_ENDS, 1, "book ends early")                                           \
+    X(BANKPLAN_COUNT, 2, "pattern count not 1-16 or pixel count not 1-64")           \
+    X(BANKPLAN_COORDINATE, 3, "coordinate not -16..15")                              \
+    X(BANKPLAN_REPEAT, 4, "pixel already in this pattern")                           \
+    X(BANKPLAN_EXTRA, 5, "bytes after the last pattern")                             \
+    X(BANKPLAN_LIMIT, 6, "limit not 1-1024")                                         \
+    X(BANKPLAN_NO_PLAN, 7, "no suiting plan within limit")                           \
+    X(BANKPLAN_DEPENDENT, 8, "determinant 0")                                        \
+    X(BANKPLAN_LARGE, 9, "determinant's size above 1024")                            \
+    X(BANKPLAN_UNSUITED, 10, "plan doesn't suit")                                    \
+    X(BANKPLAN_NOT_PLAN, 11, "not a plan as defined")                                \
+    X(BANKPLAN_SIDES, 12, "W or H not 1-4096")                                       \
+    X(BANKPLAN_MEMORY, 13, "memory shorter than N × depth")                          \
+    X(BANKPLAN_OUTSIDE, 14, "pixel outside the picture")                             \
+    X(BANKPLAN_CELL, 15, "bank ≥ N, address ≥ depth, or their pixel outside")        \
+    X(BANKPLAN_OUTPUT, 16, "output too short")                                       \
+    X(BANKPLAN_NO_PATTERN, 17, "pattern number not in the book")                     \
+    X(BANKPLAN_RING, 18, "ring sides not multiples of N")                            \
+    X(BANKPLAN_LOWER, 19, "pixel lower than the one before it, by row, then column") \
+    X(BANKPLAN_CYCLES, 20, "r outside 1 to 8")
 
 /* The refusals' names as constants: BANKPLAN_ENDS is 1, and so on. */
 #define BANKPLAN_CONSTANT(name, number, text) , name = number
@@ -138,15 +145,23 @@ uint64_t bankplan_test_record(const int8_t columns[1024], const int8_t rows[1024
 
 /* ---- finding and checking */
 
-/* Finds the plan with the fewest banks, at most limit, for a book; of several the one with the least b, then the least d. Refused
-   by 2, 3, 4, 19 in book order, 6, 7. Tells a, b, d. */
-uint64_t bankplan_find(const int8_t columns[1024], const int8_t rows[1024], const size_t used[16], size_t count,
+/* Finds the plan with the fewest banks, at most limit, that suits a book for r; of several the one with the least b, then the
+   least d. Refused by 2, 3, 4, 19 in book order, 6, 20, 7. Tells a, b, d. */
+uint64_t bankplan_find(const int8_t columns[1024], const int8_t rows[1024], const size_t used[16], size_t count, uint32_t r,
                        uint32_t limit, uint64_t answer[12]);
 
-/* Checks a supplier's vectors (x1, x2) and (y1, y2) for a book. Refused by 2, 3, 4, 19 in book order, 8, 9, and by 10 with the
-   clash. Tells a, b, d of their normal form and the surplus, N less the least count. */
-uint64_t bankplan_check(const int8_t columns[1024], const int8_t rows[1024], const size_t used[16], size_t count,
+/* Checks a supplier's vectors (x1, x2) and (y1, y2) for a book and r. Refused by 2, 3, 4, 19 in book order, 20, 8, 9, and by 10
+   with the clash of the lowest pattern that has one. Tells a, b, d of their normal form and the surplus, N less the least count
+   for r. */
+uint64_t bankplan_check(const int8_t columns[1024], const int8_t rows[1024], const size_t used[16], size_t count, uint32_t r,
                         int16_t x1, int16_t x2, int16_t y1, int16_t y2, uint64_t answer[12]);
+
+/* Writes the cycles of pattern n of a book under a plan, a byte to each pixel in the book's order. Refused by 2, 3, 4, 19 in book
+   order, 20, 11, 17, by 10 with the clash where the plan does not suit pattern n for r, 16. Tells the count of bytes.
+   Lent: the cycles stand at the start of out, the rest of it stays; on a refusal all of it does. */
+uint64_t bankplan_write_cycles(const int8_t columns[1024], const int8_t rows[1024], const size_t used[16], size_t count,
+                               uint32_t r, uint32_t a, uint32_t b, uint32_t d, size_t n, uint8_t *out, size_t out_length,
+                               uint64_t answer[12]);
 
 /* Gives the normal form of the vectors (x1, x2) and (y1, y2): the one plan under which the same pixels share a bank. Refused by
    8, 9. Tells a, b, d. */
@@ -188,17 +203,18 @@ uint64_t bankplan_clear(uint32_t a, uint32_t b, uint32_t d, uint32_t w, uint32_t
 uint64_t bankplan_sum(uint32_t a, uint32_t b, uint32_t d, uint32_t w, uint32_t h, const uint16_t *mem, size_t mem_length,
                       uint64_t k, uint64_t answer[12]);
 
-/* Fetches pattern n of a book with (0, 0) moved to (i, j). Refused by 2, 3, 4, 19 in book order, 11, 12, 13, 17, by 10 with the
-   clash where the plan does not suit pattern n, 14 where any of its pixels is outside, 16. Tells the count of words.
+/* Fetches pattern n of a book with (0, 0) moved to (i, j), for r. Refused by 2, 3, 4, 19 in book order, 20, 11, 12, 13, 17, by 10
+   with the clash where the plan does not suit pattern n for r, 14 where any of its pixels is outside, 16. Tells the count of
+   words.
    Lent: the words stand at the start of out in the book's pixel order, the rest of it stays; on a refusal all of it does. */
-uint64_t bankplan_fetch(const int8_t columns[1024], const int8_t rows[1024], const size_t used[16], size_t count,
+uint64_t bankplan_fetch(const int8_t columns[1024], const int8_t rows[1024], const size_t used[16], size_t count, uint32_t r,
                         uint32_t a, uint32_t b, uint32_t d, uint32_t w, uint32_t h, const uint16_t *mem, size_t mem_length,
                         size_t n, int16_t i, int16_t j, uint16_t *out, size_t out_length, uint64_t answer[12]);
 
-/* Does the same with columns modulo w and rows modulo h. Refused by 2, 3, 4, 19 in book order, 11, 12, 13, 17, by 10 with the
-   clash, 18, 16. Tells the count of words. Lent: as for a fetch. */
+/* Does the same with columns modulo w and rows modulo h. Refused by 2, 3, 4, 19 in book order, 20, 11, 12, 13, 17, by 10 with
+   the clash, 18, 16. Tells the count of words. Lent: as for a fetch. */
 uint64_t bankplan_ring_fetch(const int8_t columns[1024], const int8_t rows[1024], const size_t used[16], size_t count,
-                             uint32_t a, uint32_t b, uint32_t d, uint32_t w, uint32_t h, const uint16_t *mem,
+                             uint32_t r, uint32_t a, uint32_t b, uint32_t d, uint32_t w, uint32_t h, const uint16_t *mem,
                              size_t mem_length, size_t n, int16_t i, int16_t j, uint16_t *out, size_t out_length,
                              uint64_t answer[12]);
 
@@ -229,7 +245,7 @@ uint64_t bankplan_ring_fetch(const int8_t columns[1024], const int8_t rows[1024]
  *   load, not refused              0, the word, then 0
  *   fetch, not refused             0, the count of words, then 0
  *   refused                        the refusal's number, its place (0), then 0
- *   refused by 10                  10, 0, the pattern's number, the numbers of the earlier and the later pixel, then 0
+ *   refused by 10                  10, 0, the pattern's number, the numbers of the clash's r + 1 pixels, then 0
  *
  * A refused call is no fault of the list: the calls behind it are carried out. What stands in replies behind the last reply
  * stays.
@@ -251,26 +267,26 @@ enum bankplan_list {
     BANKPLAN_NOT_CALLS = 255
 };
 
-/* Carries out a list of calls under one plan, with one book and one picture. Tells nothing. It returns
+/* Carries out a list of calls under one plan, with one book, one r and one picture. Tells nothing. It returns
      0      The list was carried out, whatever its replies are.
      255    Five numbers are no call's, or fewer than five are left at the end. answer[0] is the index of the first.
      16     outs has not the room of all fetches, or replies has not twelve numbers to a call. The place is 0.
    The list is tested from its start on, the five numbers of a call before its room; then what is left at the end, then the
    replies' length.
    Lent: mem, outs and replies as said above; where the list was not carried out all of them stay. */
-uint64_t bankplan_run_list(const int8_t columns[1024], const int8_t rows[1024], const size_t used[16], size_t count,
+uint64_t bankplan_run_list(const int8_t columns[1024], const int8_t rows[1024], const size_t used[16], size_t count, uint32_t r,
                            uint32_t a, uint32_t b, uint32_t d, uint32_t w, uint32_t h, uint16_t *mem, size_t mem_length,
                            const uint64_t *numbers, size_t numbers_length, uint16_t *outs, size_t outs_length,
                            uint64_t *replies, size_t replies_length, uint64_t answer[12]);
 
-/* Finds the plan with the fewest banks, at most limit, for a book, and carries out a list of calls under it. Refused by 2, 3, 4,
-   19 in book order, 6, 7 where there is no plan; then 255 and 16 as above. Tells a, b, d.
+/* Finds the plan with the fewest banks, at most limit, for a book and r, and carries out a list of calls under it. Refused by 2,
+   3, 4, 19 in book order, 6, 20, 7 where there is no plan; then 255 and 16 as above. Tells a, b, d.
    The memory is to have N * depth words under the plan that is found, or each call is refused by 13; (w + limit) * (h + limit)
    words are always enough. If these N * depth words are 0, each word that is fetched or loaded is the one last stored at its
    pixel, or 0 where there is none since the last clear of its bank (demand 3 of document 01).
    Lent: as above; where there is no plan or the list was not carried out all of it stays. */
 uint64_t bankplan_find_and_run(const int8_t columns[1024], const int8_t rows[1024], const size_t used[16], size_t count,
-                               uint32_t limit, uint32_t w, uint32_t h, uint16_t *mem, size_t mem_length,
+                               uint32_t r, uint32_t limit, uint32_t w, uint32_t h, uint16_t *mem, size_t mem_length,
                                const uint64_t *numbers, size_t numbers_length, uint16_t *outs, size_t outs_length,
                                uint64_t *replies, size_t replies_length, uint64_t answer[12]);
 

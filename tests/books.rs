@@ -58,7 +58,7 @@ pub fn damage(bytes: &mut Vec<u8>, random: &mut Random) {
 }
 
 // Each of these numbers was given so often at least.
-pub fn reached(t: &mut Tally, gave: &[u64; 20], numbers: &[usize], least: u64) {
+pub fn reached(t: &mut Tally, gave: &[u64; 21], numbers: &[usize], least: u64) {
     for &number in numbers {
         t.same(|| format!("{number} was given {} times", gave[number]), gave[number] >= least, true);
     }
@@ -188,7 +188,7 @@ fn every_byte() -> Tally {
 fn random_books() -> Tally {
     let mut t = Tally::new("random books, legal and damaged");
     let mut random = Random::new(6);
-    let mut gave = [0; 20];
+    let mut gave = [0; 21];
     for _ in 0..10_000 {
         let mut bytes = bytes_of(&legal_book(&mut random));
         ask_bytes(&mut t, &bytes);
@@ -198,7 +198,7 @@ fn random_books() -> Tally {
                 break;
             }
         }
-        gave[ask_bytes(&mut t, &bytes).min(19) as usize] += 1;
+        gave[ask_bytes(&mut t, &bytes).min(20) as usize] += 1;
     }
     reached(&mut t, &gave, &[0, 1, 2, 3, 4, 5, 19], 250);
     t
@@ -265,10 +265,10 @@ pub fn damaged_record(random: &mut Random) -> Record {
 fn records() -> Tally {
     let mut t = Tally::new("records, legal and damaged");
     let mut random = Random::new(7);
-    let mut gave = [0; 20];
+    let mut gave = [0; 21];
     for _ in 0..20_000 {
         ask_record(&mut t, &legal_record(&mut random));
-        gave[ask_record(&mut t, &damaged_record(&mut random)).min(19) as usize] += 1;
+        gave[ask_record(&mut t, &damaged_record(&mut random)).min(20) as usize] += 1;
     }
     reached(&mut t, &gave, &[0, 2, 3, 4, 19], 1_000);
     t

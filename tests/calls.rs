@@ -23,8 +23,8 @@ impl Kind {
         match self {
             Kind::Store | Kind::Load => &[11, 12, 13, 14],
             Kind::Clear | Kind::Sum => &[11, 12, 13, 15],
-            Kind::Fetch => &[2, 3, 4, 19, 11, 12, 13, 17, 10, 14, 16],
-            Kind::Ring => &[2, 3, 4, 19, 11, 12, 13, 17, 10, 18, 16],
+            Kind::Fetch => &[2, 3, 4, 19, 20, 11, 12, 13, 17, 10, 14, 16],
+            Kind::Ring => &[2, 3, 4, 19, 20, 11, 12, 13, 17, 10, 18, 16],
         }
     }
 
@@ -33,11 +33,12 @@ impl Kind {
     }
 }
 
-/// A call with what it is given, a fetch's book record apart: v is a pixel or a fetch's position, x a store's word, k a bank, n a
-/// pattern's number, room the words of an output.
+/// A call with what it is given, a fetch's book record apart: r is a fetch's cycles, v a pixel or a fetch's position, x a store's
+/// word, k a bank, n a pattern's number, room the words of an output.
 #[derive(Clone, Copy, Debug)]
 pub struct Call {
     pub kind: Kind,
+    pub r: u32,
     pub lent: Lent,
     pub v: (i16, i16),
     pub x: u16,
@@ -47,9 +48,9 @@ pub struct Call {
 }
 
 impl Call {
-    /// A call at pixel (0, 0), of bank 0 or pattern 0, with an output of 64 words.
+    /// A call at pixel (0, 0), of bank 0 or pattern 0, for r = 1, with an output of 64 words.
     pub fn new(kind: Kind, lent: Lent) -> Call {
-        Call { kind, lent, v: (0, 0), x: 1, k: 0, n: 0, room: if kind.fetches() { 64 } else { 0 } }
+        Call { kind, r: 1, lent, v: (0, 0), x: 1, k: 0, n: 0, room: if kind.fetches() { 64 } else { 0 } }
     }
 }
 
@@ -64,8 +65,8 @@ pub fn by_library(book: &Record, c: &Call, mem: &mut [u16], out: &mut [u16]) -> 
         Kind::Load => library::load(p, w, h, mem, c.v),
         Kind::Clear => library::clear(p, w, h, mem, c.k),
         Kind::Sum => library::sum(p, w, h, mem, c.k),
-        Kind::Fetch => library::fetch(book, p, w, h, mem, c.n, c.v, out),
-        Kind::Ring => library::ring_fetch(book, p, w, h, mem, c.n, c.v, out),
+        Kind::Fetch => library::fetch(book, c.r, p, w, h, mem, c.n, c.v, out),
+        Kind::Ring => library::ring_fetch(book, c.r, p, w, h, mem, c.n, c.v, out),
     }
 }
 
@@ -77,7 +78,7 @@ pub fn wanted(s: &mut Stored, book: &Record, c: &Call, out: &mut [u16]) -> Resul
         Kind::Sum => s.sum(&c.lent, c.k).map(|sum| vec![sum]),
         Kind::Load => s.load(&c.lent, c.v).map(|x| vec![x.into()]),
         Kind::Fetch | Kind::Ring => {
-            let words = s.fetch(book, &c.lent, c.n, c.v, c.room, c.kind == Kind::Ring)?;
+            let words = s.fetch(book, c.r, &c.lent, c.n, c.v, c.room, c.kind == Kind::Ring)?;
             out[..words.len()].copy_from_slice(&words);
             Ok(vec![words.len() as u64])
         }

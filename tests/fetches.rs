@@ -1,6 +1,7 @@
 //! Fetches: patterns at corners and edges, rings, suppliers' plans, and memories of any content.
 
 use crate::calls::{first_difference, Call, Kind, Picture};
+use crate::classes::suits_for;
 use crate::finds::random_book;
 use crate::library::{self, Plan, Record};
 use crate::memory::{moved, wrapped, Lent};
@@ -40,7 +41,7 @@ fn fetched(t: &mut Tally, picture: &mut Picture, book: &Record, kind: Kind, n: u
     let Lent { plan: p, w, h, .. } = picture.lent;
     let call = if kind == Kind::Ring { library::ring_fetch } else { library::fetch };
     let mut out = vec![0; wanted.len()];
-    let told = call(book, p, w, h, &picture.memory, n, v, &mut out);
+    let told = call(book, 1, p, w, h, &picture.memory, n, v, &mut out);
     t.same(|| format!("{kind:?} {p:?} {w} {h} {n} {v:?}"), (told.number, out), (0, wanted.to_vec()));
 }
 
@@ -77,11 +78,11 @@ fn around(t: &mut Tally, picture: &mut Picture, pattern: &Pattern) {
     }
 }
 
-// The finder's plan for these patterns; should there be none, one that suits every pattern.
-pub fn found(t: &mut Tally, book: &Record, patterns: &[Pattern]) -> Plan {
-    let told = library::find(book, 1024);
+// The finder's plan for these patterns and r; should there be none, one that suits every pattern.
+pub fn found(t: &mut Tally, book: &Record, r: u32, patterns: &[Pattern]) -> Plan {
+    let told = library::find(book, r, 1024);
     let p = if told.number == 0 { plan(told.row[0] as i64, told.row[1] as i64, told.row[2] as i64) } else { plan(32, 0, 32) };
-    t.same(|| format!("the plan found for {patterns:?}"), (told.number, patterns.iter().all(|t| suits(p, t))), (0, true));
+    t.same(|| format!("the plan found for {patterns:?}"), (told.number, patterns.iter().all(|t| suits_for(r, p, t))), (0, true));
     p
 }
 
@@ -100,7 +101,7 @@ fn corners() -> Tally {
         let (least, greatest) = extent(pattern);
         let (width, height) = (greatest.0 - least.0 + 1, greatest.1 - least.1 + 1);
         // the finder's plan and two with a surplus; the picture is as large as the pattern, or a little larger
-        let least = found(&mut t, &record(&[pattern.clone()]), &[pattern.clone()]);
+        let least = found(&mut t, &record(&[pattern.clone()]), 1, &[pattern.clone()]);
         for p in [least, plan(32, 0, 32), plan(37, 5, 17)] {
             assert!(suits(p, pattern));
             for (w, h) in [(width, height), (width + 1, height), (width, height + 3), (width + 6, height + 4)] {
@@ -140,7 +141,7 @@ fn rings() -> Tally {
     }
     // 64 pixels across all four corners, of a ring of 64 by 128, under the plan found and one of the same N with a slant
     let (square, book) = (block(-4..4, -4..4), record(&[block(-4..4, -4..4)]));
-    let least = found(&mut t, &book, &[square.clone()]);
+    let least = found(&mut t, &book, 1, &[square.clone()]);
     t.same(|| "the plan of 8 by 8".into(), least, plan(8, 0, 8));
     let words = words_at(&wrapped(&square, 64, 128));
     for p in [least, plan(64, 8, 1)] {
@@ -210,11 +211,11 @@ fn any_content() -> Tally {
             let words = |pixels: &Pattern| pixels.iter().map(|&u| memory[g.place_of(u)]).collect();
             let mut out = vec![0; count];
             if pixels.iter().all(|&u| g.has(u)) {
-                let fetched = library::fetch(&book, p, g.w, g.h, &memory, 0, v, &mut out);
+                let fetched = library::fetch(&book, 1, p, g.w, g.h, &memory, 0, v, &mut out);
                 t.same(|| what("fetch"), (fetched, out.clone()), (told(0, &[count as u64]), words(&pixels)));
             }
             if w % n == 0 && h % n == 0 {
-                let fetched = library::ring_fetch(&book, p, g.w, g.h, &memory, 0, v, &mut out);
+                let fetched = library::ring_fetch(&book, 1, p, g.w, g.h, &memory, 0, v, &mut out);
                 t.same(|| what("ring fetch"), (fetched, out), (told(0, &[count as u64]), words(&wrapped(&pixels, w, h))));
             }
         }

@@ -1,7 +1,8 @@
-//! The finder and the check.
+//! The finder and the check for r = 1. Every r is in cycles.rs.
 
 use crate::books::{damaged_record, fill_unused, legal_record, reached};
 use crate::library::{self, Plan, Record, Told};
+use crate::memory::clash_told;
 use crate::oracle::{self, Pattern};
 use crate::search::{self, first_plan, one_to_a_bank, suits, Verdict};
 use crate::{as_told, wide, Random, Tally};
@@ -21,7 +22,7 @@ fn plan_row(p: Plan) -> Vec<u64> {
 pub fn judged(v: Result<Verdict, oracle::Refused>) -> Told {
     match v {
         Ok(Verdict::Suits(p, s)) => Told { number: 0, row: vec![p.a.into(), p.b.into(), p.d.into(), s as u64] },
-        Ok(Verdict::Clash(n, e, l)) => Told { number: 10, row: vec![0, n as u64, e as u64, l as u64] },
+        Ok(Verdict::Clash(n, positions)) => clash_told(n, &positions),
         Err((number, place)) => Told { number, row: vec![place] },
     }
 }
@@ -33,9 +34,9 @@ pub fn banks(p: Plan) -> i64 {
 fn figures() -> Tally {
     let mut t = Tally::new("finder's figures");
     let mut figure = |book: &[Pattern], limit: u32, wanted: Told| {
-        let searched = as_told(search::find(book, limit.into()), plan_row);
+        let searched = as_told(search::find(book, 1, limit.into(), one_to_a_bank), plan_row);
         t.same(|| format!("brute force, {book:?} {limit}"), searched, wanted.clone());
-        t.same(|| format!("{book:?} {limit}"), library::find(&oracle::record_of(book), limit), wanted);
+        t.same(|| format!("{book:?} {limit}"), library::find(&oracle::record_of(book), 1, limit), wanted);
     };
     let plan = |a, b, d| planned(Some(search::plan(a, b, d)));
     let row = vec![(0, 0), (1, 0), (2, 0)];
@@ -73,15 +74,15 @@ fn figures() -> Tally {
     // the table's examples of 10, 8 and 9, and both ends of the surplus
     let pair = oracle::record_of(&[vec![(0, 0), (1, 0)]]);
     let clash = Told { number: 10, row: vec![0, 0, 0, 1] };
-    t.same(|| "table, 10".into(), library::check(&pair, (1, 0), (0, 1)), clash);
-    t.same(|| "table, 8".into(), library::check(&pair, (2, 1), (4, 2)), refused(8));
-    t.same(|| "table, 9".into(), library::check(&pair, (32, 0), (0, 33)), refused(9));
+    t.same(|| "table, 10".into(), library::check(&pair, 1, (1, 0), (0, 1)), clash);
+    t.same(|| "table, 8".into(), library::check(&pair, 1, (2, 1), (4, 2)), refused(8));
+    t.same(|| "table, 9".into(), library::check(&pair, 1, (32, 0), (0, 33)), refused(9));
     let fine = Told { number: 0, row: vec![2, 0, 1, 0] };
-    t.same(|| "no surplus".into(), library::check(&pair, (2, 0), (0, 1)), fine);
+    t.same(|| "no surplus".into(), library::check(&pair, 1, (2, 0), (0, 1)), fine);
     let more = Told { number: 0, row: vec![32, 0, 32, 1022] };
-    t.same(|| "the greatest surplus".into(), library::check(&pair, (32, 0), (0, 32)), more);
+    t.same(|| "the greatest surplus".into(), library::check(&pair, 1, (32, 0), (0, 32)), more);
     let none = Told { number: 0, row: vec![32, 0, 32, 0] };
-    t.same(|| "the hardest book".into(), library::check(&oracle::record_of(&hardest), (32, 0), (0, 32)), none);
+    t.same(|| "the hardest book".into(), library::check(&oracle::record_of(&hardest), 1, (32, 0), (0, 32)), none);
     // coordinates at both ends of 16 bits
     for (x, y) in [
         ((-32768, 1), (-32763, 1)),
@@ -95,8 +96,8 @@ fn figures() -> Tally {
     ] {
         for book in [vec![vec![(0, 0), (1, 0)]], vec![vec![(0, 0)]], vec![vec![(0, 0), (5, 0), (0, 5)]]] {
             let least = first_plan(&book, 1024, suits).unwrap();
-            let wanted = judged(search::check(&book, banks(least), wide(x), wide(y)));
-            t.same(|| format!("{book:?} {x:?} {y:?}"), library::check(&oracle::record_of(&book), x, y), wanted);
+            let wanted = judged(search::check(&book, 1, banks(least), wide(x), wide(y)));
+            t.same(|| format!("{book:?} {x:?} {y:?}"), library::check(&oracle::record_of(&book), 1, x, y), wanted);
         }
     }
     t
@@ -145,12 +146,12 @@ fn ask(t: &mut Tally, book: &[Pattern], least: Plan, random: &mut Random, checks
     let n = banks(least);
     for limit in [1024, n, n - 1, random.from_to(1, 1024)] {
         let wanted = if limit < 1 { refused(6) } else { planned(Some(least).filter(|_| n <= limit)) };
-        t.same(|| format!("{book:?} {limit}"), library::find(&r, limit as u32), wanted);
+        t.same(|| format!("{book:?} {limit}"), library::find(&r, 1, limit as u32), wanted);
     }
     for _ in 0..checks {
         let (x, y) = vectors(random, least);
-        let wanted = judged(search::check(book, n, wide(x), wide(y)));
-        t.same(|| format!("{book:?} {x:?} {y:?}"), library::check(&r, x, y), wanted);
+        let wanted = judged(search::check(book, 1, n, wide(x), wide(y)));
+        t.same(|| format!("{book:?} {x:?} {y:?}"), library::check(&r, 1, x, y), wanted);
     }
 }
 
@@ -185,22 +186,22 @@ fn large_books() -> Tally {
 fn records() -> Tally {
     let mut t = Tally::new("find and check of damaged records");
     let mut random = Random::new(10);
-    let mut gave = [[0; 20]; 2];
+    let mut gave = [[0; 21]; 2];
     for round in 0..20_000 {
         let r: Record = if round % 4 == 0 { legal_record(&mut random) } else { damaged_record(&mut random) };
         let limit = random.one_of(&[0, 1025, u32::MAX]);
         let (x, y) = random.one_of(&[((2, 1), (4, 2)), ((32, 0), (0, 33)), ((0, 0), (0, 0)), ((1, 0), (0, 1025))]);
         let book = oracle::patterns_of(&r);
         let number = |other| book.as_ref().map_or_else(|e| Told { number: e.0, row: vec![e.1] }, |_| other);
-        let (found, checked) = (library::find(&r, limit), library::check(&r, x, y));
-        gave[0][found.number.min(19) as usize] += 1;
-        gave[1][checked.number.min(19) as usize] += 1;
+        let (found, checked) = (library::find(&r, 1, limit), library::check(&r, 1, x, y));
+        gave[0][found.number.min(20) as usize] += 1;
+        gave[1][checked.number.min(20) as usize] += 1;
         t.same(|| format!("{r:?} {limit}"), found, number(refused(6)));
         let vectors = judged(oracle::normal_form(wide(x), wide(y)).map(|p| Verdict::Suits(p, 0)));
         t.same(|| format!("{r:?} {x:?} {y:?}"), checked, number(vectors));
         if book.is_err() {
-            t.same(|| format!("{r:?}"), library::find(&r, 1024), number(refused(6)));
-            t.same(|| format!("{r:?}"), library::check(&r, (5, 0), (2, 1)), number(refused(6)));
+            t.same(|| format!("{r:?}"), library::find(&r, 1, 1024), number(refused(6)));
+            t.same(|| format!("{r:?}"), library::check(&r, 1, (5, 0), (2, 1)), number(refused(6)));
         }
     }
     reached(&mut t, &gave[0], &[2, 3, 4, 6, 19], 500);
@@ -223,7 +224,7 @@ fn theorem() -> Tally {
             (1, _) => n + 2,
             _ => n + 3,
         };
-        let told = library::find(&oracle::record_of(&book), 1024);
+        let told = library::find(&oracle::record_of(&book), 1, 1024);
         let count = if n == 2 { 4 } else { stated };
         t.same(|| format!("{n}"), told.row[0] * told.row[2], count as u64);
         t.same(|| format!("{n}"), told, planned(first_plan(&book, 1024, suits)));
@@ -243,7 +244,7 @@ fn one_row() -> Tally {
         };
         let least = (1..).find(apart).unwrap();
         let row: Pattern = columns.iter().map(|&c| (c, 0)).collect();
-        let told = library::find(&oracle::record_of(&[row]), 1024);
+        let told = library::find(&oracle::record_of(&[row]), 1, 1024);
         t.same(|| format!("{columns:?}"), told, planned(Some(search::plan(least, 0, 1))));
         if columns == [0, 1, 3] || columns == [0, 1, 4, 6] {
             t.same(|| format!("document 003, {columns:?}"), least, if columns.len() == 3 { 4 } else { 7 });
@@ -275,7 +276,7 @@ fn ties() -> Tally {
         for (n, other) in differ.iter_mut().zip(others) {
             *n += usize::from(*other.unwrap() != first);
         }
-        t.same(|| format!("{book:?}"), library::find(&oracle::record_of(&book), 1024), planned(Some(first)));
+        t.same(|| format!("{book:?}"), library::find(&oracle::record_of(&book), 1, 1024), planned(Some(first)));
     }
     t
 }

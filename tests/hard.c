@@ -1,7 +1,8 @@
 // Hard use of the static library: hard guard|heap CASES. Every function is lent buffers that end or begin at a page that nobody
 // may touch, or heap blocks of just their size, and is given legal things, edges and any numbers at all. What is asked here
 // needs no second version of the library: numbers that a call can give, nothing changed that may not change, the same answer
-// to the same question. That the answers are right is asked elsewhere, but for the order of pixels (hard_order.c).
+// to the same question. That the answers are right is asked elsewhere, but for the order of pixels (hard_order.c) and of the checks
+// about r (hard_cycles.c).
 #define _GNU_SOURCE
 #include <signal.h>
 #include <stdio.h>
@@ -77,7 +78,7 @@ static void make_unknown(const struct call *c, const struct input *x) {
 // The answer: what a refusal or the call tells at its start, the rest untouched.
 static void judge_answer(const struct call *c, const struct input *x, uint64_t number) {
     const uint64_t *answer = lent(ANSWER);
-    int values = number == 0 ? c->values : number == 10 ? 4 : 1;
+    int values = number == 0 ? c->values : number == 10 ? 3 + (int)x->r : 1; // of a clash r + 1 positions
     if (!lent_known(ANSWER, 0, values * sizeof *answer)) say_wrong("told what is not known", number);
     lent_known_again(ANSWER);
     for (int k = 0; k < ANSWER_LENGTH; k++)
@@ -99,7 +100,7 @@ static void judge_lent(const struct call *c, const struct input *x, uint64_t num
     }
 }
 
-unsigned bit_of(uint64_t number) { return number == BANKPLAN_NOT_CALLS ? NO_LIST : BIT(number <= 19 ? number : 31); }
+unsigned bit_of(uint64_t number) { return number == BANKPLAN_NOT_CALLS ? NO_LIST : BIT(number <= 20 ? number : 31); }
 
 // One call: what it was given stays, and what it says and leaves goes into the digest.
 static uint64_t make_once(const struct call *c, const struct input *x) {

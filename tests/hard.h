@@ -30,9 +30,9 @@ bool lent_same(enum slot s, size_t from, size_t to);
 uint64_t lent_digest(enum slot s, uint64_t digest);
 void lend_end(enum slot s);
 
-// What a call is given. `room` is in elements, bytes for the writer and words for a fetch.
+// What a call is given. `room` is in elements, bytes for the writer and the cycles and words for a fetch.
 struct input {
-    uint32_t a, b, d, w, h, limit;
+    uint32_t r, a, b, d, w, h, limit;
     uint64_t bank, address;
     int16_t i, j, v[4];
     uint16_t word;
@@ -41,7 +41,7 @@ struct input {
     size_t book_length;
     int8_t columns[1024], rows[1024];
     size_t used[16];
-    size_t words, write_room, fetch_room;
+    size_t words, write_room, cycles_room, fetch_room;
     bankplan_pixel_record list[100];
     size_t list_length;
     uint64_t numbers[(MOST_CALLS + 1) * BANKPLAN_CALL_NUMBERS]; // a list of calls, the words of its outputs, its replies
@@ -68,7 +68,7 @@ struct call {
 #define NO_LIST BIT(30) // 255
 enum which {
     NORMAL_FORM, BANK, DEPTH, ADDRESS, LOCATE, READ_BOOK, PATTERN_PART, WRITE_BOOK, TEST_RECORD,
-    FIND, CHECK, STORE, LOAD, CLEAR, SUM, FETCH, RING_FETCH, FILL_RECORDS,
+    FIND, CHECK, WRITE_CYCLES, STORE, LOAD, CLEAR, SUM, FETCH, RING_FETCH, FILL_RECORDS,
     RUN_LIST, FIND_AND_RUN, CALLS
 };
 enum { RECORD = BIT(COLUMNS) | BIT(ROWS) | BIT(USED) };
@@ -85,11 +85,14 @@ void try_all(const struct input *x);
 
 // hard_cases.c
 void all_cases(uint64_t how_many, bool large);
-void cross(struct input *x); // the cross of five pixels, and all else 0
+void cross(struct input *x); // the cross of five pixels, r = 1, and all else 0
 void four_calls(struct input *x, uint64_t i, uint64_t j);
 
 // hard_order.c
 void every_order(struct input *x, bool all);
+
+// hard_cycles.c
+void every_cycle(struct input *x);
 
 // hard_input.c
 extern uint16_t *memory_words; // what stands in every memory that is lent

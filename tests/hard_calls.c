@@ -30,9 +30,28 @@ static uint64_t write_book(const struct input *x) {
     return bankplan_write_book(RECORD_ARGUMENTS, lent(OUTPUT), x->write_room, lent(ANSWER));
 }
 static uint64_t test_record(const struct input *x) { return bankplan_test_record(RECORD_ARGUMENTS, lent(ANSWER)); }
-static uint64_t find(const struct input *x) { return bankplan_find(RECORD_ARGUMENTS, x->limit, lent(ANSWER)); }
+static uint64_t find(const struct input *x) { return bankplan_find(RECORD_ARGUMENTS, x->r, x->limit, lent(ANSWER)); }
 static uint64_t check(const struct input *x) {
-    return bankplan_check(RECORD_ARGUMENTS, x->v[0], x->v[1], x->v[2], x->v[3], lent(ANSWER));
+    return bankplan_check(RECORD_ARGUMENTS, x->r, x->v[0], x->v[1], x->v[2], x->v[3], lent(ANSWER));
+}
+
+// Whether each cycle is the count of earlier pixels in its bank, and below r.
+static bool are_cycles(const struct input *x, const uint8_t *cycles) {
+    uint64_t banks[64], answer[ANSWER_LENGTH] = {0};
+    for (size_t e = 0; e < x->used[x->n]; e++) {
+        unsigned earlier = 0;
+        if (bankplan_bank(PLAN_ARGUMENTS, x->columns[64 * x->n + e], x->rows[64 * x->n + e], answer) != 0) return false;
+        banks[e] = answer[0];
+        for (size_t m = 0; m < e; m++) earlier += banks[m] == banks[e];
+        if (cycles[e] != earlier || earlier >= x->r) return false;
+    }
+    return true;
+}
+// 99, which no call gives, if the cycles are others.
+static uint64_t write_cycles(const struct input *x) {
+    uint64_t number = bankplan_write_cycles(RECORD_ARGUMENTS, x->r, PLAN_ARGUMENTS, x->n, lent(OUTPUT), x->cycles_room,
+                                            lent(ANSWER));
+    return number == 0 && !are_cycles(x, lent(OUTPUT)) ? 99 : number;
 }
 static uint64_t store(const struct input *x) {
     return bankplan_store(PLAN_ARGUMENTS, SIDES, MEMORY_ARGUMENTS, x->i, x->j, x->word, lent(ANSWER));
@@ -47,12 +66,12 @@ static uint64_t sum(const struct input *x) {
     return bankplan_sum(PLAN_ARGUMENTS, SIDES, MEMORY_ARGUMENTS, x->bank, lent(ANSWER));
 }
 static uint64_t fetch(const struct input *x) {
-    return bankplan_fetch(RECORD_ARGUMENTS, PLAN_ARGUMENTS, SIDES, MEMORY_ARGUMENTS, x->n, x->i, x->j, lent(OUTPUT),
+    return bankplan_fetch(RECORD_ARGUMENTS, x->r, PLAN_ARGUMENTS, SIDES, MEMORY_ARGUMENTS, x->n, x->i, x->j, lent(OUTPUT),
                           x->fetch_room, lent(ANSWER));
 }
 static uint64_t ring_fetch(const struct input *x) {
-    return bankplan_ring_fetch(RECORD_ARGUMENTS, PLAN_ARGUMENTS, SIDES, MEMORY_ARGUMENTS, x->n, x->i, x->j, lent(OUTPUT),
-                               x->fetch_room, lent(ANSWER));
+    return bankplan_ring_fetch(RECORD_ARGUMENTS, x->r, PLAN_ARGUMENTS, SIDES, MEMORY_ARGUMENTS, x->n, x->i, x->j,
+                               lent(OUTPUT), x->fetch_room, lent(ANSWER));
 }
 
 // Whether a record has the bank and address that the calls for one pixel tell.
@@ -77,7 +96,7 @@ const struct input *under_plan(enum which c, const struct input *x) {
     uint64_t answer[ANSWER_LENGTH] = {0}; // no plan is 0, 0, 0
     if (c != FIND_AND_RUN) return x;
     found = *x;
-    if (bankplan_find(x->columns, x->rows, x->used, x->count, x->limit, answer) != 0) answer[0] = 0;
+    if (bankplan_find(x->columns, x->rows, x->used, x->count, x->r, x->limit, answer) != 0) answer[0] = 0;
     found.a = (uint32_t)answer[0], found.b = (uint32_t)answer[1], found.d = (uint32_t)answer[2];
     return &found;
 }
@@ -98,8 +117,8 @@ static void single_call(const struct input *x, const uint64_t *call, uint16_t *m
     case BANKPLAN_KIND_CLEAR: number = bankplan_clear(PLAN_ARGUMENTS, SIDES, mem, x->words, call[3], answer); break;
     case BANKPLAN_KIND_LOAD: number = bankplan_load(PLAN_ARGUMENTS, SIDES, mem, x->words, i, j, answer); break;
     default:
-        number = bankplan_fetch(x->columns, x->rows, x->used, x->count, PLAN_ARGUMENTS, SIDES, mem, x->words, call[3], i, j,
-                                out, call[4], answer);
+        number = bankplan_fetch(x->columns, x->rows, x->used, x->count, x->r, PLAN_ARGUMENTS, SIDES, mem, x->words, call[3],
+                                i, j, out, call[4], answer);
     }
     reply[0] = number;
     memcpy(reply + 1, answer, (BANKPLAN_REPLY_NUMBERS - 1) * sizeof *reply);
@@ -140,11 +159,11 @@ static uint64_t judged_list(enum which c, const struct input *x, uint64_t number
 }
 static uint64_t run_list(const struct input *x) {
     return judged_list(
-        RUN_LIST, x, bankplan_run_list(RECORD_ARGUMENTS, PLAN_ARGUMENTS, SIDES, MEMORY_ARGUMENTS, LIST_ARGUMENTS));
+        RUN_LIST, x, bankplan_run_list(RECORD_ARGUMENTS, x->r, PLAN_ARGUMENTS, SIDES, MEMORY_ARGUMENTS, LIST_ARGUMENTS));
 }
 static uint64_t find_and_run(const struct input *x) {
     return judged_list(
-        FIND_AND_RUN, x, bankplan_find_and_run(RECORD_ARGUMENTS, x->limit, SIDES, MEMORY_ARGUMENTS, LIST_ARGUMENTS));
+        FIND_AND_RUN, x, bankplan_find_and_run(RECORD_ARGUMENTS, x->r, x->limit, SIDES, MEMORY_ARGUMENTS, LIST_ARGUMENTS));
 }
 
 // The whole picture, the rooms of all fetches, the replies of all calls.
@@ -197,7 +216,8 @@ enum {
     IN_RECORD = BIT(2) | BIT(3) | BIT(4) | BIT(19),
     IN_BOOK = BIT(1) | IN_RECORD | BIT(5),
     IN_PICTURE = BIT(11) | BIT(12) | BIT(13),
-    IN_FETCH = IN_RECORD | IN_PICTURE | BIT(17) | BIT(10) | BIT(16),
+    IN_FETCH = IN_RECORD | BIT(20) | IN_PICTURE | BIT(17) | BIT(10) | BIT(16),
+    IN_CYCLES = IN_RECORD | BIT(20) | BIT(11) | BIT(17) | BIT(10) | BIT(16),
     IN_LIST = BIT(16) | NO_LIST,
     BY_LIST = BIT(MEMORY) | BIT(OUTPUT) | BIT(REPLIES),
 };
@@ -212,8 +232,9 @@ const struct call calls[CALLS] = {
     [PATTERN_PART] = {"pattern_part", BIT(0) | IN_BOOK | BIT(17), 2, BIT(BOOK), 0, pattern_part, NULL},
     [WRITE_BOOK] = {"write_book", BIT(0) | IN_RECORD | BIT(16), 1, RECORD, BIT(OUTPUT), write_book, written},
     [TEST_RECORD] = {"test_record", BIT(0) | IN_RECORD, 0, RECORD, 0, test_record, NULL},
-    [FIND] = {"find", BIT(0) | IN_RECORD | BIT(6) | BIT(7), 3, RECORD, 0, find, NULL},
-    [CHECK] = {"check", BIT(0) | IN_RECORD | BIT(8) | BIT(9) | BIT(10), 4, RECORD, 0, check, NULL},
+    [FIND] = {"find", BIT(0) | IN_RECORD | BIT(6) | BIT(20) | BIT(7), 3, RECORD, 0, find, NULL},
+    [CHECK] = {"check", BIT(0) | IN_RECORD | BIT(20) | BIT(8) | BIT(9) | BIT(10), 4, RECORD, 0, check, NULL},
+    [WRITE_CYCLES] = {"write_cycles", BIT(0) | IN_CYCLES, 1, RECORD, BIT(OUTPUT), write_cycles, written},
     [STORE] = {"store", BIT(0) | IN_PICTURE | BIT(14), 0, 0, BIT(MEMORY), store, one_word},
     [LOAD] = {"load", BIT(0) | IN_PICTURE | BIT(14), 1, BIT(MEMORY), 0, load, NULL},
     [CLEAR] = {"clear", BIT(0) | IN_PICTURE | BIT(15), 0, 0, BIT(MEMORY), clear, one_bank},
@@ -222,11 +243,11 @@ const struct call calls[CALLS] = {
     [RING_FETCH] = {"ring_fetch", BIT(0) | IN_FETCH | BIT(18), 1, RECORD | BIT(MEMORY), BIT(OUTPUT), ring_fetch, fetched},
     [FILL_RECORDS] = {"fill_records", BIT(0) | BIT(11) | BIT(12) | BIT(14), 0, 0, BIT(LIST), fill_records, records},
     [RUN_LIST] = {"run_list", BIT(0) | IN_LIST, 0, RECORD | BIT(NUMBERS), BY_LIST, run_list, under_given},
-    [FIND_AND_RUN] = {"find_and_run", BIT(0) | IN_RECORD | BIT(6) | BIT(7) | IN_LIST, 3, RECORD | BIT(NUMBERS), BY_LIST,
-                      find_and_run, under_found},
+    [FIND_AND_RUN] = {"find_and_run", BIT(0) | IN_RECORD | BIT(6) | BIT(20) | BIT(7) | IN_LIST, 3, RECORD | BIT(NUMBERS),
+                      BY_LIST, find_and_run, under_found},
 };
 
 size_t output_size(enum which c, const struct input *x) {
     if (c == RUN_LIST || c == FIND_AND_RUN) return 2 * x->outs_room;
-    return c == WRITE_BOOK ? x->write_room : 2 * x->fetch_room;
+    return c == WRITE_BOOK ? x->write_room : c == WRITE_CYCLES ? x->cycles_room : 2 * x->fetch_room;
 }

@@ -10,6 +10,7 @@ void cross(struct input *x) {
     memcpy(x->rows, rows, 5);
     x->used[0] = 5;
     x->count = 1;
+    x->r = 1;
 }
 
 static void read_and_part(struct input *x) {
@@ -211,12 +212,13 @@ void all_cases(uint64_t how_many, bool large) {
     if (large) every_room(&x, 2070);
     if (large) limits_and_vectors(&x);
     x.limit = 1024;
-    try_call(FIND, &x);
+    for (x.r = 1; x.r <= 8; x.r++) try_call(FIND, &x);
     every_shape(&x, large);
     every_fetch(&x);
     every_list(&x);
     every_run(&x, large);
     every_order(&x, large);
+    every_cycle(&x);
     if (large) large_pictures(&x);
     for (uint64_t k = 0; k < how_many; k++) {
         any_input(&x);

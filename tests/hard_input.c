@@ -237,6 +237,16 @@ static size_t any_room(size_t needed, size_t most) {
     return room > most ? 0 : room;
 }
 
+// 1 or 2 most often, so that many plans clash.
+static uint32_t any_cycles(void) {
+    switch (below(4)) {
+    case 0: return 1;
+    case 1: return 1 + (uint32_t)below(2);
+    case 2: return 1 + (uint32_t)below(8);
+    default: return (uint32_t)(below(2) ? below(10) : any_number());
+    }
+}
+
 void any_input(struct input *x) {
     any_record(x);
     plain_book(x);
@@ -245,6 +255,7 @@ void any_input(struct input *x) {
     any_plan(x);
     any_picture(x);
     any_list(x);
+    x->r = any_cycles();
     x->limit = (uint32_t)(below(2) ? below(40) : any_number());
     x->i = any_coordinate();
     x->j = any_coordinate();
@@ -252,6 +263,8 @@ void any_input(struct input *x) {
     if (below(4) == 0) x->v[1] = 0;
     x->word = (uint16_t)next();
     x->n = below(4) ? below(3) : any_number();
-    x->fetch_room = any_room(x->n < 16 && x->used[x->n] <= 64 ? x->used[x->n] : 0, 100);
+    size_t pixels = x->n < 16 && x->used[x->n] <= 64 ? x->used[x->n] : 0;
+    x->fetch_room = any_room(pixels, 100);
+    x->cycles_room = any_room(pixels, 100);
     any_calls(x);
 }

@@ -67,12 +67,21 @@ pub fn test_record(r: &Record) -> Told {
     told(|t| unsafe { bankplan_test_record(&r.columns, &r.rows, &r.used, r.count, t) })
 }
 
-pub fn find(r: &Record, limit: u32) -> Told {
-    told(|t| unsafe { bankplan_find(&r.columns, &r.rows, &r.used, r.count, limit, t) })
+pub fn find(book: &Record, r: u32, limit: u32) -> Told {
+    let Record { columns, rows, used, count } = book;
+    told(|t| unsafe { bankplan_find(columns, rows, used, *count, r, limit, t) })
 }
 
-pub fn check(r: &Record, x: (i16, i16), y: (i16, i16)) -> Told {
-    told(|t| unsafe { bankplan_check(&r.columns, &r.rows, &r.used, r.count, x.0, x.1, y.0, y.1, t) })
+pub fn check(book: &Record, r: u32, x: (i16, i16), y: (i16, i16)) -> Told {
+    let Record { columns, rows, used, count } = book;
+    told(|t| unsafe { bankplan_check(columns, rows, used, *count, r, x.0, x.1, y.0, y.1, t) })
+}
+
+/// Writes the cycles of pattern n of a record; their count is told.
+pub fn write_cycles(book: &Record, r: u32, p: Plan, n: usize, out: &mut [u8]) -> Told {
+    let Record { columns, rows, used, count } = book;
+    let (out, room) = (out.as_mut_ptr(), out.len());
+    told(|t| unsafe { bankplan_write_cycles(columns, rows, used, *count, r, p.a, p.b, p.d, n, out, room, t) })
 }
 
 pub fn store(p: Plan, w: u32, h: u32, mem: &mut [u16], v: (i16, i16), x: u16) -> Told {
@@ -92,32 +101,40 @@ pub fn sum(p: Plan, w: u32, h: u32, mem: &[u16], bank: u64) -> Told {
 }
 
 /// Fetches pattern n of a record, moved to o; the count of words is told.
-pub fn fetch(r: &Record, p: Plan, w: u32, h: u32, mem: &[u16], n: usize, o: (i16, i16), out: &mut [u16]) -> Told {
-    let Record { columns, rows, used, count } = r;
-    let (words, room) = (mem.len(), out.len());
-    let (mem, out) = (mem.as_ptr(), out.as_mut_ptr());
-    told(|t| unsafe { bankplan_fetch(columns, rows, used, *count, p.a, p.b, p.d, w, h, mem, words, n, o.0, o.1, out, room, t) })
-}
-
-/// The same with columns modulo W and rows modulo H.
-pub fn ring_fetch(r: &Record, p: Plan, w: u32, h: u32, mem: &[u16], n: usize, o: (i16, i16), out: &mut [u16]) -> Told {
-    let Record { columns, rows, used, count } = r;
+#[rustfmt::skip]
+pub fn fetch(
+    book: &Record, r: u32, p: Plan, w: u32, h: u32, mem: &[u16], n: usize, o: (i16, i16), out: &mut [u16],
+) -> Told {
+    let Record { columns, rows, used, count } = book;
     let (words, room) = (mem.len(), out.len());
     let (mem, out) = (mem.as_ptr(), out.as_mut_ptr());
     told(|t| unsafe {
-        bankplan_ring_fetch(columns, rows, used, *count, p.a, p.b, p.d, w, h, mem, words, n, o.0, o.1, out, room, t)
+        bankplan_fetch(columns, rows, used, *count, r, p.a, p.b, p.d, w, h, mem, words, n, o.0, o.1, out, room, t)
+    })
+}
+
+/// The same with columns modulo W and rows modulo H.
+#[rustfmt::skip]
+pub fn ring_fetch(
+    book: &Record, r: u32, p: Plan, w: u32, h: u32, mem: &[u16], n: usize, o: (i16, i16), out: &mut [u16],
+) -> Told {
+    let Record { columns, rows, used, count } = book;
+    let (words, room) = (mem.len(), out.len());
+    let (mem, out) = (mem.as_ptr(), out.as_mut_ptr());
+    told(|t| unsafe {
+        bankplan_ring_fetch(columns, rows, used, *count, r, p.a, p.b, p.d, w, h, mem, words, n, o.0, o.1, out, room, t)
     })
 }
 
 /// Makes a list of calls in numbers under a plan.
 #[rustfmt::skip]
 pub fn run_list(
-    r: &Record, p: Plan, w: u32, h: u32, mem: &mut [u16], numbers: &[u64], outs: &mut [u16], replies: &mut [u64],
+    book: &Record, r: u32, p: Plan, w: u32, h: u32, mem: &mut [u16], numbers: &[u64], outs: &mut [u16], replies: &mut [u64],
 ) -> Told {
-    let Record { columns, rows, used, count } = r;
+    let Record { columns, rows, used, count } = book;
     told(|t| unsafe {
         bankplan_run_list(
-            columns, rows, used, *count, p.a, p.b, p.d, w, h, mem.as_mut_ptr(), mem.len(), numbers.as_ptr(), numbers.len(),
+            columns, rows, used, *count, r, p.a, p.b, p.d, w, h, mem.as_mut_ptr(), mem.len(), numbers.as_ptr(), numbers.len(),
             outs.as_mut_ptr(), outs.len(), replies.as_mut_ptr(), replies.len(), t,
         )
     })
@@ -126,12 +143,12 @@ pub fn run_list(
 /// Finds a plan within the limit and makes a list of calls under it; the plan is told.
 #[rustfmt::skip]
 pub fn find_and_run(
-    r: &Record, limit: u32, w: u32, h: u32, mem: &mut [u16], numbers: &[u64], outs: &mut [u16], replies: &mut [u64],
+    book: &Record, r: u32, limit: u32, w: u32, h: u32, mem: &mut [u16], numbers: &[u64], outs: &mut [u16], replies: &mut [u64],
 ) -> Told {
-    let Record { columns, rows, used, count } = r;
+    let Record { columns, rows, used, count } = book;
     told(|t| unsafe {
         bankplan_find_and_run(
-            columns, rows, used, *count, limit, w, h, mem.as_mut_ptr(), mem.len(), numbers.as_ptr(), numbers.len(),
+            columns, rows, used, *count, r, limit, w, h, mem.as_mut_ptr(), mem.len(), numbers.as_ptr(), numbers.len(),
             outs.as_mut_ptr(), outs.len(), replies.as_mut_ptr(), replies.len(), t,
         )
     })

@@ -2,25 +2,31 @@
 
 use crate::books::{damage_record, fill_unused, put_lower};
 use crate::calls::{Call, Kind, Picture, Way, GUARD, KINDS};
+use crate::classes::{clash_under, suits_for};
 use crate::fetches::{found, inside};
 use crate::finds::random_book;
 use crate::library::{Plan, Record};
-use crate::memory::{clash, Lent};
+use crate::memory::Lent;
 use crate::oracle::{self, Pattern};
-use crate::search::{bank_of, plan, suits};
+use crate::search::{bank_of, plan};
 use crate::{wide, Random, Tally};
 
 const CALLS: usize = 200;
 
-fn any_book(random: &mut Random) -> Vec<Pattern> {
+/// What is no r.
+pub const NO_CYCLES: [u32; 8] = [0, 9, 10, 256, 257, 1 << 16, (1 << 31) + 1, u32::MAX];
+
+// With r there are more pixels, so that a plan can clash.
+fn any_book(random: &mut Random, r: u32) -> Vec<Pattern> {
     let (patterns, pixels) = random.one_of(&[(1, 5), (3, 5), (4, 3), (2, 9), (6, 2), (16, 3), (1, 64)]);
     let (width, height) = random.one_of(&[(3, 3), (4, 3), (5, 5), (3, 3), (12, 2), (2, 9), (8, 8), (32, 32), (7, 1), (1, 5)]);
     // a window full of pixels would need too many banks
-    random_book(random, patterns, if width == 32 { pixels.min(6) } else { pixels }, width, height)
+    let pixels = if width == 32 { pixels.min(6) } else { pixels };
+    random_book(random, patterns, 64.min(pixels * i64::from(r)), width, height)
 }
 
-// A supplier's plan: one that suits every pattern with a surplus, or one that suits some patterns only.
-fn suppliers(random: &mut Random, book: &[Pattern], least: Plan, mixed: bool) -> Option<Plan> {
+// A supplier's plan: one that suits every pattern for r with a surplus, or one that suits some patterns only.
+fn suppliers(random: &mut Random, book: &[Pattern], r: u32, least: Plan, mixed: bool) -> Option<Plan> {
     let n = i64::from(least.a * least.d);
     for _ in 0..60 {
         let most = random.one_of(&[n + 3, 2 * n, 4 * n, 1024]).min(1024);
@@ -28,7 +34,7 @@ fn suppliers(random: &mut Random, book: &[Pattern], least: Plan, mixed: bool) ->
         let d = random.from_to(1, banks);
         let a = banks / d;
         let p = plan(a, random.from_to(0, a - 1), d);
-        let suiting = book.iter().filter(|t| suits(p, t)).count();
+        let suiting = book.iter().filter(|t| suits_for(r, p, t)).count();
         let wanted = if mixed { (1..book.len()).contains(&suiting) } else { suiting == book.len() && a * d > n };
         if wanted {
             return Some(p);
@@ -70,11 +76,12 @@ fn sides(random: &mut Random, p: Plan) -> (u32, u32) {
     }
 }
 
-// A list's book and picture, the pixels at which it stored, one about which it stores most, whether ring fetches are allowed,
-// and what is counted of it: whose plan it has, and whether a side is no multiple of a or d.
+// A list's book, its r and its picture, the pixels at which it stored, one about which it stores most, whether ring fetches are
+// allowed, and what is counted of it: whose plan it has, and whether a side is no multiple of a or d.
 pub struct List {
     book: Vec<Pattern>,
     pub record: Record,
+    pub r: u32,
     picture: Picture,
     pub stored: Vec<(i16, i16)>,
     home: (i64, i64),
@@ -82,24 +89,26 @@ pub struct List {
     counted: [bool; 4],
 }
 
-pub fn new_list(t: &mut Tally, random: &mut Random) -> List {
-    let book = any_book(random);
+// A list whose r is one of these.
+pub fn new_list(t: &mut Tally, random: &mut Random, cycles: &[u32]) -> List {
+    let r = random.one_of(cycles);
+    let book = any_book(random, r);
     let mut record = oracle::record_of(&book);
     fill_unused(&mut record, random);
-    let least = found(t, &record, &book);
+    let least = found(t, &record, r, &book);
     let p = match random.from_to(0, 9) {
         0..=4 => least,
-        5..=7 => suppliers(random, &book, least, false).unwrap_or(least),
-        _ => suppliers(random, &book, least, true).unwrap_or(least),
+        5..=7 => suppliers(random, &book, r, least, false).unwrap_or(least),
+        _ => suppliers(random, &book, r, least, true).unwrap_or(least),
     };
     let (w, h) = sides(random, p);
     let mut along = |side: u32| if random.from_to(0, 1) == 0 { 0 } else { random.from_to(0, i64::from(side) - 1) };
     let home = (along(w), along(h));
     let rings = w % (p.a * p.d) == 0 && h % (p.a * p.d) == 0;
     let finders = (p.a, p.b, p.d) == (least.a, least.b, least.d);
-    let suiting = book.iter().all(|t| suits(p, t));
+    let suiting = book.iter().all(|t| suits_for(r, p, t));
     let counted = [finders, !finders && suiting, !suiting, w % p.a != 0 || h % p.d != 0];
-    List { book, record, picture: Picture::new(p, w, h), stored: Vec::new(), home, rings, counted }
+    List { book, record, r, picture: Picture::new(p, w, h), stored: Vec::new(), home, rings, counted }
 }
 
 fn narrow(v: (i64, i64)) -> (i16, i16) {
@@ -180,7 +189,7 @@ impl List {
             let (low, high) = inside(&self.picture.lent, t);
             kind == Kind::Ring || low.0 <= high.0 && low.1 <= high.1
         };
-        let fine = |n: &usize| suits(self.picture.lent.plan, &self.book[*n]) && fits(&self.book[*n]);
+        let fine = |n: &usize| suits_for(self.r, self.picture.lent.plan, &self.book[*n]) && fits(&self.book[*n]);
         let next = (0..self.book.len()).map(|k| (any + k) % self.book.len()).find(fine);
         if random.from_to(0, 9) == 0 { any } else { next.unwrap_or(any) }
     }
@@ -196,6 +205,7 @@ impl List {
             c.k = random.from_to(0, c.lent.banks() - 1) as u64;
         }
         if kind.fetches() {
+            c.r = self.r;
             c.n = self.pattern(kind, random);
             let t = &self.book[c.n];
             c.v = if kind == Kind::Ring { self.far(t, random) } else { self.position(t, random) };
@@ -210,6 +220,7 @@ impl List {
         match random.one_of(c.kind.refusals()) {
             2 | 3 | 4 if *record == self.record => damage_record(record, random),
             19 if *record == self.record => put_lower(record, random),
+            20 => c.r = random.one_of(&NO_CYCLES),
             11 => {
                 let Plan { a, b, d } = self.picture.lent.plan;
                 let wrong = [(0, b, d), (a, b, 0), (a, a, d), (a, b, 1024 / a + 1), (1024 / d + 1, b, d)];
@@ -228,7 +239,7 @@ impl List {
             17 => c.n = random.one_of(&[self.book.len(), self.book.len() + 1, 16, 65536, usize::MAX]),
             10 => {
                 let p = self.picture.lent.plan;
-                c.n = (0..self.book.len()).find(|&n| clash(p, &self.book[n]).is_some()).unwrap_or(c.n);
+                c.n = (0..self.book.len()).find(|&n| clash_under(self.r, p, &self.book[n]).is_some()).unwrap_or(c.n);
             }
             14 if c.kind == Kind::Fetch => c.v = self.far(&self.book[c.n.min(self.book.len() - 1)], random),
             14 => {
@@ -244,7 +255,7 @@ impl List {
 }
 
 // Each number that a call can give was given by it, and about a third of the calls were refused.
-fn reached(t: &mut Tally, numbers: &[[u64; 20]; 6], lists: usize) {
+fn reached(t: &mut Tally, numbers: &[[u64; 21]; 6], lists: usize) {
     for kind in KINDS {
         for &number in [0].iter().chain(kind.refusals()) {
             t.same(|| format!("{kind:?} never gave {number}"), numbers[kind as usize][number as usize] > 0, true);
@@ -261,15 +272,15 @@ fn drawn(t: &mut Tally, counts: [usize; 4], lists: usize) {
     t.same(|| format!("plans and sides drawn: {counts:?}"), counts.iter().zip(least).all(|(n, m)| *n >= m), true);
 }
 
-/// So many lists of 200 calls, made in this way.
-pub fn lists(subject: &'static str, seed: u64, lists: usize, way: Way) -> Tally {
+/// So many lists of 200 calls, made in this way, each for one of these r.
+pub fn lists(subject: &'static str, seed: u64, lists: usize, way: Way, cycles: &[u32]) -> Tally {
     let mut t = Tally::new(subject);
     let mut random = Random::new(seed);
-    let mut numbers = [[0; 20]; 6];
+    let mut numbers = [[0; 21]; 6];
     let (mut reads, mut met) = (0, 0);
     let mut counts = [0; 4];
     for number in 1..=lists {
-        let mut list = new_list(&mut t, &mut random);
+        let mut list = new_list(&mut t, &mut random, cycles);
         list.picture.list = number;
         list.picture.way = way;
         for step in 0..CALLS {
@@ -281,7 +292,7 @@ pub fn lists(subject: &'static str, seed: u64, lists: usize, way: Way) -> Tally 
                 list.break_one(&mut c, &mut record, &mut random);
             }
             let number = list.picture.ask(&mut t, &record, &c);
-            numbers[kind as usize][number.min(19) as usize] += 1;
+            numbers[kind as usize][number.min(20) as usize] += 1;
             if kind == Kind::Store && number == 0 {
                 list.stored.push(c.v);
             }

@@ -3,6 +3,10 @@
 
 mod books;
 mod calls;
+mod classes;
+mod corollary;
+mod cycle_orders;
+mod cycles;
 mod drawings;
 mod fetches;
 mod finds;
@@ -100,6 +104,7 @@ fn main() {
     tallies.extend(orders::run());
     tallies.extend(shuffles::run());
     tallies.extend(finds::run());
+    tallies.extend(cycles::run());
     tallies.extend(pictures::run());
     tallies.extend(runs::run());
     tallies.push(records::run());

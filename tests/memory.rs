@@ -1,9 +1,10 @@
 //! Document 01's calls on a picture again, on a plain map from pixel to word. It shares no code with
 //! the library, only the types that the answers are compared in.
 
+use crate::classes::{clash_under, is_cycles};
 use crate::library::{Plan, Record, Told};
 use crate::oracle::{is_plan, patterns_of, Pattern};
-use crate::search::{bank_of, in_lattice, minus};
+use crate::search::bank_of;
 use crate::{told, wide};
 use std::collections::HashMap;
 
@@ -18,6 +19,12 @@ pub struct Lent {
 
 fn refuse<T>(number: u64) -> Result<T, Told> {
     Err(told(number, &[0]))
+}
+
+/// 10 with the clash of pattern n at these positions.
+pub fn clash_told(n: usize, positions: &[usize]) -> Told {
+    let positions = positions.iter().map(|&e| e as u64);
+    told(10, &[0, n as u64].into_iter().chain(positions).collect::<Vec<_>>())
 }
 
 fn rounded_up(n: u32, by: u32) -> i64 {
@@ -59,11 +66,6 @@ impl Lent {
         }
         if self.words < self.size() { refuse(13) } else { Ok(()) }
     }
-}
-
-/// Two positions of a pattern whose difference is in the lattice: the least earlier, then the least later one.
-pub fn clash(p: Plan, t: &Pattern) -> Option<(usize, usize)> {
-    (0..t.len()).find_map(|e| (e + 1..t.len()).find(|&l| in_lattice(p, minus(t[l], t[e]))).map(|l| (e, l)))
 }
 
 /// A pattern's pixels moved to o.
@@ -129,16 +131,22 @@ impl Stored {
         Ok(self.words.iter().filter(|(&v, _)| bank_of(g.plan, v) as u64 == k).map(|(_, &x)| u64::from(x)).sum())
     }
 
-    /// A fetch, or a ring fetch, of pattern n moved to o, for an output of the given room.
-    pub fn fetch(&self, r: &Record, g: &Lent, n: usize, o: (i16, i16), room: usize, ring: bool) -> Result<Vec<u16>, Told> {
-        let book = patterns_of(r).map_err(|(number, place)| told(number, &[place]))?;
+    /// A fetch, or a ring fetch, of pattern n for r moved to o, for an output of the given room.
+    #[rustfmt::skip]
+    pub fn fetch(
+        &self, book: &Record, r: u32, g: &Lent, n: usize, o: (i16, i16), room: usize, ring: bool,
+    ) -> Result<Vec<u16>, Told> {
+        let book = patterns_of(book).map_err(|(number, place)| told(number, &[place]))?;
+        if !is_cycles(r) {
+            return refuse(20);
+        }
         self.test(g)?;
         if n >= book.len() {
             return refuse(17);
         }
         let t = &book[n];
-        if let Some((e, l)) = clash(g.plan, t) {
-            return Err(told(10, &[0, n as u64, e as u64, l as u64]));
+        if let Some(positions) = clash_under(r, g.plan, t) {
+            return Err(clash_told(n, &positions));
         }
         let mut pixels = moved(t, o);
         let (w, h, banks) = (i64::from(g.w), i64::from(g.h), g.banks());

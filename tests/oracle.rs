@@ -1,5 +1,5 @@
-//! Document 01 again, with the order of pixels of Card 3, by counting and searching. It shares no code with the library, only the
-//! types that the answers are compared in.
+//! Document 01 again, with the order of pixels of Card 3, by counting and searching; the cycles of Card 4 are in classes.rs. It
+//! shares no code with the library, only the types that the answers are compared in.
 
 use crate::library::{Plan, Record};
 use std::collections::HashSet;

@@ -19,22 +19,23 @@ fn fetch(kind: Kind) -> Call {
     Call { v: (16, 16), ..Call::new(kind, lent) }
 }
 
-// What is wrong with a fetch beside its book: 11, 12, 13, 17, 10, 14 or 18, 16, by itself, all of them but 10, nothing.
+// What is wrong with a fetch beside its book: 20, 11, 12, 13, 17, 10, 14 or 18, 16, by itself, all of them but 10, nothing.
 fn break_fetch(c: &mut Call, which: usize) {
     let wrong = match which {
-        0..7 => which..which + 1,
-        7 => 0..7,
+        0..8 => which..which + 1,
+        8 => 0..8,
         _ => 0..0,
     };
     for k in wrong.rev() {
         match k {
-            0 => c.lent.plan.b = c.lent.plan.a,
-            1 => c.lent.w = 0,
-            2 => c.lent.words = 1,
-            3 => c.n = 16,
-            4 => c.lent.plan = plan(1, 0, 1),
-            5 if c.kind == Kind::Ring => c.lent.h = 1023,
-            5 => c.v = (-100, 0),
+            0 => c.r = 9,
+            1 => c.lent.plan.b = c.lent.plan.a,
+            2 => c.lent.w = 0,
+            3 => c.lent.words = 1,
+            4 => c.n = 16,
+            5 => c.lent.plan = plan(1, 0, 1),
+            6 if c.kind == Kind::Ring => c.lent.h = 1023,
+            6 => c.v = (-100, 0),
             _ => c.room = 0,
         }
     }
@@ -51,18 +52,34 @@ fn record_refused(t: &mut Tally, r: &Record, number: u64) {
         t.same(|| what("writer's output"), out, vec![0xc9; room]);
     }
     for limit in [1024, 1, 0, 1025] {
-        t.same(|| what("find"), library::find(r, limit), refused.clone());
+        for cycles in [1, 2, 0, 9] {
+            t.same(|| what("find"), library::find(r, cycles, limit), refused.clone());
+        }
         let (mut mem, mut outs, mut replies) = ([5; 64], [6; 8], [7; 12]);
         // a list that is one, and numbers that are none
         for numbers in [[3, 0, 0, 0, 8], [4, 0, 0, 0, 8]] {
-            let got = library::find_and_run(r, limit, 8, 8, &mut mem, &numbers, &mut outs, &mut replies);
+            let got = library::find_and_run(r, 1, limit, 8, 8, &mut mem, &numbers, &mut outs, &mut replies);
             t.same(|| what("find_and_run"), got, refused.clone());
         }
         t.same(|| what("what find_and_run was lent"), (mem, outs, replies), ([5; 64], [6; 8], [7; 12]));
     }
     for (x, y) in [((32, 0), (0, 32)), ((2, 1), (4, 2)), ((32, 0), (0, 33)), ((1, 0), (0, 1))] {
-        t.same(|| what("check"), library::check(r, x, y), refused.clone());
+        for cycles in [1, 2, 0, 9] {
+            t.same(|| what("check"), library::check(r, cycles, x, y), refused.clone());
+        }
     }
+    for (cycles, p, n, room) in [(1, plan(32, 0, 32), 0, 64), (0, plan(0, 0, 1), 16, 0), (9, plan(1, 0, 1), 1, 0)] {
+        let mut out = vec![0xc9; room];
+        t.same(|| what("cycles"), library::write_cycles(r, cycles, p, n, &mut out), refused.clone());
+        t.same(|| what("the cycles' output"), out, vec![0xc9; room]);
+    }
+    fetches_refused(t, r, number);
+}
+
+// The same of each fetch.
+fn fetches_refused(t: &mut Tally, r: &Record, number: u64) {
+    let what = |call: &str| format!("{call} of {:?} {:?} {:?}", &r.columns[..4], &r.rows[..4], r.used);
+    let refused = told(number, &[0]);
     let ways: [(Kind, Way); 5] = [
         (Kind::Fetch, by_library),
         (Kind::Ring, by_library),
@@ -71,7 +88,7 @@ fn record_refused(t: &mut Tally, r: &Record, number: u64) {
         (Kind::Fetch, by_list),
     ];
     for (kind, way) in ways {
-        for which in 0..9 {
+        for which in 0..10 {
             let mut c = fetch(kind);
             break_fetch(&mut c, which);
             let (mut mem, mut out) = (vec![0; c.lent.words], guard(c.room));
@@ -88,12 +105,13 @@ fn record_taken(t: &mut Tally, r: &Record, bytes: &[u8]) {
     let mut out = vec![0xc9; bytes.len()];
     t.same(|| what("writer"), library::write_book(r, &mut out), told(0, &[bytes.len() as u64]));
     t.same(|| what("writer's output"), out, bytes.to_vec());
-    t.same(|| what("find"), library::find(r, 1024).number, 0);
-    t.same(|| what("check"), library::check(r, (32, 0), (0, 32)).number, 0);
+    t.same(|| what("find"), library::find(r, 1, 1024).number, 0);
+    t.same(|| what("check"), library::check(r, 1, (32, 0), (0, 32)).number, 0);
     t.same(|| what("program"), program::run([bytes.to_vec()]).0.starts_with("banks "), true);
+    t.same(|| what("cycles"), library::write_cycles(r, 1, plan(32, 0, 32), 0, &mut [0; 64]).number, 0);
     for kind in [Kind::Fetch, Kind::Ring] {
         let clash = if r.used[0] == 1 { 0 } else { 10 };
-        let numbers = [11, 12, 13, 17, clash, if kind == Kind::Ring { 18 } else { 14 }, 16, 11, 0];
+        let numbers = [20, 11, 12, 13, 17, clash, if kind == Kind::Ring { 18 } else { 14 }, 16, 20, 0];
         for (which, number) in numbers.into_iter().enumerate() {
             let mut c = fetch(kind);
             break_fetch(&mut c, which);

@@ -50,19 +50,19 @@ fn figures() -> Tally {
     let (mut memory, mut out) = (vec![0; 144], [0; 1]);
     t.same(|| "store".into(), library::store(plan(6, 4, 2), 12, 12, &mut memory, (11, 11), 77), told(0, &[]));
     t.same(|| "bank 9".into(), library::sum(plan(6, 4, 2), 12, 12, &memory, 9), told(0, &[77]));
-    let ring = library::ring_fetch(&book, plan(6, 4, 2), 12, 12, &memory, 0, (-1, -1), &mut out);
+    let ring = library::ring_fetch(&book, 1, plan(6, 4, 2), 12, 12, &memory, 0, (-1, -1), &mut out);
     t.same(|| "(-1,-1)".into(), (ring, out), (told(0, &[1]), [77]));
     // the table's examples
     let pair = record(&[vec![(0, 0), (1, 0)]]);
     for call in [library::fetch, library::ring_fetch] {
-        let clash = call(&pair, plan(1, 0, 1), 12, 12, &memory, 0, (0, 0), &mut [0; 2]);
+        let clash = call(&pair, 1, plan(1, 0, 1), 12, 12, &memory, 0, (0, 0), &mut [0; 2]);
         t.same(|| "table, 10".into(), clash, told(10, &[0, 0, 0, 1]));
-        t.same(|| "table, 17".into(), call(&book, p, 7, 4, &memory, 1, (0, 0), &mut out), told(17, &[0]));
-        t.same(|| "table, 13".into(), call(&book, p, 5, 5, &[], 0, (0, 0), &mut out), told(13, &[0]));
-        t.same(|| "table, 16".into(), call(&book, p, 5, 5, &memory, 0, (0, 0), &mut []), told(16, &[0]));
+        t.same(|| "table, 17".into(), call(&book, 1, p, 7, 4, &memory, 1, (0, 0), &mut out), told(17, &[0]));
+        t.same(|| "table, 13".into(), call(&book, 1, p, 5, 5, &[], 0, (0, 0), &mut out), told(13, &[0]));
+        t.same(|| "table, 16".into(), call(&book, 1, p, 5, 5, &memory, 0, (0, 0), &mut []), told(16, &[0]));
     }
-    t.same(|| "table, 18".into(), library::ring_fetch(&book, p, 7, 5, &memory, 0, (0, 0), &mut out), told(18, &[0]));
-    t.same(|| "table, 14".into(), library::fetch(&book, p, 7, 5, &memory, 0, (7, 0), &mut out), told(14, &[0]));
+    t.same(|| "table, 18".into(), library::ring_fetch(&book, 1, p, 7, 5, &memory, 0, (0, 0), &mut out), told(18, &[0]));
+    t.same(|| "table, 14".into(), library::fetch(&book, 1, p, 7, 5, &memory, 0, (7, 0), &mut out), told(14, &[0]));
     t.same(|| "table, 14".into(), library::load(p, 7, 4, &memory, (7, 0)), told(14, &[0]));
     t.same(|| "table, 15".into(), library::sum(p, 7, 4, &memory, 5), told(15, &[0]));
     t.same(|| "table, 15".into(), library::clear(p, 7, 4, &mut memory, 5), told(15, &[0]));
@@ -72,6 +72,34 @@ fn figures() -> Tally {
     t
 }
 
+// A call on the cross with these conditions broken, and the first of them in the order of the checks.
+fn broken_call(t: &mut Tally, kind: Kind, r: u32, broken: &[u64]) {
+    // the column of the cross is in one bank of two, which is too many for two cycles
+    let p = if broken.contains(&10) { plan(2, 0, 1) } else { plan(5, 2, 1) };
+    let mut picture = Picture::new(p, if broken.contains(&18) { 7 } else { 10 }, 10);
+    let mut book = record(&[cross(), cross()]);
+    let mut c = Call { r, v: (1, 1), k: 1, n: 1, room: 5, ..Call::new(kind, picture.lent) };
+    for number in broken {
+        match number {
+            2 => book.count = 17,
+            // the pixels of 3 and 4 are lower than the one before, too
+            3 => book.rows[1] = -17,
+            4 => (book.columns[3], book.rows[3]) = (book.columns[1], book.rows[1]),
+            19 => (book.columns[4], book.rows[4]) = (15, -1),
+            20 => c.r = if r == 1 { 0 } else { 9 },
+            11 => c.lent.plan.b = p.a,
+            12 => c.lent.h = 4097,
+            13 => c.lent.words = 1,
+            14 => c.v = if kind == Kind::Fetch { (0, 1) } else { (-1, 1) },
+            15 => c.k = 5,
+            16 => c.room = 4,
+            17 => c.n = 2,
+            _ => assert!([10, 18].contains(number)),
+        }
+    }
+    expect(t, c, broken.first().copied().unwrap_or(0), &book, &mut picture);
+}
+
 // Each set of a call's conditions is broken: the first of them in the order of the checks refuses it.
 fn order() -> Tally {
     let mut t = Tally::new("every set of broken conditions of each call on a picture");
@@ -79,28 +107,10 @@ fn order() -> Tally {
         let refusals = kind.refusals();
         for set in 0..1 << refusals.len() {
             let broken: Vec<u64> = (0..refusals.len()).filter(|k| set >> k & 1 == 1).map(|k| refusals[k]).collect();
-            let p = if broken.contains(&10) { plan(2, 0, 1) } else { plan(5, 2, 1) };
-            let mut picture = Picture::new(p, if broken.contains(&18) { 7 } else { 10 }, 10);
-            let mut book = record(&[cross(), cross()]);
-            let mut c = Call { v: (1, 1), k: 1, n: 1, room: 5, ..Call::new(kind, picture.lent) };
-            for number in &broken {
-                match number {
-                    2 => book.count = 17,
-                    // the pixels of 3 and 4 are lower than the one before, too
-                    3 => book.rows[1] = -17,
-                    4 => (book.columns[3], book.rows[3]) = (book.columns[1], book.rows[1]),
-                    19 => (book.columns[4], book.rows[4]) = (15, -1),
-                    11 => c.lent.plan.b = p.a,
-                    12 => c.lent.h = 4097,
-                    13 => c.lent.words = 1,
-                    14 => c.v = if kind == Kind::Fetch { (0, 1) } else { (-1, 1) },
-                    15 => c.k = 5,
-                    16 => c.room = 4,
-                    17 => c.n = 2,
-                    _ => assert!([10, 18].contains(number)),
-                }
+            broken_call(&mut t, kind, 1, &broken);
+            if kind.fetches() {
+                broken_call(&mut t, kind, 2, &broken);
             }
-            expect(&mut t, c, broken.first().copied().unwrap_or(0), &book, &mut picture);
         }
     }
     // in book order; every pattern of the book is tested, what is behind them is not
@@ -208,7 +218,7 @@ fn longest() -> Tally {
         let stored = library::store(p, 4096, 4096, &mut memory, (4095, 4095), 1);
         t.same(|| format!("{p:?} last pixel"), (stored, memory[at]), (told(0, &[]), 1));
         let mut out = [0; 1];
-        let fetched = library::fetch(&book, p, 4096, 4096, &memory, 1, (4111, 4080), &mut out);
+        let fetched = library::fetch(&book, 1, p, 4096, 4096, &memory, 1, (4111, 4080), &mut out);
         t.same(|| format!("{p:?} last pixel"), (fetched, out), (told(0, &[1]), [1]));
         t.same(|| format!("{p:?}"), memory.iter().filter(|&&x| x != 65535).count(), 1);
         let k = at as u64 / depth;
@@ -224,6 +234,8 @@ fn longest() -> Tally {
 pub fn run() -> Vec<Tally> {
     let mut tallies = vec![figures(), order(), edges(), longest()];
     tallies.extend(fetches::run());
-    tallies.push(lists::lists("10,000 random lists of 200 calls on a picture", 13, 10_000, by_library));
+    tallies.push(lists::lists("10,000 random lists of 200 calls on a picture", 13, 10_000, by_library, &[1]));
+    let cycles = [2, 3, 4, 5, 6, 7, 8];
+    tallies.push(lists::lists("5,000 random lists of 200 calls on a picture, r from 2 to 8", 35, 5_000, by_library, &cycles));
     tallies
 }

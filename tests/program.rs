@@ -83,7 +83,7 @@ fn inputs() -> Tally {
     let endless = run(std::iter::once(longest).chain(std::iter::repeat(vec![0; 4096])));
     t.same(|| "an input without end".into(), endless, ("refused 5\n".into(), true));
     let mut random = Random::new(11);
-    let mut gave = [0; 20];
+    let mut gave = [0; 21];
     for round in 0..500 {
         let (width, height) = random.one_of(&[(2, 2), (8, 8), (5, 12), (32, 2)]);
         let mut bytes = bytes_of(&random_book(&mut random, 16, 64, width, height));

@@ -18,7 +18,7 @@ struct Edges {
 impl Edges {
     // A list with its number and place, as run_list and find_and_run must tell them; it gives the first number of each reply.
     fn list(&self, t: &mut Tally, numbers: &[u64], outs: usize, replies: usize, number: u64, place: u64) -> Vec<u64> {
-        let case = Case { record: &self.book, lent: self.lent, numbers, outs, replies };
+        let case = Case { record: &self.book, r: 1, lent: self.lent, numbers, outs, replies };
         let (got, left) = case.ask(t);
         let wanted = told(number, if number == 0 { &[] } else { std::slice::from_ref(&place) });
         t.same(|| format!("{case:?}"), got, wanted.clone());
@@ -135,7 +135,7 @@ fn shared(t: &mut Tally, e: &Edges) {
     let calls = [[0, 3, 2, 7, 0], [1, 0, 0, 0, 0], [2, 3, 2, 0, 0], [3, 3, 2, 0, 5], [3, 3, 2, 9, 0], [1, 0, 0, MOST, 0]];
     let numbers = calls.concat();
     let ask = |t: &mut Tally, book: &Record, lent: Lent, wanted: [u64; 6]| {
-        let case = Case { record: book, lent, numbers: &numbers, outs: 5, replies: 72 };
+        let case = Case { record: book, r: 1, lent, numbers: &numbers, outs: 5, replies: 72 };
         let (got, left) = case.ask(t);
         t.same(|| format!("{case:?}"), got, told(0, &[]));
         let first: Vec<u64> = left.replies[..72].iter().copied().step_by(12).collect();
@@ -173,7 +173,7 @@ fn shared(t: &mut Tally, e: &Edges) {
         // the finder refuses it whatever the limit, the sides, the list and its room
         let bad: Vec<u64> = vec![9, MOST];
         for (limit, numbers, outs) in [(1024, &numbers, 5), (0, &numbers, 5), (1025, &numbers, 4), (5, &bad, 0)] {
-            let case = Case { record: &book, lent: e.lent, numbers, outs, replies: 72 };
+            let case = Case { record: &book, r: 1, lent: e.lent, numbers, outs, replies: 72 };
             let got = case.ask_finder(t, limit);
             t.same(|| format!("limit {limit}: {case:?}"), got, told(number, &[0]));
         }
@@ -182,14 +182,15 @@ fn shared(t: &mut Tally, e: &Edges) {
     let bad: Vec<u64> = vec![9, MOST];
     for (limit, number) in [(0, 6), (1025, 6), (u32::MAX, 6), (1, 7), (4, 7)] {
         for (numbers, outs) in [(&numbers, 5), (&numbers, 4), (&bad, 5)] {
-            let case = Case { record: &e.book, lent: e.lent, numbers, outs, replies: 72 };
+            let case = Case { record: &e.book, r: 1, lent: e.lent, numbers, outs, replies: 72 };
             let got = case.ask_finder(t, limit);
             t.same(|| format!("limit {limit}: {case:?}"), got, told(number, &[0]));
         }
     }
     for limit in [5, 6, 1023, 1024] {
         for (w, h, words) in [(7, 4, 40), (0, 4, 40), (7, 4, 39), (7, 4, 0)] {
-            let case = Case { record: &e.book, lent: Lent { w, h, words, ..e.lent }, numbers: &numbers, outs: 5, replies: 72 };
+            let lent = Lent { w, h, words, ..e.lent };
+            let case = Case { record: &e.book, r: 1, lent, numbers: &numbers, outs: 5, replies: 72 };
             let got = case.ask_finder(t, limit);
             t.same(|| format!("limit {limit}: {case:?}"), got, told(0, &[5, 2, 1]));
         }
@@ -202,7 +203,7 @@ fn written_out(t: &mut Tally, e: &Edges) {
     let calls = [[0, 3, 2, 8, 0], [2, 3, 2, 0, 0], [3, 3, 2, 1, 3], [3, 3, 2, 0, 5], [2, 65535, 0, 0, 0], [1, 0, 0, 1, 0]];
     let numbers = calls.concat();
     let book = record(&[cross(), vec![(0, 0), (1, 0)]]);
-    let case = Case { record: &book, lent, numbers: &numbers, outs: 8, replies: 72 };
+    let case = Case { record: &book, r: 1, lent, numbers: &numbers, outs: 8, replies: 72 };
     let (_, left) = case.ask(t);
     let starts: [&[u64]; 6] = [&[0], &[0, 8], &[0, 2], &[10, 0, 0, 0, 2], &[14, 0], &[0]];
     let wanted: Vec<u64> = starts.iter().flat_map(|row| [row, &[0; 12][row.len()..]].concat()).collect();

@@ -24,12 +24,12 @@ pub fn numbers_of(c: &Call, unused: u64) -> [u64; 5] {
     }
 }
 
-// The call of five numbers that are a call's.
-fn call_of(x: &[u64], lent: Lent) -> Call {
+// The call of five numbers that are a call's, for r.
+fn call_of(x: &[u64], r: u32, lent: Lent) -> Call {
     let signed = |u: u64| (u as i64 - if u < 32768 { 0 } else { 65536 }) as i16;
     let kind = KINDS[x[0] as usize];
     let room = if kind == Kind::Fetch { x[4] as usize } else { 0 };
-    Call { kind, lent, v: (signed(x[1]), signed(x[2])), x: x[3] as u16, k: x[3], n: x[3] as usize, room }
+    Call { kind, r, lent, v: (signed(x[1]), signed(x[2])), x: x[3] as u16, k: x[3], n: x[3] as usize, room }
 }
 
 // What a list is not made for: numbers that are no call's, or too little room.
@@ -77,6 +77,7 @@ impl Buffers {
 #[derive(Clone, Debug)]
 pub struct Case<'a> {
     pub record: &'a Record,
+    pub r: u32,
     pub lent: Lent,
     pub numbers: &'a [u64],
     pub outs: usize,
@@ -96,7 +97,7 @@ impl Case<'_> {
     }
 
     fn calls(&self) -> impl Iterator<Item = Call> + '_ {
-        self.numbers.chunks(5).map(|x| call_of(x, self.lent))
+        self.numbers.chunks(5).map(|x| call_of(x, self.r, self.lent))
     }
 
     /// By the map of what was stored.
@@ -146,7 +147,7 @@ impl Case<'_> {
         let (told, left) = self.wanted();
         let Lent { plan, w, h, .. } = self.lent;
         let make = |mem: &mut [u16], numbers: &[u64], outs: &mut [u16], replies: &mut [u64]| {
-            library::run_list(self.record, plan, w, h, mem, numbers, outs, replies)
+            library::run_list(self.record, self.r, plan, w, h, mem, numbers, outs, replies)
         };
         self.same(t, "run_list", self.by(make), (told.clone(), &left));
         if told.number == 0 {
@@ -157,7 +158,7 @@ impl Case<'_> {
 
     /// The same with the finder before it; where it gives no plan nothing changes. What it told.
     pub fn ask_finder(&self, t: &mut Tally, limit: u32) -> Told {
-        let found = library::find(self.record, limit);
+        let found = library::find(self.record, self.r, limit);
         let plan = |row: &[u64]| Plan { a: row[0] as u32, b: row[1] as u32, d: row[2] as u32 };
         let under = if found.number == 0 { plan(&found.row) } else { self.lent.plan };
         let own = Case { lent: Lent { plan: under, ..self.lent }, ..self.clone() };
@@ -167,28 +168,30 @@ impl Case<'_> {
         }
         let Lent { w, h, .. } = self.lent;
         let make = |mem: &mut [u16], numbers: &[u64], outs: &mut [u16], replies: &mut [u64]| {
-            library::find_and_run(self.record, limit, w, h, mem, numbers, outs, replies)
+            library::find_and_run(self.record, self.r, limit, w, h, mem, numbers, outs, replies)
         };
         own.same(t, &format!("find_and_run, limit {limit}"), own.by(make), (wanted.clone(), &left));
         wanted
     }
 }
 
-/// A drawn list: its record, which may be none, what each call is lent, which may be wrong, and calls, legal and refused ones.
+/// A drawn list: its record, which may be none, its r, which may be none, what each call is lent, which may be wrong, and calls,
+/// legal and refused ones.
 pub struct Drawn {
     pub record: Record,
+    pub r: u32,
     pub lent: Lent,
     pub calls: Vec<Call>,
 }
 
 pub fn draw(t: &mut Tally, random: &mut Random) -> Drawn {
-    let mut list = new_list(t, random);
+    let mut list = new_list(t, random, &[1, 1, 1, 1, 2, 3, 4, 5, 6, 7, 8]);
     let mut record = list.record.clone();
     let mut shared = list.legal(Kind::Fetch, random);
     while random.from_to(0, 5) == 0 {
         list.break_one(&mut shared, &mut record, random);
     }
-    let (lent, mut other) = (shared.lent, record.clone());
+    let (r, lent, mut other) = (shared.r, shared.lent, record.clone());
     let steps = random.one_of(&[0, 1, 2, 5, 20, 60, 60, 200]);
     let mut calls = Vec::new();
     while calls.len() < steps {
@@ -203,9 +206,9 @@ pub fn draw(t: &mut Tally, random: &mut Random) -> Drawn {
         if kind == Kind::Store && lent.has(wide(c.v)) {
             list.stored.push(c.v);
         }
-        calls.push(Call { lent, ..c });
+        calls.push(Call { r, lent, ..c });
     }
-    Drawn { record, lent, calls }
+    Drawn { record, r, lent, calls }
 }
 
 // Some numbers of a list are changed, or some are left out or added at its end.
@@ -225,15 +228,15 @@ fn damage(numbers: &mut Vec<u64>, random: &mut Random) {
 }
 
 // Limits about the count of the plan that there is, and those that are none.
-fn limits(record: &Record, random: &mut Random) -> Vec<u32> {
-    let found = library::find(record, 1024);
+fn limits(record: &Record, r: u32, random: &mut Random) -> Vec<u32> {
+    let found = library::find(record, r, 1024);
     let banks = if found.number == 0 { (found.row[0] * found.row[2]) as u32 } else { 1 };
     vec![banks, 1024, random.one_of(&[banks - 1, banks + 1, 0, 1, 1023, 1025, u32::MAX])]
 }
 
 // How often each kind of call gave each number, and what the lists themselves gave.
 struct Gave {
-    calls: [[u64; 20]; 4],
+    calls: [[u64; 21]; 4],
     lists: [u64; 256],
     found: [u64; 256],
 }
@@ -247,22 +250,22 @@ impl Gave {
         }
         let numbers = |of: &[u64; 256]| (0..256).filter(|&n| of[n] > 0).collect::<Vec<usize>>();
         t.same(|| "the numbers that run_list gave".into(), numbers(&self.lists), vec![0, 16, 255]);
-        t.same(|| "the numbers that find_and_run gave".into(), numbers(&self.found), vec![0, 2, 3, 4, 6, 7, 16, 19, 255]);
+        t.same(|| "the numbers that find_and_run gave".into(), numbers(&self.found), vec![0, 2, 3, 4, 6, 7, 16, 19, 20, 255]);
     }
 }
 
 fn random_lists(count: usize) -> Tally {
     let mut t = Tally::new("6,000 random lists at once, by run_list and find_and_run");
     let mut random = Random::new(27);
-    let mut gave = Gave { calls: [[0; 20]; 4], lists: [0; 256], found: [0; 256] };
+    let mut gave = Gave { calls: [[0; 21]; 4], lists: [0; 256], found: [0; 256] };
     for _ in 0..count {
-        let Drawn { record, lent, calls } = draw(&mut t, &mut random);
+        let Drawn { record, r, lent, calls } = draw(&mut t, &mut random);
         let mut numbers: Vec<u64> = calls.iter().flat_map(|c| numbers_of(c, random.next())).collect();
         let rooms = calls.iter().map(|c| if c.kind == Kind::Fetch { c.room } else { 0 });
         let outs = rooms.sum::<usize>() + random.one_of(&[0, 0, 5]);
         let replies = 12 * calls.len() + random.one_of(&[0, 0, 7]);
-        let (record, limits) = (&record, limits(&record, &mut random));
-        let case = Case { record, lent, numbers: &numbers, outs, replies };
+        let (record, limits) = (&record, limits(&record, r, &mut random));
+        let case = Case { record, r, lent, numbers: &numbers, outs, replies };
         let (told, left) = case.ask(&mut t);
         t.same(|| format!("a list of calls, {case:?}"), told.number, 0);
         for (k, c) in calls.iter().enumerate() {
@@ -275,7 +278,7 @@ fn random_lists(count: usize) -> Tally {
         damage(&mut numbers, &mut random);
         let outs = outs - random.one_of(&[0, 0, 0, 1]).min(outs);
         let replies = replies - random.one_of(&[0, 0, 0, 1]).min(replies);
-        let case = Case { record, lent, numbers: &numbers, outs, replies };
+        let case = Case { record, r, lent, numbers: &numbers, outs, replies };
         gave.lists[case.ask(&mut t).0.number as usize] += 1;
         gave.found[case.ask_finder(&mut t, limits[0]).number as usize] += 1;
     }
@@ -289,10 +292,10 @@ pub fn by_list(book: &Record, c: &Call, mem: &mut [u16], out: &mut [u16]) -> Tol
         return by_library(book, c, mem, out);
     }
     let (Lent { plan, w, h, .. }, mut reply) = (c.lent, [7; 12]);
-    let list = library::run_list(book, plan, w, h, mem, &numbers_of(c, 12345), out, &mut reply);
+    let list = library::run_list(book, c.r, plan, w, h, mem, &numbers_of(c, 12345), out, &mut reply);
     let values = match reply[0] {
         0 => usize::from(matches!(c.kind, Kind::Load | Kind::Fetch)),
-        10 => 4,
+        10 => 3 + c.r as usize,
         _ => 1,
     };
     let fine = list == told(0, &[]) && reply[1 + values..].iter().all(|&x| x == 0);
@@ -300,6 +303,7 @@ pub fn by_list(book: &Record, c: &Call, mem: &mut [u16], out: &mut [u16]) -> Tol
 }
 
 pub fn run() -> Vec<Tally> {
-    let ones = lists::lists("500 random lists of 200 calls, each call as a list of one", 28, 500, by_list);
+    let cycles = [1, 1, 1, 1, 2, 3, 4, 5, 6, 7, 8];
+    let ones = lists::lists("500 random lists of 200 calls, each call as a list of one", 28, 500, by_list, &cycles);
     vec![run_edges::run(), random_lists(6_000), ones]
 }

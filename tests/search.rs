@@ -1,6 +1,7 @@
-//! Document 01's finder and check again, by trying every plan. It shares no code with the library, only the types that the
-//! answers are compared in.
+//! Document 01's finder and check again, by trying every plan, for each r of Card 4. It shares no code with the library, only the
+//! types that the answers are compared in.
 
+use crate::classes::{clash_for, is_cycles, suits_for};
 use crate::library::Plan;
 use crate::oracle::{is_combination, normal_form, Pattern, Refused};
 
@@ -50,12 +51,20 @@ pub fn first_plan(book: &[Pattern], limit: i64, test: impl Fn(Plan, &Pattern) ->
     (1..=limit).find_map(|n| passing(book, n, &test).into_iter().min_by_key(|p| (p.b, p.d)))
 }
 
-/// The finder: 6, then the first plan by N, b and d, then 7.
-pub fn find(book: &[Pattern], limit: i64) -> Result<Plan, Refused> {
+/// The first plan for r by N, b and d; limit 1024 is always enough.
+pub fn least_plan(book: &[Pattern], r: u32) -> Plan {
+    first_plan(book, 1024, |p, t| suits_for(r, p, t)).expect("limit 1024 is always enough")
+}
+
+/// The finder: 6, 20, then the first plan by N, b and d that passes the test for each pattern, then 7.
+pub fn find(book: &[Pattern], r: u32, limit: i64, test: impl Fn(Plan, &Pattern) -> bool) -> Result<Plan, Refused> {
     if !(1..=1024).contains(&limit) {
         return Err((6, 0));
     }
-    first_plan(book, limit, one_to_a_bank).ok_or((7, 0))
+    if !is_cycles(r) {
+        return Err((20, 0));
+    }
+    first_plan(book, limit, test).ok_or((7, 0))
 }
 
 /// A book of 16 patterns of 64 pixels whose differences fill the window, so that it needs all 1,024 banks. The columns of a
@@ -76,30 +85,24 @@ pub fn hardest() -> Vec<Pattern> {
     book
 }
 
-/// What the check says of two vectors: the plan with its surplus, or a clash.
-#[derive(Clone, Copy, Debug, PartialEq)]
+/// What the check says of two vectors: the plan with its surplus, or a clash, that is a pattern's number and positions in it.
+#[derive(Clone, Debug, PartialEq)]
 pub enum Verdict {
     Suits(Plan, i64),
-    Clash(usize, usize, usize),
+    Clash(usize, Vec<usize>),
 }
 
-/// The clash of the lowest pattern, with the least earlier, then the least later position: a difference is a whole-number
-/// combination of the vectors themselves.
-fn clash(book: &[Pattern], x: (i64, i64), y: (i64, i64)) -> Option<Verdict> {
-    for (n, t) in book.iter().enumerate() {
-        for e in 0..t.len() {
-            for l in e + 1..t.len() {
-                if is_combination(x, y, minus(t[l], t[e])) {
-                    return Some(Verdict::Clash(n, e, l));
-                }
-            }
-        }
+/// The clash of the lowest pattern that has one: a difference is a whole-number combination of the vectors themselves.
+fn clash(book: &[Pattern], r: u32, x: (i64, i64), y: (i64, i64)) -> Option<Verdict> {
+    let in_pattern = |(n, t)| clash_for(r, t, |v| is_combination(x, y, v)).map(|positions| Verdict::Clash(n, positions));
+    book.iter().enumerate().find_map(in_pattern)
+}
+
+/// The check of two vectors for a legal book whose least count for r is known.
+pub fn check(book: &[Pattern], r: u32, least: i64, x: (i64, i64), y: (i64, i64)) -> Result<Verdict, Refused> {
+    if !is_cycles(r) {
+        return Err((20, 0));
     }
-    None
-}
-
-/// The check of two vectors for a legal book whose least count is known.
-pub fn check(book: &[Pattern], least: i64, x: (i64, i64), y: (i64, i64)) -> Result<Verdict, Refused> {
     let p = normal_form(x, y)?;
-    Ok(clash(book, x, y).unwrap_or(Verdict::Suits(p, i64::from(p.a * p.d) - least)))
+    Ok(clash(book, r, x, y).unwrap_or(Verdict::Suits(p, i64::from(p.a * p.d) - least)))
 }

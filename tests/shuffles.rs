@@ -177,7 +177,7 @@ fn words() -> Tally {
     }
     let mut fetch = |book: &[Pattern], n: usize, wanted: Vec<u16>| {
         let mut out = vec![0; wanted.len()];
-        let got = library::fetch(&record(book), p, 32, 32, &memory, n, (16, 16), &mut out);
+        let got = library::fetch(&record(book), 1, p, 32, 32, &memory, n, (16, 16), &mut out);
         t.same(|| format!("{n} of {book:?}"), (got, &out), (told(0, &[wanted.len() as u64]), &wanted));
         t.same(|| format!("{n} of {book:?}"), out.windows(2).all(|pair| pair[0] < pair[1]), true);
     };

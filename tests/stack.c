@@ -27,8 +27,8 @@ static size_t most[CALLS];
 
 __asm__(
     ".text\n"
-    DOOR(read_book) DOOR(pattern_part) DOOR(write_book) DOOR(test_record) DOOR(find) DOOR(check) DOOR(normal_form) DOOR(bank)
-    DOOR(depth) DOOR(address) DOOR(locate) DOOR(store) DOOR(load) DOOR(clear) DOOR(sum) DOOR(fetch) DOOR(ring_fetch)
+    DOOR(read_book) DOOR(pattern_part) DOOR(write_book) DOOR(test_record) DOOR(find) DOOR(check) DOOR(write_cycles)
+    DOOR(normal_form) DOOR(bank) DOOR(depth) DOOR(address) DOOR(locate) DOOR(store) DOOR(load) DOOR(clear) DOOR(sum) DOOR(fetch) DOOR(ring_fetch)
     DOOR(run_list) DOOR(find_and_run) DOOR(fill_records)
     "door:\n"
     "    popq door_back(%rip)\n"              // so the stack is as before the call, and arguments stay in their places
@@ -68,7 +68,7 @@ void door_used(size_t bytes) {
 static void longest_gcd(const struct input *x) {
     uint64_t answer[BANKPLAN_ANSWER_NUMBERS];
     bankplan_normal_form(17711, 28657, 10946, 17711, answer);
-    bankplan_check(x->columns, x->rows, x->used, x->count, 17711, 28657, 10946, 17711, answer);
+    bankplan_check(x->columns, x->rows, x->used, x->count, 1, 17711, 28657, 10946, 17711, answer);
 }
 
 __attribute__((destructor)) static void show(void) {

@@ -4,24 +4,28 @@
 
 use crate::books::{bytes_of, damage, damaged_record, legal_book, legal_record};
 use crate::calls::{Call, Kind};
+use crate::classes::is_cycles;
+use crate::cycles::written;
 use crate::finds::{banks, judged, planned, random_book, vectors};
 use crate::library::bankplan::{self, Book, Clash, Picture, Plan, Refused};
 use crate::library::Told;
+use crate::lists::NO_CYCLES;
 use crate::oracle::{self, Pattern};
 use crate::plans::{any_coordinate, any_plan, legal_plan, SIDES};
-use crate::search::{self, first_plan, suits};
+use crate::search::{self, least_plan};
 use crate::{as_told, lists, wide, wrapper_lists, Random, Tally};
 use std::collections::HashMap;
 
 // Each function, and the numbers that can refuse it.
-const FUNCTIONS: [(&str, &[u64]); 12] = [
+const FUNCTIONS: [(&str, &[u64]); 13] = [
     ("read_book", &[1, 2, 3, 4, 5, 19]),
     ("pattern_part", &[1, 2, 3, 4, 5, 17, 19]),
     ("Book::new", &[2, 3, 4, 19]),
     ("Book::test", &[2, 3, 4, 19]),
     ("Book::write", &[2, 3, 4, 16, 19]),
-    ("Book::find", &[2, 3, 4, 6, 7, 19]),
-    ("Book::check", &[2, 3, 4, 8, 9, 10, 19]),
+    ("Book::find", &[2, 3, 4, 6, 7, 19, 20]),
+    ("Book::check", &[2, 3, 4, 8, 9, 10, 19, 20]),
+    ("Book::write_cycles", &[2, 3, 4, 10, 11, 16, 17, 19, 20]),
     ("normal_form", &[8, 9]),
     ("Plan::bank", &[11]),
     ("Picture::depth", &[11, 12]),
@@ -34,8 +38,8 @@ pub fn told<T>(answer: Result<T, Refused>, row: impl FnOnce(T) -> Vec<u64>) -> T
     match answer {
         Ok(x) => Told { number: 0, row: row(x) },
         Err(Refused { number, place, clash }) => {
-            let clash = clash.map_or(vec![], |c: Clash| vec![c.pattern as u64, c.earlier as u64, c.later as u64]);
-            Told { number, row: [vec![place as u64], clash].concat() }
+            let clash = clash.iter().flat_map(|c: &Clash| [&[c.pattern], c.positions()].concat());
+            Told { number, row: [place].into_iter().chain(clash).map(|x| x as u64).collect() }
         }
     }
 }
@@ -47,20 +51,20 @@ fn plan_row(p: Plan) -> Vec<u64> {
 // The cases, and how often each function gave each number.
 struct Asked {
     tally: Tally,
-    gave: HashMap<&'static str, [u64; 20]>,
+    gave: HashMap<&'static str, [u64; 21]>,
 }
 
 impl Asked {
     fn same(&mut self, function: &'static str, what: impl Fn() -> String, got: Told, wanted: Told) {
-        self.gave.entry(function).or_insert([0; 20])[got.number.min(19) as usize] += 1;
+        self.gave.entry(function).or_insert([0; 21])[got.number.min(20) as usize] += 1;
         self.tally.same(|| format!("{function}, {}", what()), got, wanted);
     }
 
     // Every function gave a value, and each number that can refuse it.
     fn reached(&mut self) {
         for (function, refusals) in FUNCTIONS {
-            let gave = self.gave.get(function).copied().unwrap_or([0; 20]);
-            let numbers: Vec<u64> = (0..20).filter(|&n| gave[n as usize] > 0).collect();
+            let gave = self.gave.get(function).copied().unwrap_or([0; 21]);
+            let numbers: Vec<u64> = (0..21).filter(|&n| gave[n as usize] > 0).collect();
             let wanted: Vec<u64> = [&[0], refusals].concat();
             self.tally.same(|| format!("the numbers that {function} gave"), numbers, wanted);
         }
@@ -152,40 +156,70 @@ fn books(a: &mut Asked) {
 
 // ---- finder, check, plans
 
+fn checked_row(c: bankplan::Checked) -> Vec<u64> {
+    [plan_row(c.plan), vec![c.surplus.into()]].concat()
+}
+
+// The cycles of a pattern, which may not be there, under a plan for an output of the given room.
+fn ask_cycles(a: &mut Asked, book: &Book, r: u32, p: Plan, n: usize, room: usize) {
+    let (mut out, mut left) = (vec![0xc9; room], vec![0xc9; room]);
+    let what = || format!("{book:?} {r} {p:?} {n}");
+    let got = told(book.write_cycles(r, p, n, &mut out), |count| vec![count as u64]);
+    let wanted = written(book, r, p, n, room).map(|bytes| {
+        left[..bytes.len()].copy_from_slice(&bytes);
+        Told { number: 0, row: vec![bytes.len() as u64] }
+    });
+    a.same("Book::write_cycles", what, got, wanted.unwrap_or_else(|refused| refused));
+    a.tally.same(what, out, left);
+}
+
 fn finds(a: &mut Asked) {
     let mut random = Random::new(22);
-    for round in 0..500 {
+    for round in 0..800 {
         let book = random_book(&mut random, 4, 7, 5, 4);
-        let least = first_plan(&book, 1024, suits).expect("limit 1024 is always enough");
-        let mut r = oracle::record_of(&book);
-        let what = || format!("{book:?}");
+        // every other r is 1, and one of ten is none
+        let cycles = [1, 2, 1, 3, 1, 5, 1, 8, 1, random.one_of(&NO_CYCLES)][round % 10];
+        let least = if is_cycles(cycles) { least_plan(&book, cycles) } else { search::plan(5, 2, 1) };
+        let r = oracle::record_of(&book);
+        let what = || format!("{book:?} {cycles}");
         for limit in [1024, banks(least), banks(least) - 1, 1025] {
-            let found = planned(Some(least).filter(|p| banks(*p) <= limit));
-            let wanted = if (1..=1024).contains(&limit) { found } else { Told { number: 6, row: vec![0] } };
-            a.same("Book::find", what, told(r.find(limit as u32), plan_row), wanted);
+            let wanted = match limit {
+                1..=1024 if !is_cycles(cycles) => Told { number: 20, row: vec![0] },
+                1..=1024 => planned(Some(least).filter(|p| banks(*p) <= limit)),
+                _ => Told { number: 6, row: vec![0] },
+            };
+            a.same("Book::find", what, told(r.find(cycles, limit as u32), plan_row), wanted);
         }
-        let checked = |c: bankplan::Checked| [plan_row(c.plan), vec![c.surplus.into()]].concat();
         for _ in 0..4 {
             let (x, y) = vectors(&mut random, least);
-            let wanted = judged(search::check(&book, banks(least), wide(x), wide(y)));
-            a.same("Book::check", || format!("{book:?} {x:?} {y:?}"), told(r.check(x, y), checked), wanted);
+            let wanted = judged(search::check(&book, cycles, banks(least), wide(x), wide(y)));
+            a.same("Book::check", || format!("{book:?} {cycles} {x:?} {y:?}"), told(r.check(cycles, x, y), checked_row), wanted);
+            let plans = [least, legal_plan(&mut random), any_plan(&mut random)];
+            let p = random.one_of(&plans);
+            ask_cycles(a, &r, cycles, p, random.one_of(&[0, 0, 1, 4]), random.one_of(&[7, 9, 3]));
             let wanted = as_told(oracle::normal_form(wide(x), wide(y)), plan_row);
             a.same("normal_form", || format!("{x:?} {y:?}"), told(bankplan::normal_form(x, y), plan_row), wanted);
         }
         let (x, y) = random.one_of(&[((2, 1), (4, 2)), ((32, 0), (0, 33)), ((-5, 0), (3, -1))]);
         let wanted = as_told(oracle::normal_form(wide(x), wide(y)), plan_row);
         a.same("normal_form", || format!("{x:?} {y:?}"), told(bankplan::normal_form(x, y), plan_row), wanted);
-        // a record that is no book
-        match round % 4 {
-            0 => r.used[0] = random.one_of(&[0, 65]),
-            1 => r.rows[0] = random.one_of(&[-17, 16]),
-            2 => (r.used[0], r.columns[0], r.columns[1], r.rows[1]) = (2, 15, 14, r.rows[0]),
-            _ => (r.used[0], r.columns[1], r.rows[1]) = (2, r.columns[0], r.rows[0]),
-        }
-        let wanted = as_told(oracle::patterns_of(&r), |_| vec![]);
-        a.same("Book::find", what, told(r.find(1024), plan_row), wanted.clone());
-        a.same("Book::check", what, told(r.check((1, 0), (0, 1)), checked), wanted);
+        no_book(a, r, cycles, round, &mut random);
     }
+}
+
+// The same record, damaged so that it is no book.
+fn no_book(a: &mut Asked, mut r: Book, cycles: u32, round: usize, random: &mut Random) {
+    match round % 4 {
+        0 => r.used[0] = random.one_of(&[0, 65]),
+        1 => r.rows[0] = random.one_of(&[-17, 16]),
+        2 => (r.used[0], r.columns[0], r.columns[1], r.rows[1]) = (2, 15, 14, r.rows[0]),
+        _ => (r.used[0], r.columns[1], r.rows[1]) = (2, r.columns[0], r.rows[0]),
+    }
+    let what = || format!("{r:?} {cycles}");
+    let wanted = as_told(oracle::patterns_of(&r), |_| vec![]);
+    a.same("Book::find", what, told(r.find(cycles, 1024), plan_row), wanted.clone());
+    a.same("Book::check", what, told(r.check(cycles, (1, 0), (0, 1)), checked_row), wanted);
+    ask_cycles(a, &r, cycles, search::plan(5, 2, 1), 0, 7);
 }
 
 fn plans(a: &mut Asked) {
@@ -226,8 +260,8 @@ pub fn by_wrapper(book: &Book, c: &Call, mem: &mut [u16], out: &mut [u16]) -> To
         Kind::Load => told(p.load(mem, c.v), |word| vec![word.into()]),
         Kind::Clear => told(p.clear(mem, c.k), |()| vec![]),
         Kind::Sum => told(p.sum(mem, c.k), |sum| vec![sum]),
-        Kind::Fetch => told(p.fetch(book, mem, c.n, c.v, out), |words| vec![words as u64]),
-        Kind::Ring => told(p.ring_fetch(book, mem, c.n, c.v, out), |words| vec![words as u64]),
+        Kind::Fetch => told(p.fetch(book, c.r, mem, c.n, c.v, out), |words| vec![words as u64]),
+        Kind::Ring => told(p.ring_fetch(book, c.r, mem, c.n, c.v, out), |words| vec![words as u64]),
     }
 }
 
@@ -236,20 +270,30 @@ fn texts(t: &mut Tally) {
         t.same(|| wanted.into(), answer.map_or_else(|r| r.to_string(), |()| String::new()), wanted.into());
     };
     let pair = Book::new(&[[(0, 0), (1, 0)]]).unwrap();
-    let picture = Picture { plan: pair.find(1024).unwrap(), width: 7, height: 4 };
+    let picture = Picture { plan: pair.find(1, 1024).unwrap(), width: 7, height: 4 };
     says(bankplan::read_book(&[1, 1, 16, 0]).map(|_| ()), "refused 3: coordinate not -16..15, place 2");
     says(Book::new(&[[(0, 0), (0, 0)]]).map(|_| ()), "refused 4: pixel already in this pattern");
     let lower = "refused 19: pixel lower than the one before it, by row, then column";
     says(bankplan::read_book(&[1, 2, 0, 0, 255, 0]).map(|_| ()), &format!("{lower}, place 4"));
     says(Book::new(&[[(0, 0), (-1, 0)]]).map(|_| ()), lower);
-    says(pair.find(1).map(|_| ()), "refused 7: no suiting plan within limit");
-    says(pair.check((1, 0), (0, 1)).map(|_| ()), "refused 10: plan doesn't suit, pattern 0, positions 0 and 1");
+    says(pair.find(1, 1).map(|_| ()), "refused 7: no suiting plan within limit");
+    says(pair.check(1, (1, 0), (0, 1)).map(|_| ()), "refused 10: plan doesn't suit, pattern 0, positions 0 and 1");
+    let row = Book::new(&[vec![(5, 5)], (0..10).map(|i| (i, 0)).collect()]).unwrap();
+    let clash = "refused 10: plan doesn't suit, pattern 1, positions";
+    says(row.check(2, (2, 0), (0, 1)).map(|_| ()), &format!("{clash} 0, 2 and 4"));
+    says(row.check(8, (1, 0), (0, 1)).map(|_| ()), &format!("{clash} 0, 1, 2, 3, 4, 5, 6, 7 and 8"));
+    says(row.find(0, 1024).map(|_| ()), "refused 20: r outside 1 to 8");
     says(picture.store(&mut [], (0, 0), 1), "refused 13: memory shorter than N × depth");
-    says(picture.fetch(&pair, &[0; 32], 0, (0, 0), &mut []).map(|_| ()), "refused 16: output too short");
+    says(picture.fetch(&pair, 1, &[0; 32], 0, (0, 0), &mut []).map(|_| ()), "refused 16: output too short");
     says(Err(Refused { number: bankplan::NOT_CALLS, place: 5, clash: None }), "refused 255: not a list of calls, place 5");
     let version: Vec<_> = bankplan::VERSION.split('.').map(|n| n.parse::<u32>().is_ok()).collect();
     t.same(|| "the version is three numbers".into(), version, vec![true; 3]);
-    for number in [0, 20, u64::MAX] {
+    // no more positions than a clash has
+    for (pattern, positions) in [(0, vec![]), (3, vec![7]), (1, (0..20).collect())] {
+        let clash = Clash::new(pattern, &positions);
+        t.same(|| format!("{clash:?}"), (clash.pattern, clash.positions()), (pattern, &positions[..positions.len().min(9)]));
+    }
+    for number in [0, 21, u64::MAX] {
         t.same(|| number.to_string(), Refused { number, place: 0, clash: None }.condition(), "no such number");
     }
 }
@@ -261,6 +305,7 @@ pub fn run() -> Vec<Tally> {
     plans(&mut a);
     a.reached();
     texts(&mut a.tally);
-    let on_pictures = lists::lists("the wrapper: 300 random lists of 200 calls on a picture", 24, 300, by_wrapper);
+    let cycles = [1, 1, 2, 3, 8];
+    let on_pictures = lists::lists("the wrapper: 300 random lists of 200 calls on a picture", 24, 300, by_wrapper, &cycles);
     vec![a.tally, on_pictures, wrapper_lists::run()]
 }

@@ -37,14 +37,15 @@ fn single(book: &Book, c: &calls::Call, mem: &mut [u16]) -> Reply {
 }
 
 fn refusal(row: &[u64], number: u64) -> Refused {
-    let clash = row.get(1).map(|_| Clash { pattern: row[1] as usize, earlier: row[2] as usize, later: row[3] as usize });
+    let positions: Vec<usize> = row.iter().skip(2).map(|&e| e as usize).collect();
+    let clash = row.get(1).map(|&n| Clash::new(n as usize, &positions));
     Refused { number, place: row[0] as usize, clash }
 }
 
 fn random_lists(t: &mut Tally) {
     let mut random = Random::new(29);
     for _ in 0..1_500 {
-        let Drawn { record: book, lent, mut calls } = runs::draw(t, &mut random);
+        let Drawn { record: book, r, lent, mut calls } = runs::draw(t, &mut random);
         for c in &mut calls {
             // as a type a fetch may have any room
             if c.kind == Kind::Fetch && random.from_to(0, 9) == 0 {
@@ -57,7 +58,7 @@ fn random_lists(t: &mut Tally) {
         t.same(what, numbers_of(&list), numbers.clone());
         // under the plan that was drawn, then under the finder's
         let picture = |lent: Lent| Picture { plan: lent.plan, width: lent.w, height: lent.h };
-        let start = |lent: Lent| Case { record: &book, lent, numbers: &[], outs: 0, replies: 0 }.start().memory;
+        let start = |lent: Lent| Case { record: &book, r, lent, numbers: &[], outs: 0, replies: 0 }.start().memory;
         let by_calls = |lent: Lent| {
             let mut mem = start(lent);
             let one = |c: &calls::Call| single(&book, &calls::Call { lent, ..*c }, &mut mem[..lent.words]);
@@ -65,14 +66,14 @@ fn random_lists(t: &mut Tally) {
             (replies, mem)
         };
         let mut mem = start(lent);
-        let got = picture(lent).run_list(&book, &mut mem[..lent.words], &list);
+        let got = picture(lent).run_list(&book, r, &mut mem[..lent.words], &list);
         let (replies, left) = by_calls(lent);
         t.same(what, (got, mem), (Ok(replies), left));
         let limit = random.one_of(&[1024, 1024, 9, 0]);
-        let found = book.find(limit);
+        let found = book.find(r, limit);
         let under = Lent { plan: found.unwrap_or(lent.plan), ..lent };
         let mut mem = start(under);
-        let got = book.find_and_run(limit, (lent.w, lent.h), &mut mem[..lent.words], &list);
+        let got = book.find_and_run(r, limit, (lent.w, lent.h), &mut mem[..lent.words], &list);
         let wanted = match found {
             Ok(plan) => {
                 let (replies, left) = by_calls(under);
@@ -91,8 +92,8 @@ fn not_made(t: &mut Tally, book: &Book, picture: Picture) {
         for finder in [false, true] {
             let (mut mem, mut out, mut rows) = lent();
             let got = match finder {
-                false => picture.run_numbers(book, &mut mem, numbers, &mut out, &mut rows),
-                true => book.find_and_run_numbers(9, (7, 4), &mut mem, numbers, &mut out, &mut rows).map(|_| ()),
+                false => picture.run_numbers(book, 1, &mut mem, numbers, &mut out, &mut rows),
+                true => book.find_and_run_numbers(1, 9, (7, 4), &mut mem, numbers, &mut out, &mut rows).map(|_| ()),
             };
             t.same(|| format!("{numbers:?}, {outs}, {replies}"), got, wanted);
             t.same(|| format!("{numbers:?}, {outs}, {replies}"), wanted.is_err() && (mem, out, rows) != lent(), false);
@@ -116,13 +117,13 @@ fn lower(t: &mut Tally, book: &Book, picture: Picture) {
     let fetch = Call::Fetch { pattern: 0, at: (3, 2), room: 5 };
     let list = [Call::Store { pixel: (3, 2), word: 8 }, fetch, Call::Load { pixel: (3, 2) }];
     let mut mem = [0; 40];
-    let got = picture.run_list(&unordered, &mut mem, &list);
+    let got = picture.run_list(&unordered, 1, &mut mem, &list);
     t.same(|| "pixels not in order".into(), got, Ok(vec![Reply::Done, Reply::Refused(refused), Reply::Word(8)]));
     let before = mem;
-    let got = unordered.find_and_run(1024, (7, 4), &mut mem, &list);
+    let got = unordered.find_and_run(1, 1024, (7, 4), &mut mem, &list);
     t.same(|| "pixels not in order".into(), (got, mem), (Err(NotMade::Refused(refused)), before));
     let words = Reply::Words(vec![0, 0, 8, 0, 0]);
-    t.same(|| "pixels in order".into(), picture.run_list(book, &mut mem, &[fetch]), Ok(vec![words]));
+    t.same(|| "pixels in order".into(), picture.run_list(book, 1, &mut mem, &[fetch]), Ok(vec![words]));
 }
 
 // The texts, the layout's numbers, and slices that are too short for the replies.
@@ -130,10 +131,10 @@ fn texts(t: &mut Tally, book: &Book, picture: Picture) {
     let mut says = |answer: NotMade, wanted: &str| t.same(|| wanted.into(), answer.to_string(), wanted.into());
     says(NotMade::NotCalls { place: 15 }, "list not made: the numbers from place 15 on are no call's");
     says(NotMade::Short, "list not made: outputs or replies too short");
-    let refused = book.find_and_run(4, (7, 4), &mut [], &[]).unwrap_err();
+    let refused = book.find_and_run(1, 4, (7, 4), &mut [], &[]).unwrap_err();
     says(refused, "list not made: refused 7: no suiting plan within limit");
     let numbers = (CALL_NUMBERS, REPLY_NUMBERS, NOT_CALLS, CONDITIONS.len());
-    t.same(|| "the layout".into(), numbers, (5, 12, 255, 19));
+    t.same(|| "the layout".into(), numbers, (5, 12, 255, 20));
     let list = [Call::Load { pixel: (0, 0) }, Call::Fetch { pattern: 0, at: (3, 2), room: 5 }, Call::Clear { bank: 9 }];
     let rows = [&[0, 7], &[0; 10][..], &[0, 5], &[0; 10], &[15, 0]].concat();
     let clear = Reply::Refused(Refused { number: 15, place: 0, clash: None });
@@ -143,7 +144,7 @@ fn texts(t: &mut Tally, book: &Book, picture: Picture) {
     t.same(|| "short slices".into(), replies_of(&list, &[], &[]), vec![]);
     // 64 rooms that no memory has
     let most = vec![Call::Fetch { pattern: 0, at: (3, 2), room: usize::MAX }; 64];
-    let got = picture.run_list(book, &mut [6; 40], &most);
+    let got = picture.run_list(book, 1, &mut [6; 40], &most);
     t.same(|| "large rooms".into(), got, Ok(vec![Reply::Words(vec![6; 5]); 64]));
     // a fetch of 64 words, with just their room and with more
     let block: Vec<(i8, i8)> = (0..64).map(|k| (k % 8, k / 8)).collect();
@@ -154,7 +155,7 @@ fn texts(t: &mut Tally, book: &Book, picture: Picture) {
             0 => Reply::Words(vec![6; 64]),
             _ => Reply::Refused(Refused { number, place: 0, clash: None }),
         };
-        let got = full.find_and_run(1024, (8, 8), &mut [6; 512], &[call]).map(|(_, replies)| replies);
+        let got = full.find_and_run(1, 1024, (8, 8), &mut [6; 512], &[call]).map(|(_, replies)| replies);
         t.same(|| format!("64 words, room {room}"), got, Ok(vec![wanted]));
     }
 }
@@ -163,7 +164,7 @@ pub fn run() -> Tally {
     let mut t = Tally::new("the wrapper: 1,500 random lists as types");
     random_lists(&mut t);
     let book = oracle::record_of(&[cross()]);
-    let picture = Picture { plan: book.find(1024).unwrap(), width: 7, height: 4 };
+    let picture = Picture { plan: book.find(1, 1024).unwrap(), width: 7, height: 4 };
     not_made(&mut t, &book, picture);
     lower(&mut t, &book, picture);
     texts(&mut t, &book, picture);

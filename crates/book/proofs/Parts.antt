@@ -14,7 +14,7 @@ use Rattle.scope.specs.Books.{byte, start, partIn, bookIn, pixelBytes, patternB
 use Rattle.scope.specs.Numbers.{value, refusal, ofOutcome, bytesTest}
 use Rattle.scope.specs.Calls.{readBook, partTest, patternPart, partOutcome, partPlace}
 use Rattle.scope.specs.promises.BookPromises.{Bytes, PartsAre}
-use Rattle.scope.specs.declared.Clash.{Clash}
+use Rattle.scope.specs.Cycles.{LongClash}
 use Rattle.scope.specs.declared.Outcome.{Outcome}
 use Rattle.checks.proofs.Searches.{getD-gather}
 use Rattle.checks.proofs.Chains.{value-not-refusal, answered-none, answered-some, RefusedBy, answered-value, answered-refusal}
@@ -92,7 +92,7 @@ module _ (s : List ℕ) (n : ℕ) where
       ∙ rw (patterns-before-part read below) (ap (λ k. k + 1) before)
 
   -- on a refusal its tests found one
-  part-refused : (m i : ℕ) (c : Option Clash) → ofOutcome (partOutcome s n) ≡ refusal m i c → RefusedBy (partTest s n) m i c
+  part-refused : (m i : ℕ) (c : Option LongClash) → ofOutcome (partOutcome s n) ≡ refusal m i c → RefusedBy (partTest s n) m i c
   unfolding partOutcome
   part-refused m i c e = by-tests (answered-refusal ofOutcome (partTest s n) Outcome.Refused Outcome.Done m i c (λ r. refl) e)
     where
@@ -102,13 +102,13 @@ module _ (s : List ℕ) (n : ℕ) where
       by-tests (inl found) = found
       by-tests (inr other) = absurd (value-not-refusal (other .1))
 
-  part-empty : (m i : ℕ) (c : Option Clash) → ofOutcome (partOutcome s n) ≡ refusal m i c → patternPart s n ≡ []
+  part-empty : (m i : ℕ) (c : Option LongClash) → ofOutcome (partOutcome s n) ≡ refusal m i c → patternPart s n ≡ []
   unfolding patternPart
   part-empty m i c e =
       let found = part-refused m i c e in
       answered-some (partTest s n) (λ r. []) (partIn s n) (found .0) (found .1)
 
-  part-place-empty : (m i : ℕ) (c : Option Clash) → ofOutcome (partOutcome s n) ≡ refusal m i c → partPlace s n ≡ 0
+  part-place-empty : (m i : ℕ) (c : Option LongClash) → ofOutcome (partOutcome s n) ≡ refusal m i c → partPlace s n ≡ 0
   unfolding partPlace
   part-place-empty m i c e =
       let found = part-refused m i c e in

@@ -18,7 +18,7 @@ use Rattle.scope.specs.Numbers.{extraTest, bytesTest, numberTest}
 use Rattle.scope.specs.Calls.{readBook, partTest, partOutcome}
 use Rattle.scope.specs.promises.Meaning.{InRange, Lower}
 use Rattle.scope.specs.promises.RefusalPromises.{bytesSoFar, PatternsSoFar, bytesWithin, PixelsSoFar, readAnswer, ReaderRefuses}
-use Rattle.scope.specs.declared.Clash.{Clash}
+use Rattle.scope.specs.Cycles.{LongClash}
 use Rattle.scope.specs.declared.Outcome.{Outcome}
 use Rattle.scope.specs.declared.Reading.{Reading}
 use Rattle.scope.specs.declared.Refusal.{Refusal}
@@ -66,7 +66,7 @@ module _ (s : List ℕ) where
   unfolding readBook
   read-refused r e = ap (λ (x : Reading). ofOutcome (x .outcome)) (answered-some (bytesTest s) _ _ r e)
 
-  refused-by : (n i : ℕ) (c : Option Clash) → readAnswer s ≡ refusal n i c → RefusedBy (bytesTest s) n i c
+  refused-by : (n i : ℕ) (c : Option LongClash) → readAnswer s ≡ refusal n i c → RefusedBy (bytesTest s) n i c
   unfolding readBook
   refused-by n i c e =
       by-tests (answered-refusal (λ (x : Reading). ofOutcome (x .outcome)) (bytesTest s) _ _ n i c (λ r. refl) e)
@@ -78,7 +78,7 @@ module _ (s : List ℕ) where
       by-tests (inr other) = absurd (value-not-refusal (other .1))
 
   -- and then it gives the record of no pattern
-  no-record : (n i : ℕ) (c : Option Clash) → readAnswer s ≡ refusal n i c → readBook s .book ≡ bookOf []
+  no-record : (n i : ℕ) (c : Option LongClash) → readAnswer s ≡ refusal n i c → readBook s .book ≡ bookOf []
   unfolding readBook
   no-record n i c e =
       let found = refused-by n i c e in

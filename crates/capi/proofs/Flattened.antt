@@ -17,7 +17,7 @@ use Rattle.scope.specs.Numbers.{value, refusal, ofOutcome}
 use Rattle.scope.specs.Calls.{readBook}
 use Rattle.scope.specs.declared.Pattern.{Pattern}
 use Rattle.scope.specs.declared.Book.{Book}
-use Rattle.scope.specs.declared.Clash.{Clash}
+use Rattle.scope.specs.Cycles.{LongClash}
 use Rattle.scope.specs.declared.Reading.{Reading}
 use Rattle.scope.specs.declared.Outcome.{Outcome}
 use Rattle.checks.proofs.Searches.{length-gather, getD-gather}
@@ -126,13 +126,13 @@ is-done (Outcome.Refused q) e = absurd (value-not-refusal (sym e))
 
 -- a refused reading tells its refusal, and leaves an array as it was
 refusal-told :
-    (b : Book) (o : Outcome) (n i : ℕ) (c : Option Clash) → ofOutcome o ≡ refusal n i c → ofReading (reading b o) ≡ refusal n i c
+    (b : Book) (o : Outcome) (n i : ℕ) (c : Option LongClash) → ofOutcome o ≡ refusal n i c → ofReading (reading b o) ≡ refusal n i c
 refusal-told b Outcome.Done n i c e = absurd (value-not-refusal e)
 refusal-told b (Outcome.Refused q) n i c e = cc
 
 module _ {A : Type 0} (flat : Book → List A) where
   refusal-leaves :
-      (b : Book) (o : Outcome) (n i : ℕ) (c : Option Clash) → ofOutcome o ≡ refusal n i c → (out : List A)
+      (b : Book) (o : Outcome) (n i : ℕ) (c : Option LongClash) → ofOutcome o ≡ refusal n i c → (out : List A)
       → whenRead flat (reading b o) out ≡ out
   refusal-leaves b Outcome.Done n i c e out = absurd (value-not-refusal e)
   refusal-leaves b (Outcome.Refused q) n i c e out = refl

@@ -2,21 +2,25 @@
 -- Assumes nothing.
 use Prim.Native.Nat.{ℕ}
 use native.Mathlib.Omega.{arith}
-use mathlib.Core.Path.{_≡_, sym, _∙_, ap, subst}
-use mathlib.Core.Option.{Option}
+use mathlib.Core.Path.{_≡_, refl, sym, _∙_, ap, ap₂, subst}
+use mathlib.Core.Option.{Option, none, some}
 use mathlib.Core.List.{List, _∷_}
-use Rattle.scope.specs.Numbers.{Answer, value, refusal, turnedDown}
+use Rattle.scope.specs.Numbers.{Answer, value, refusal, numberOf, placeOf, clashOf, turnedDown, withPositions}
 use Rattle.scope.specs.Calls.{Result, Lent}
 use Rattle.scope.specs.Plans.{Pixel}
 use Rattle.scope.specs.declared.Book.{Book}
 use Rattle.scope.specs.declared.Plan.{Plan}
 use Rattle.scope.specs.declared.Refusal.{Refusal}
-use Rattle.scope.specs.declared.Clash.{Clash}
+use Rattle.scope.specs.Cycles.{LongClash}
 use Rattle.scope.specs.declared.Outcome.{Outcome}
 use Rattle.scope.specs.declared.Outcome.the-variants.{Done, Refused}
 use Rattle.scope.specs.declared.Reading.{Reading}
+use Rattle.scope.specs.declared.Verdict.{Verdict}
+use Rattle.scope.specs.declared.Counted.{Counted}
+use Rattle.scope.specs.declared.CheckAnswer.{CheckAnswer}
+use Rattle.scope.specs.declared.FetchAnswer.{FetchAnswer}
 use Rattle.checks.proofs.Chains.{Gives}
-use Rattle.capi.specs.Told.{Tells, numberTold, rowIn, planRow, noRow, putFrom, ofListed, ofFoundRun}
+use Rattle.capi.specs.Told.{Tells, numberTold, rowIn, planRow, noRow, putFrom, placedAt, ofListed, ofFoundRun}
 use Rattle.pictures.specs.declared.lists.Listed.{Listed}
 use Rattle.claims.specs.declared.FoundRun.{FoundRun}
 use Rattle.claims.specs.Demanded.{findAndRun, Demanded}
@@ -59,13 +63,38 @@ told-value {row} {before} e put =
     record { number = sym (ap numberTold e); row-put = put ∙ sym (ap (λ a. putFrom 0 (rowIn row a) before) e) }
 
 pub told-refusal :
-    {A : Type 0} {row : A → List ℕ} {x : Answer A} {m place : ℕ} {clash : Option Clash} {before after : List ℕ} {n : ℕ}
+    {A : Type 0} {row : A → List ℕ} {x : Answer A} {m place : ℕ} {clash : Option LongClash} {before after : List ℕ} {n : ℕ}
     → x ≡ refusal m place clash → (n ≡ m) × (after ≡ putFrom 0 (place ∷ clashNumbers clash) before) → Tells row x before after n
 told-refusal {row} {before} e (number, put) =
     record {
       number = number ∙ sym (ap numberTold e);
       row-put = put ∙ sym (ap (λ a. putFrom 0 (rowIn row a) before) e);
     }
+
+-- Two answers are one if what they say and the positions beside it are.
+pub same-check : {a b : CheckAnswer} → a .verdict ≡ b .verdict → a .positions ≡ b .positions → a ≡ b
+same-check = ap₂ (λ (v : Verdict) (es : List ℕ). the-check v es)
+  where
+    the-check : Verdict → List ℕ → CheckAnswer
+    the-check v es = record { verdict = v; positions = es }
+
+pub same-fetch : {a b : FetchAnswer} → a .counted ≡ b .counted → a .positions ≡ b .positions → a ≡ b
+same-fetch = ap₂ (λ (c : Counted) (es : List ℕ). the-fetch c es)
+  where
+    the-fetch : Counted → List ℕ → FetchAnswer
+    the-fetch c es = record { counted = c; positions = es }
+
+-- a refusal told with these positions
+pub placed-refusal :
+    {A : Type 0} (es : List ℕ) (f : Refusal)
+    → _≡_ {A = Answer A} (withPositions es (turnedDown f)) (refusal (numberOf f) (placeOf f) (placedAt es (clashOf f)))
+placed-refusal {A} es f = by-clash (clashOf f)
+  where
+    by-clash :
+        (c : Option LongClash)
+        → _≡_ {A = Answer A} (withPositions es (refusal (numberOf f) (placeOf f) c)) (refusal (numberOf f) (placeOf f) (placedAt es c))
+    by-clash none = refl
+    by-clash (some c) = refl
 
 -- a reading that was done, and one that was refused
 module _ (x : Reading) where
@@ -103,13 +132,13 @@ module _ {p : Plan} {l : Listed} {r : FoundRun} {before mid : List ℕ} {n : ℕ
 
 -- The finder and a list under its plan: what it answers is told, and what it left, and that demand 3 is met.
 pub found-told :
-    (book : Book) (limit W H : ℕ) (numbers : List ℕ) (b : Buffers) {own : Book} {r : FoundRun} {left : Buffers}
+    (book : Book) (r limit W H : ℕ) (numbers : List ℕ) (b : Buffers) {own : Book} {x : FoundRun} {left : Buffers}
     {before after : List ℕ} {n : ℕ} → own ≡ book →
-    let ran = findAndRun own limit W H numbers b in
-    let due = findAndRun book limit W H numbers b in
-    (r ≡ ran .answer) × ((left ≡ ran .content) × Demanded r own W H numbers b left)
-    → Tells planRow (ofFoundRun r) before after n
+    let ran = findAndRun own r limit W H numbers b in
+    let due = findAndRun book r limit W H numbers b in
+    (x ≡ ran .answer) × ((left ≡ ran .content) × Demanded x own r W H numbers b left)
+    → Tells planRow (ofFoundRun x) before after n
     → Tells planRow (ofFoundRun (due .answer)) before after n
-    × ((left ≡ due .content) × Demanded (due .answer) book W H numbers b left)
-found-told book limit W H numbers b is (answer, (content, demand)) told =
+    × ((left ≡ due .content) × Demanded (due .answer) book r W H numbers b left)
+found-told book r limit W H numbers b is (answer, (content, demand)) told =
     rw (← is) (told-of ofFoundRun answer told, (content, rw (← answer) demand))

@@ -13,7 +13,7 @@ use Rattle.scope.specs.Numbers.{Answer, value, refusal, turnedDown, ofOutcome}
 use Rattle.scope.specs.Calls.{readBook}
 use Rattle.scope.specs.declared.Pattern.{Pattern}
 use Rattle.scope.specs.declared.Book.{Book}
-use Rattle.scope.specs.declared.Clash.{Clash}
+use Rattle.scope.specs.Cycles.{LongClash}
 use Rattle.scope.specs.declared.Reading.{Reading}
 use Rattle.scope.specs.declared.Outcome.the-variants.{Done, Refused}
 
@@ -69,10 +69,10 @@ pub record ReadIsKept : Type 0 where
       (readBook s .book .count)
       ≡ readBook s .book
   pub told-refusal :
-      (s : List ℕ) (n i : ℕ) (c : Option Clash) → ofOutcome (readBook s .outcome) ≡ refusal n i c
+      (s : List ℕ) (n i : ℕ) (c : Option LongClash) → ofOutcome (readBook s .outcome) ≡ refusal n i c
       → ofReading (readBook s) ≡ refusal n i c
   pub unchanged :
-      (s : List ℕ) (columns rows : List ℤ) (used : List ℕ) (n i : ℕ) (c : Option Clash)
+      (s : List ℕ) (columns rows : List ℤ) (used : List ℕ) (n i : ℕ) (c : Option LongClash)
       → ofOutcome (readBook s .outcome) ≡ refusal n i c
       → (whenRead flatColumns (readBook s) columns ≡ columns)
       × (whenRead flatRows (readBook s) rows ≡ rows)

@@ -3,11 +3,12 @@
 -- Assumes nothing.
 use Prim.Native.Nat.{ℕ, suc}
 use mathlib.Core.Path.{_≡_}
-use mathlib.Core.Option.{none}
+use mathlib.Core.Option.{Option, none, some}
 use mathlib.Core.List.{List, [], _∷_, _++_}
 use lib.IntN.{natAbs}
 use lib.ListN.{set}
 use Rattle.scope.specs.Plans.{Pixel}
+use Rattle.scope.specs.Cycles.{LongClash}
 use Rattle.scope.specs.Numbers.{Answer, value, refusal, turnedDown}
 use Rattle.scope.specs.declared.Plan.{Plan}
 use Rattle.scope.specs.declared.Checked.{Checked}
@@ -20,7 +21,7 @@ abbrev pub numberTold : {A : Type 0} → Answer A → ℕ
 numberTold (value x) = 0
 numberTold (refusal n place clash) = n
 
--- the answer's values, or the refusal's place and, of 10, the clash's pattern and its earlier and later position
+-- the answer's values, or the refusal's place and, of 10, the clash's pattern and its positions
 abbrev pub rowIn : {A : Type 0} → (A → List ℕ) → Answer A → List ℕ
 rowIn f (value x) = f x
 rowIn f (refusal n place clash) = place ∷ clashNumbers clash
@@ -50,6 +51,11 @@ putFrom k (x ∷ xs) out = putFrom (suc k) xs (set out k x)
 pub record Tells {A : Type 0} (row : A → List ℕ) (answer : Answer A) (before after : List ℕ) (n : ℕ) : Type 0 where
   pub number : n ≡ numberTold answer
   pub row-put : after ≡ putFrom 0 (rowIn row answer) before
+
+-- a clash with these positions, as `withPositions` has it
+abbrev pub placedAt : List ℕ → Option LongClash → Option LongClash
+placedAt es none = none
+placedAt es (some c) = some (record { pattern = c .pattern; positions = es })
 
 -- What came of a list of calls. Document 01 has no number for a list that is none: 255, at the place of its first numbers that
 -- are no call's. Outputs or replies that are too short are 16.

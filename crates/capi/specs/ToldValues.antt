@@ -7,10 +7,14 @@ use lib.IntN.{ℤ, pos, negsuc}
 use lib.ListN.{length, getD, replicate, take}
 use Rattle.scope.specs.Plans.{Pixel, at, plan, pixels, patternAt}
 use Rattle.scope.specs.Books.{bookOf}
-use Rattle.scope.specs.Numbers.{Answer, value, turnedDown, ofVerdict}
+use Rattle.scope.specs.Numbers.{Answer, value, turnedDown, ofCheck, ofFetch}
 use Rattle.scope.specs.declared.Book.{Book}
 use Rattle.scope.specs.declared.Refusal.{Refusal}
 use Rattle.scope.specs.declared.Verdict.{Verdict}
+use Rattle.scope.specs.declared.Clash.{Clash}
+use Rattle.scope.specs.declared.Counted.{Counted}
+use Rattle.scope.specs.declared.CheckAnswer.{CheckAnswer}
+use Rattle.scope.specs.declared.FetchAnswer.{FetchAnswer}
 use Rattle.pictures.specs.declared.lists.Listed.{Listed}
 use Rattle.claims.specs.declared.FoundRun.{FoundRun}
 use Rattle.capi.specs.Told.{numberTold, rowIn, planRow, checkedRow, numberRow, pixelRow, noRow, putFrom, ofListed, ofFoundRun}
@@ -27,6 +31,19 @@ record Row (A : Type 0) : Type 0 where
 row : {A : Type 0} → A → A → Row A
 row x y = record { computed = x; stated = y }
 
+-- a clash of pattern 3, and answers beside nine positions
+abbrev clash : Clash
+clash = record { pattern = 3; earlier = 1; later = 2 }
+
+abbrev nine : List ℕ
+nine = 1 ∷ 2 ∷ 4 ∷ 5 ∷ 6 ∷ 7 ∷ 8 ∷ 20 ∷ 21 ∷ []
+
+abbrev checked : Verdict → CheckAnswer
+checked v = record { verdict = v; positions = nine }
+
+abbrev fetched : Counted → FetchAnswer
+fetched c = record { counted = c; positions = nine }
+
 answers : List (Row (List ℕ))
 unfolding row told plan at
 answers =
@@ -38,11 +55,17 @@ answers =
     ∷ row (told numberRow (turnedDown (Refusal.Lower 6))) (19 ∷ 6 ∷ replicate 11 9)
     ∷ row (told numberRow (turnedDown (Refusal.Unsuited (record { pattern = 1; earlier = 2; later = 3 }))))
     (10 ∷ 0 ∷ 1 ∷ 2 ∷ 3 ∷ replicate 8 9)
-    ∷ row (told checkedRow (ofVerdict (Verdict.Suits (record { plan = plan 6 4 2; surplus = 7 }))))
+    ∷ row (told numberRow (turnedDown Refusal.Cycles)) (20 ∷ 0 ∷ replicate 11 9)
+    ∷ row (told checkedRow (ofCheck 2 (checked (Verdict.Suits (record { plan = plan 6 4 2; surplus = 7 })))))
     (0 ∷ 6 ∷ 4 ∷ 2 ∷ 7 ∷ replicate 8 9)
-    ∷ row (told checkedRow (ofVerdict (Verdict.Clashes (record { pattern = 3; earlier = 1; later = 2 }))))
-    (10 ∷ 0 ∷ 3 ∷ 1 ∷ 2 ∷ replicate 8 9)
-    ∷ row (told checkedRow (ofVerdict (Verdict.Refused Refusal.Large))) (9 ∷ 0 ∷ replicate 11 9)
+    ∷ row (told checkedRow (ofCheck 1 (checked (Verdict.Clashes clash)))) (10 ∷ 0 ∷ 3 ∷ 1 ∷ 2 ∷ replicate 8 9)
+    ∷ row (told checkedRow (ofCheck 2 (checked (Verdict.Clashes clash)))) (10 ∷ 0 ∷ 3 ∷ 1 ∷ 2 ∷ 4 ∷ replicate 7 9)
+    ∷ row (told checkedRow (ofCheck 8 (checked (Verdict.Clashes clash))))
+    (10 ∷ 0 ∷ 3 ∷ 1 ∷ 2 ∷ 4 ∷ 5 ∷ 6 ∷ 7 ∷ 8 ∷ 20 ∷ 21 ∷ 9 ∷ [])
+    ∷ row (told checkedRow (ofCheck 2 (checked (Verdict.Refused Refusal.Large)))) (9 ∷ 0 ∷ replicate 11 9)
+    ∷ row (told numberRow (ofFetch 2 (fetched (Counted.Number 5)))) (0 ∷ 5 ∷ replicate 11 9)
+    ∷ row (told numberRow (ofFetch 2 (fetched (Counted.Refused (Refusal.Unsuited clash))))) (10 ∷ 0 ∷ 3 ∷ 1 ∷ 2 ∷ 4 ∷ replicate 7 9)
+    ∷ row (told numberRow (ofFetch 2 (fetched (Counted.Refused Refusal.Ring)))) (18 ∷ 0 ∷ replicate 11 9)
     ∷ []
 
 answers-hold : map (λ r. r .computed) answers ≡ map (λ r. r .stated) answers

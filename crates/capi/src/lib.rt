@@ -1,6 +1,6 @@
 // The library for C and Rust: the calls on numbers, slices and arrays. Each answers a number, 0 where it was not refused, and
 // puts what it has to tell at the start of `answer`, the rest of the twelve unchanged: its values, or the refusal's place and,
-// of 10, the clash's pattern and its earlier and later position.
+// of 10, the clash's pattern and its r + 1 positions.
 mod flat;
 mod list;
 mod memory;
@@ -11,12 +11,13 @@ use crate::flat::book_of;
 use crate::flat::plan_of;
 use crate::flat::put_pixels;
 use crate::flat::put_used;
+use crate::told::tell_check;
 use crate::told::tell_counted;
+use crate::told::tell_fetch;
 use crate::told::tell_located;
 use crate::told::tell_outcome;
 use crate::told::tell_planned;
 use crate::told::tell_refusal;
-use crate::told::tell_verdict;
 use book::part_outcome;
 use book::part_place;
 use book::pattern_part;
@@ -25,14 +26,15 @@ use book::record_outcome;
 use book::write_book;
 use finder::check;
 use finder::find;
+use finder::write_cycles;
 use lattice::normal_form;
 use scope::Outcome;
 ghost use mathlib.Core.Path.{_≡_};
 ghost use mathlib.Core.List.{[], _∷_};
 ghost use lib.ListN.{length};
 ghost use Rattle.scope.specs.Plans.{at, plan};
-ghost use Rattle.scope.specs.Numbers.{ofPlanned, ofCounted, ofLocated, ofOutcome, ofVerdict};
-ghost use Rattle.scope.specs.Calls.{readBook, patternPart, partOutcome, partPlace, recordOutcome, writeBook, normal, find, check, bank, depth, address, locate};
+ghost use Rattle.scope.specs.Numbers.{ofPlanned, ofCounted, ofLocated, ofOutcome, ofCheck, ofFetch};
+ghost use Rattle.scope.specs.Calls.{readBook, patternPart, partOutcome, partPlace, recordOutcome, writeBook, normal, find, check, writeCycles, bank, depth, address, locate};
 ghost use Rattle.capi.specs.Told.{Tells, planRow, numberRow, pixelRow, checkedRow, noRow};
 ghost use Rattle.capi.specs.Flat.{flatBook, flatColumns, flatRows, flatUsed, ofReading, countRow, whenRead};
 
@@ -187,37 +189,63 @@ pub extern "C" fn bankplan_test_record(
     tell_outcome(record_outcome(book_of(columns, rows, used, count)), answer)
 }
 
-// The plan with the fewest banks within the limit for a record given as flat arrays: a, b, d.
+// The plan for r with the fewest banks within the limit for a record given as flat arrays: a, b, d.
 #[no_mangle]
 pub extern "C" fn bankplan_find(
     columns: &[i8; 1024],
     rows: &[i8; 1024],
     used: &[usize; 16],
     count: usize,
+    r: u32,
     limit: u32,
     answer: &mut [u64; 12],
 ) -> u64
-    ensures { λ n. ⌜ Tells planRow (ofPlanned (find (flatBook (now (columns .entry)) (now (rows .entry)) (now (used .entry)) count) limit)) (now (answer .entry)) (now (answer .exit)) n ⌝ }
+    ensures { λ n. ⌜ Tells planRow (ofPlanned (find (flatBook (now (columns .entry)) (now (rows .entry)) (now (used .entry)) count) r limit)) (now (answer .entry)) (now (answer .exit)) n ⌝ }
 {
-    tell_planned(find(book_of(columns, rows, used, count), limit), answer)
+    tell_planned(find(book_of(columns, rows, used, count), r, limit), answer)
 }
 
-// The verdict on (x1, x2) and (y1, y2) for a record given as flat arrays: a, b, d and the surplus, or a refusal; a clash is 10.
+// The verdict for r on (x1, x2) and (y1, y2) for a record given as flat arrays: a, b, d and the surplus, or a refusal; a clash is 10.
 #[no_mangle]
 pub extern "C" fn bankplan_check(
     columns: &[i8; 1024],
     rows: &[i8; 1024],
     used: &[usize; 16],
     count: usize,
+    r: u32,
     x1: i16,
     x2: i16,
     y1: i16,
     y2: i16,
     answer: &mut [u64; 12],
 ) -> u64
-    ensures { λ n. ⌜ Tells checkedRow (ofVerdict (check (flatBook (now (columns .entry)) (now (rows .entry)) (now (used .entry)) count) (at x1 x2) (at y1 y2))) (now (answer .entry)) (now (answer .exit)) n ⌝ }
+    ensures { λ n. ⌜ Tells checkedRow (ofCheck r (check (flatBook (now (columns .entry)) (now (rows .entry)) (now (used .entry)) count) r (at x1 x2) (at y1 y2))) (now (answer .entry)) (now (answer .exit)) n ⌝ }
 {
-    let got = check(book_of(columns, rows, used, count), x1, x2, y1, y2);
-    let verdict = got.verdict;
-    tell_verdict(verdict, answer)
+    tell_check(
+        check(book_of(columns, rows, used, count), r, x1, x2, y1, y2),
+        r,
+        answer,
+    )
+}
+
+// Writes the cycles for r of pattern n of a record given as flat arrays, and tells how many.
+#[no_mangle]
+pub extern "C" fn bankplan_write_cycles(
+    columns: &[i8; 1024],
+    rows: &[i8; 1024],
+    used: &[usize; 16],
+    count: usize,
+    r: u32,
+    a: u32,
+    b: u32,
+    d: u32,
+    n: usize,
+    out: &mut [u8],
+    answer: &mut [u64; 12],
+) -> u64
+    ensures told { λ m. ⌜ Tells numberRow (ofFetch r (writeCycles (flatBook (now (columns .entry)) (now (rows .entry)) (now (used .entry)) count) r (plan a b d) n (now (out .entry)) .answer)) (now (answer .entry)) (now (answer .exit)) m ⌝ }
+    ensures out { λ m. ⌜ now (out .exit) ≡ writeCycles (flatBook (now (columns .entry)) (now (rows .entry)) (now (used .entry)) count) r (plan a b d) n (now (out .entry)) .content ⌝ }
+{
+    let book = book_of(columns, rows, used, count);
+    tell_fetch(write_cycles(book, r, plan_of(a, b, d), n, out), r, answer)
 }

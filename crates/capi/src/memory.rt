@@ -2,6 +2,7 @@
 use crate::flat::book_of;
 use crate::flat::plan_of;
 use crate::told::tell_counted;
+use crate::told::tell_fetch;
 use crate::told::tell_loaded;
 use crate::told::tell_outcome;
 use pictures::clear;
@@ -12,7 +13,7 @@ use pictures::store;
 use pictures::sum;
 ghost use mathlib.Core.Path.{_≡_};
 ghost use Rattle.scope.specs.Plans.{at, plan};
-ghost use Rattle.scope.specs.Numbers.{ofCounted, ofLoaded, ofOutcome};
+ghost use Rattle.scope.specs.Numbers.{ofCounted, ofFetch, ofLoaded, ofOutcome};
 ghost use Rattle.scope.specs.Calls.{lent, store, load, clear, sum, fetch, ringFetch};
 ghost use Rattle.capi.specs.Told.{Tells, numberRow, noRow};
 ghost use Rattle.capi.specs.Flat.{flatBook};
@@ -97,6 +98,7 @@ pub extern "C" fn bankplan_fetch(
     rows: &[i8; 1024],
     used: &[usize; 16],
     count: usize,
+    r: u32,
     a: u32,
     b: u32,
     d: u32,
@@ -109,14 +111,12 @@ pub extern "C" fn bankplan_fetch(
     out: &mut [u16],
     answer: &mut [u64; 12],
 ) -> u64
-    ensures told { λ m. ⌜ Tells numberRow (ofCounted (fetch (flatBook (now (columns .entry)) (now (rows .entry)) (now (used .entry)) count) (plan a b d) w h (now (mem .entry)) n (at i j) (now (out .entry)) .answer)) (now (answer .entry)) (now (answer .exit)) m ⌝ }
-    ensures out { λ m. ⌜ now (out .exit) ≡ fetch (flatBook (now (columns .entry)) (now (rows .entry)) (now (used .entry)) count) (plan a b d) w h (now (mem .entry)) n (at i j) (now (out .entry)) .content ⌝ }
+    ensures told { λ m. ⌜ Tells numberRow (ofFetch r (fetch (flatBook (now (columns .entry)) (now (rows .entry)) (now (used .entry)) count) r (plan a b d) w h (now (mem .entry)) n (at i j) (now (out .entry)) .answer)) (now (answer .entry)) (now (answer .exit)) m ⌝ }
+    ensures out { λ m. ⌜ now (out .exit) ≡ fetch (flatBook (now (columns .entry)) (now (rows .entry)) (now (used .entry)) count) r (plan a b d) w h (now (mem .entry)) n (at i j) (now (out .entry)) .content ⌝ }
 {
     let book = book_of(columns, rows, used, count);
     let p = plan_of(a, b, d);
-    let got = fetch(book, p, w, h, mem, n, i, j, out);
-    let counted = got.counted;
-    tell_counted(counted, answer)
+    tell_fetch(fetch(book, r, p, w, h, mem, n, i, j, out), r, answer)
 }
 
 // The same around the picture's edges.
@@ -126,6 +126,7 @@ pub extern "C" fn bankplan_ring_fetch(
     rows: &[i8; 1024],
     used: &[usize; 16],
     count: usize,
+    r: u32,
     a: u32,
     b: u32,
     d: u32,
@@ -138,12 +139,10 @@ pub extern "C" fn bankplan_ring_fetch(
     out: &mut [u16],
     answer: &mut [u64; 12],
 ) -> u64
-    ensures told { λ m. ⌜ Tells numberRow (ofCounted (ringFetch (flatBook (now (columns .entry)) (now (rows .entry)) (now (used .entry)) count) (plan a b d) w h (now (mem .entry)) n (at i j) (now (out .entry)) .answer)) (now (answer .entry)) (now (answer .exit)) m ⌝ }
-    ensures out { λ m. ⌜ now (out .exit) ≡ ringFetch (flatBook (now (columns .entry)) (now (rows .entry)) (now (used .entry)) count) (plan a b d) w h (now (mem .entry)) n (at i j) (now (out .entry)) .content ⌝ }
+    ensures told { λ m. ⌜ Tells numberRow (ofFetch r (ringFetch (flatBook (now (columns .entry)) (now (rows .entry)) (now (used .entry)) count) r (plan a b d) w h (now (mem .entry)) n (at i j) (now (out .entry)) .answer)) (now (answer .entry)) (now (answer .exit)) m ⌝ }
+    ensures out { λ m. ⌜ now (out .exit) ≡ ringFetch (flatBook (now (columns .entry)) (now (rows .entry)) (now (used .entry)) count) r (plan a b d) w h (now (mem .entry)) n (at i j) (now (out .entry)) .content ⌝ }
 {
     let book = book_of(columns, rows, used, count);
     let p = plan_of(a, b, d);
-    let got = ring_fetch(book, p, w, h, mem, n, i, j, out);
-    let counted = got.counted;
-    tell_counted(counted, answer)
+    tell_fetch(ring_fetch(book, r, p, w, h, mem, n, i, j, out), r, answer)
 }

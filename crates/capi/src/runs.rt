@@ -19,6 +19,7 @@ pub extern "C" fn bankplan_run_list(
     rows: &[i8; 1024],
     used: &[usize; 16],
     count: usize,
+    r: u32,
     a: u32,
     b: u32,
     d: u32,
@@ -30,11 +31,11 @@ pub extern "C" fn bankplan_run_list(
     replies: &mut [u64],
     answer: &mut [u64; 12],
 ) -> u64
-    ensures told { λ n. ⌜ Tells noRow (ofListed (runList (setting (flatBook (now (columns .entry)) (now (rows .entry)) (now (used .entry)) count) (plan a b d) w h) (now (numbers .entry)) (buffers (now (mem .entry)) (now (outs .entry)) (now (replies .entry))) .answer)) (now (answer .entry)) (now (answer .exit)) n ⌝ }
-    ensures left { λ n. ⌜ buffers (now (mem .exit)) (now (outs .exit)) (now (replies .exit)) ≡ runList (setting (flatBook (now (columns .entry)) (now (rows .entry)) (now (used .entry)) count) (plan a b d) w h) (now (numbers .entry)) (buffers (now (mem .entry)) (now (outs .entry)) (now (replies .entry))) .content ⌝ }
+    ensures told { λ n. ⌜ Tells noRow (ofListed (runList (setting (flatBook (now (columns .entry)) (now (rows .entry)) (now (used .entry)) count) r (plan a b d) w h) (now (numbers .entry)) (buffers (now (mem .entry)) (now (outs .entry)) (now (replies .entry))) .answer)) (now (answer .entry)) (now (answer .exit)) n ⌝ }
+    ensures left { λ n. ⌜ buffers (now (mem .exit)) (now (outs .exit)) (now (replies .exit)) ≡ runList (setting (flatBook (now (columns .entry)) (now (rows .entry)) (now (used .entry)) count) r (plan a b d) w h) (now (numbers .entry)) (buffers (now (mem .entry)) (now (outs .entry)) (now (replies .entry))) .content ⌝ }
 {
     let book = book_of(columns, rows, used, count);
-    let listed = run_list(book, plan_of(a, b, d), w, h, mem, numbers, outs, replies);
+    let listed = run_list(book, r, plan_of(a, b, d), w, h, mem, numbers, outs, replies);
     tell_listed(listed, answer)
 }
 
@@ -45,6 +46,7 @@ pub extern "C" fn bankplan_find_and_run(
     rows: &[i8; 1024],
     used: &[usize; 16],
     count: usize,
+    r: u32,
     limit: u32,
     w: u32,
     h: u32,
@@ -54,11 +56,11 @@ pub extern "C" fn bankplan_find_and_run(
     replies: &mut [u64],
     answer: &mut [u64; 12],
 ) -> u64
-    ensures told { λ n. ⌜ Tells planRow (ofFoundRun (findAndRun (flatBook (now (columns .entry)) (now (rows .entry)) (now (used .entry)) count) limit w h (now (numbers .entry)) (buffers (now (mem .entry)) (now (outs .entry)) (now (replies .entry))) .answer)) (now (answer .entry)) (now (answer .exit)) n ⌝ }
-    ensures left { λ n. ⌜ buffers (now (mem .exit)) (now (outs .exit)) (now (replies .exit)) ≡ findAndRun (flatBook (now (columns .entry)) (now (rows .entry)) (now (used .entry)) count) limit w h (now (numbers .entry)) (buffers (now (mem .entry)) (now (outs .entry)) (now (replies .entry))) .content ⌝ }
-    ensures demand { λ n. ⌜ Demanded (findAndRun (flatBook (now (columns .entry)) (now (rows .entry)) (now (used .entry)) count) limit w h (now (numbers .entry)) (buffers (now (mem .entry)) (now (outs .entry)) (now (replies .entry))) .answer) (flatBook (now (columns .entry)) (now (rows .entry)) (now (used .entry)) count) w h (now (numbers .entry)) (buffers (now (mem .entry)) (now (outs .entry)) (now (replies .entry))) (buffers (now (mem .exit)) (now (outs .exit)) (now (replies .exit))) ⌝ }
+    ensures told { λ n. ⌜ Tells planRow (ofFoundRun (findAndRun (flatBook (now (columns .entry)) (now (rows .entry)) (now (used .entry)) count) r limit w h (now (numbers .entry)) (buffers (now (mem .entry)) (now (outs .entry)) (now (replies .entry))) .answer)) (now (answer .entry)) (now (answer .exit)) n ⌝ }
+    ensures left { λ n. ⌜ buffers (now (mem .exit)) (now (outs .exit)) (now (replies .exit)) ≡ findAndRun (flatBook (now (columns .entry)) (now (rows .entry)) (now (used .entry)) count) r limit w h (now (numbers .entry)) (buffers (now (mem .entry)) (now (outs .entry)) (now (replies .entry))) .content ⌝ }
+    ensures demand { λ n. ⌜ Demanded (findAndRun (flatBook (now (columns .entry)) (now (rows .entry)) (now (used .entry)) count) r limit w h (now (numbers .entry)) (buffers (now (mem .entry)) (now (outs .entry)) (now (replies .entry))) .answer) (flatBook (now (columns .entry)) (now (rows .entry)) (now (used .entry)) count) r w h (now (numbers .entry)) (buffers (now (mem .entry)) (now (outs .entry)) (now (replies .entry))) (buffers (now (mem .exit)) (now (outs .exit)) (now (replies .exit))) ⌝ }
 {
     let book = book_of(columns, rows, used, count);
-    let found = find_and_run(book, limit, w, h, mem, numbers, outs, replies);
+    let found = find_and_run(book, r, limit, w, h, mem, numbers, outs, replies);
     tell_found(found, answer)
 }

@@ -2,7 +2,9 @@
 use claims::FoundRun;
 use integers::size;
 use pictures::Listed;
+use scope::CheckAnswer;
 use scope::Counted;
+use scope::FetchAnswer;
 use scope::Loaded;
 use scope::Located;
 use scope::Outcome;
@@ -14,9 +16,11 @@ use scope::Verdict;
 use scope::row_of;
 ghost use mathlib.Core.Path.{_≡_};
 ghost use mathlib.Core.List.{_∷_};
-ghost use Rattle.scope.specs.Numbers.{numberOf, placeOf, clashOf, ofPlanned, ofCounted, ofLoaded, ofLocated, ofOutcome, ofVerdict};
+ghost use Prim.Native.Nat.{suc};
+ghost use lib.ListN.{length, take};
+ghost use Rattle.scope.specs.Numbers.{numberOf, placeOf, clashOf, ofPlanned, ofCounted, ofLoaded, ofLocated, ofOutcome, ofCheck, ofFetch};
 ghost use Rattle.pictures.specs.Lists.{clashNumbers};
-ghost use Rattle.capi.specs.Told.{Tells, planRow, checkedRow, numberRow, pixelRow, noRow, putFrom, ofListed, ofFoundRun};
+ghost use Rattle.capi.specs.Told.{Tells, placedAt, planRow, checkedRow, numberRow, pixelRow, noRow, putFrom, ofListed, ofFoundRun};
 
 // A refusal's number; its place and its clash go to the array.
 pub(crate) fn tell_refusal(r: Refusal, answer: &mut [u64; 12]) -> u64
@@ -54,18 +58,64 @@ pub(crate) fn tell_planned(p: Planned, answer: &mut [u64; 12]) -> u64
     }
 }
 
-// A checked plan's numbers and its surplus, or the clash as refusal 10, or the refusal.
-pub(crate) fn tell_verdict(v: Verdict, answer: &mut [u64; 12]) -> u64
-    ensures { λ n. ⌜ Tells checkedRow (ofVerdict v) (now (answer .entry)) (now (answer .exit)) n ⌝ }
+// Puts the first r + 1 of a clash's nine positions behind its place and its pattern.
+fn put_positions(positions: [usize; 9], r: u32, answer: &mut [u64; 12])
+    requires { ⌜ length positions ≡ 9 ⌝ }
+    ensures { λ x. ⌜ now (answer .exit) ≡ putFrom 2 (take (suc r) positions) (now (answer .entry)) ⌝ }
 {
-    match v {
+    let last = if r < 8 { r as usize } else { 8 };
+    let mut e = 0;
+    while e <= last {
+        answer[2 + e] = positions[e] as u64;
+        e += 1;
+    }
+}
+
+// A refusal's number; its place goes to the array and, of 10, its clash with the first r + 1 of these positions.
+fn tell_clash(f: Refusal, positions: [usize; 9], r: u32, answer: &mut [u64; 12]) -> u64
+    requires { ⌜ length positions ≡ 9 ⌝ }
+    ensures { λ n. ⌜ (n ≡ numberOf f) × (now (answer .exit) ≡ putFrom 0 (placeOf f ∷ clashNumbers (placedAt (take (suc r) positions) (clashOf f))) (now (answer .entry))) ⌝ }
+{
+    let Row(number, place, c) = row_of(f);
+    answer[0] = place;
+    if number == 10 {
+        answer[1] = c.pattern as u64;
+        put_positions(positions, r, answer);
+    }
+    number
+}
+
+// A checked plan's numbers and its surplus, or the clash for r as refusal 10, or the refusal.
+pub(crate) fn tell_check(a: CheckAnswer, r: u32, answer: &mut [u64; 12]) -> u64
+    requires { ⌜ length (a .positions) ≡ 9 ⌝ }
+    ensures { λ n. ⌜ Tells checkedRow (ofCheck r a) (now (answer .entry)) (now (answer .exit)) n ⌝ }
+{
+    let verdict = a.verdict;
+    let positions = a.positions;
+    match verdict {
         Verdict::Suits(c) => {
             put_plan(c.plan, answer);
             answer[3] = c.surplus as u64;
             0
         }
-        Verdict::Clashes(c) => tell_refusal(Refusal::Unsuited(c), answer),
-        Verdict::Refused(r) => tell_refusal(r, answer),
+        Verdict::Clashes(c) => tell_clash(Refusal::Unsuited(c), positions, r, answer),
+        Verdict::Refused(f) => tell_clash(f, positions, r, answer),
+    }
+}
+
+// A fetch's number, or the refusal with its clash for r.
+pub(crate) fn tell_fetch(a: FetchAnswer, r: u32, answer: &mut [u64; 12]) -> u64
+    requires { ⌜ length (a .positions) ≡ 9 ⌝ }
+    ensures { λ n. ⌜ Tells numberRow (ofFetch r a) (now (answer .entry)) (now (answer .exit)) n ⌝ }
+{
+    let counted = a.counted;
+    let positions = a.positions;
+    match counted {
+        Counted::Number(n) => {
+            answer[0] = n;
+            0
+        }
+        Counted::Refused(f) => tell_clash(f, positions, r, answer),
     }
 }
 

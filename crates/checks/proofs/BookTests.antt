@@ -12,7 +12,8 @@ use Rattle.integers.proofs.Divisions.{same-number-means}
 use Rattle.integers.proofs.Comparisons.{leb-iff, and-iff}
 use Rattle.scope.specs.Plans.{Pixel, samePixel, pixelAt, patternAt}
 use Rattle.scope.specs.Numbers.{countTest, small, repeats, pixelTest, patternTest, recordTest}
-use Rattle.scope.specs.promises.Meaning.{InRange, Lower, PixelLegal, IsPattern, IsBook}
+use Rattle.scope.specs.Calls.{bookTest}
+use Rattle.scope.specs.promises.Meaning.{InRange, Lower, PixelLegal, IsPattern, IsBook, IsCycles}
 use Rattle.scope.specs.declared.Pattern.{Pattern}
 use Rattle.scope.specs.declared.Book.{Book}
 use Rattle.scope.specs.declared.Refusal.{Refusal}
@@ -20,6 +21,7 @@ use Rattle.scope.specs.declared.Refusal.the-variants.{Count, Coordinate, Repeat
 use Rattle.checks.proofs.Searches.{true-not-false, not-true-is-false, someBelow-none, none-someBelow}
 use Rattle.checks.proofs.Patterns.{same-coordinates}
 use Rattle.checks.proofs.Orders.{not-lower-than-itself, lower-goes-on, lower-or, no-fall-iff}
+use Rattle.checks.proofs.Tests.{cycles-legal-iff}
 use Rattle.checks.proofs.Booleans.{refuses-iff, demands-iff, last-test, test-before, first-iff}
 
 -- the same pixel is an equal one
@@ -97,3 +99,8 @@ book-legal-iff book =
     (test-before (count-legal-iff 16 (book .count) 0)
     (last-test (first-iff (book .count) (λ n. patternTest (patternAt book n)) _ (λ n. pattern-legal-iff (patternAt book n)))) .iff)
     (λ h. record { least = h .0 .0; most = h .0 .1; each = h .1 }, λ h. ((h .least, h .most), h .each))
+
+-- and of a book and r
+pub book-test-iff : (book : Book) (r : ℕ) → (bookTest book r ≡ none) ↔ (IsBook book × IsCycles r)
+unfolding bookTest
+book-test-iff book r = test-before (book-legal-iff book) (last-test (cycles-legal-iff r)) .iff

@@ -8,11 +8,11 @@ use mathlib.Core.List.{List, [], _∷_, _++_, List·Memᴰ, List·Memᴰ·head, 
 use Rattle.scope.specs.Search.{firstOf}
 use Rattle.scope.specs.Numbers.{Answer, value, refusal, numberOf, placeOf, clashOf, turnedDown}
 use Rattle.scope.specs.Plans.{patternAt}
-use Rattle.scope.specs.Numbers.{recordTest, planTest, sidesTest, memoryTest, numberTest, suitsTest}
-use Rattle.scope.specs.Calls.{Result, answered, changed, pictureTest, fetchStart}
+use Rattle.scope.specs.Numbers.{recordTest, cyclesTest, planTest, sidesTest, memoryTest, numberTest, suitsTest}
+use Rattle.scope.specs.Calls.{Result, answered, changed, bookTest, pictureTest, fetchFirst, fetchStart, cyclesFirst}
 use Rattle.scope.specs.promises.Meaning.{ChainIsFirst}
 use Rattle.scope.specs.declared.Book.{Book}
-use Rattle.scope.specs.declared.Clash.{Clash}
+use Rattle.scope.specs.Cycles.{LongClash}
 use Rattle.scope.specs.declared.Plan.{Plan}
 use Rattle.scope.specs.declared.Refusal.{Refusal}
 use Rattle.checks.proofs.Searches.{none-not-some}
@@ -57,13 +57,13 @@ chain-is-first = record { none-holds = λ tests. (all-none tests, none-all tests
 
 -- A refusal says what it holds.
 module _ {A : Type 0} where
-  pub refusal-number : {n m i j : ℕ} {c d : Option Clash} → _≡_ {A = Answer A} (refusal n i c) (refusal m j d) → n ≡ m
+  pub refusal-number : {n m i j : ℕ} {c d : Option LongClash} → _≡_ {A = Answer A} (refusal n i c) (refusal m j d) → n ≡ m
   refusal-number e = cc
 
-  pub refusal-place : {n m i j : ℕ} {c d : Option Clash} → _≡_ {A = Answer A} (refusal n i c) (refusal m j d) → i ≡ j
+  pub refusal-place : {n m i j : ℕ} {c d : Option LongClash} → _≡_ {A = Answer A} (refusal n i c) (refusal m j d) → i ≡ j
   refusal-place e = cc
 
-  pub refusal-clash : {n m i j : ℕ} {c d : Option Clash} → _≡_ {A = Answer A} (refusal n i c) (refusal m j d) → c ≡ d
+  pub refusal-clash : {n m i j : ℕ} {c d : Option LongClash} → _≡_ {A = Answer A} (refusal n i c) (refusal m j d) → c ≡ d
   refusal-clash e = cc
 
 -- A call gives this answer and leaves this content.
@@ -112,14 +112,14 @@ module _ {X Y : Type 0} (t : Option Refusal) (refused : Refusal → X) (old : Y)
   refusal-given r e = (sym (changed-some-answer r e), sym (changed-some-content r e))
 
 -- The tests found a refusal with this number, place and clash.
-abbrev pub RefusedBy : Option Refusal → ℕ → ℕ → Option Clash → Type 0
+abbrev pub RefusedBy : Option Refusal → ℕ → ℕ → Option LongClash → Type 0
 RefusedBy t n i c = (r : Refusal) × (t ≡ some r) × (numberOf r ≡ n) × (placeOf r ≡ i) × (clashOf r ≡ c)
 
 -- `of` reads an answer in numbers and values, and a refused call's as turned down.
 module _ {X A : Type 0} (of : X → Answer A) (t : Option Refusal) (refused : Refusal → X) where
   -- a call that gives a refusal: its tests found it, or they found nothing and what it goes on to give is that refusal
   pub answered-refusal :
-      (x : X) (n i : ℕ) (c : Option Clash) → ((r : Refusal) → of (refused r) ≡ turnedDown r)
+      (x : X) (n i : ℕ) (c : Option LongClash) → ((r : Refusal) → of (refused r) ≡ turnedDown r)
       → of (answered t refused x) ≡ refusal n i c
       → RefusedBy t n i c ⊎ ((t ≡ none) × (of x ≡ refusal n i c))
   answered-refusal x n i c reads e = by-tests t refl
@@ -139,14 +139,14 @@ module _ {X A : Type 0} (of : X → Answer A) (t : Option Refusal) (refused : Re
   changed-value old x new v reads e = answered-value of t refused x v reads (ap of (sym (changed-answer t refused old x new)) ∙ e)
 
   pub changed-refusal :
-      {Y : Type 0} (old : Y) (x : X) (new : Y) (n i : ℕ) (c : Option Clash) → ((r : Refusal) → of (refused r) ≡ turnedDown r)
+      {Y : Type 0} (old : Y) (x : X) (new : Y) (n i : ℕ) (c : Option LongClash) → ((r : Refusal) → of (refused r) ≡ turnedDown r)
       → of (changed t refused old x new .answer) ≡ refusal n i c
       → RefusedBy t n i c ⊎ ((t ≡ none) × (of x ≡ refusal n i c))
   changed-refusal old x new n i c reads e = answered-refusal x n i c reads (ap of (sym (changed-answer t refused old x new)) ∙ e)
 
   -- a refused call leaves what it was lent as it was, if what it goes on to give is no refusal
   pub refusal-keeps-content :
-      {Y : Type 0} (old : Y) (x : X) (new : Y) (n i : ℕ) (c : Option Clash)
+      {Y : Type 0} (old : Y) (x : X) (new : Y) (n i : ℕ) (c : Option LongClash)
       → of (changed t refused old x new .answer) ≡ refusal n i c
       → (of x ≡ refusal n i c → ⊥)
       → changed t refused old x new .content ≡ old
@@ -182,7 +182,23 @@ changed-alike {before} {before′} {v} {v′} after refused old x new same alike
     by-tests (some r) e =
         rw (chain-stops before (after v) r e, chain-stops before′ (after v′) r (ap firstOf (sym same) ∙ e)) refl
 
--- The tests that a call on a picture and a fetch begin with, one by one, and those after them.
+-- A test that finds nothing can be left out.
+pub without-second :
+    (t s : Option Refusal) (ts : List (Option Refusal)) → s ≡ none → firstOf (t ∷ s ∷ ts) ≡ firstOf (t ∷ ts)
+unfolding firstOf
+without-second none s ts e = chain-goes-on s ts e
+without-second (some r) s ts e = refl
+
+-- The tests of a book and r, one by one, and those after them,
+abbrev pub bookTests : Book → ℕ → List (Option Refusal) → List (Option Refusal)
+bookTests book r ts = recordTest book ∷ cyclesTest r ∷ ts
+
+pub book-one-by-one :
+    (book : Book) (r : ℕ) (ts : List (Option Refusal)) → firstOf (bookTest book r ∷ ts) ≡ firstOf (bookTests book r ts)
+unfolding bookTest
+book-one-by-one book r ts = sym (tests-as-one [] (recordTest book ∷ cyclesTest r ∷ []) ts)
+
+-- those that a call on a picture and a fetch begin with,
 module _ (p : Plan) (W H words : ℕ) where
   abbrev pub pictureTests : List (Option Refusal) → List (Option Refusal)
   pictureTests ts = planTest p ∷ sidesTest W H ∷ memoryTest p W H words ∷ ts
@@ -191,16 +207,28 @@ module _ (p : Plan) (W H words : ℕ) where
   unfolding pictureTest
   picture-one-by-one ts = sym (tests-as-one [] (planTest p ∷ sidesTest W H ∷ memoryTest p W H words ∷ []) ts)
 
-  module _ (book : Book) (n : ℕ) where
+  module _ (book : Book) (r n : ℕ) where
     abbrev pub numberAnd10 : List (Option Refusal) → List (Option Refusal)
-    numberAnd10 ts = numberTest (book .count) n ∷ suitsTest p n (patternAt book n) ∷ ts
+    numberAnd10 ts = numberTest (book .count) n ∷ suitsTest r p n (patternAt book n) ∷ ts
 
     abbrev pub fetchTests : List (Option Refusal) → List (Option Refusal)
-    fetchTests ts = recordTest book ∷ pictureTests (numberAnd10 ts)
+    fetchTests ts = bookTests book r (pictureTests (numberAnd10 ts))
 
-    pub fetch-one-by-one : (ts : List (Option Refusal)) → firstOf (fetchStart book p W H words n ∷ ts) ≡ firstOf (fetchTests ts)
-    unfolding fetchStart pictureTest
+    pub fetch-one-by-one : (ts : List (Option Refusal)) → firstOf (fetchStart book r p W H words n ∷ ts) ≡ firstOf (fetchTests ts)
+    unfolding fetchStart fetchFirst pictureTest
     fetch-one-by-one ts =
-        sym (tests-as-one [] (recordTest book ∷ pictureTest p W H words ∷ numberAnd10 []) ts)
+        let suits : Option Refusal = suitsTest r p n (patternAt book n) in
+        sym (tests-as-one [] (fetchFirst book r p W H words n ∷ suits ∷ []) ts)
+        ∙ sym (tests-as-one [] (bookTest book r ∷ pictureTest p W H words ∷ numberTest (book .count) n ∷ []) (suits ∷ ts))
+        ∙ book-one-by-one book r (pictureTest p W H words ∷ numberAnd10 ts)
         ∙ sym
-        (tests-as-one (recordTest book ∷ []) (planTest p ∷ sidesTest W H ∷ memoryTest p W H words ∷ []) (numberAnd10 ts))
+        (tests-as-one (bookTests book r []) (planTest p ∷ sidesTest W H ∷ memoryTest p W H words ∷ []) (numberAnd10 ts))
+
+-- and those that the cycles begin with
+pub cycles-one-by-one :
+    (book : Book) (r : ℕ) (p : Plan) (n : ℕ) (ts : List (Option Refusal))
+    → firstOf (cyclesFirst book r p n ∷ ts) ≡ firstOf (bookTests book r (planTest p ∷ numberTest (book .count) n ∷ ts))
+unfolding cyclesFirst
+cycles-one-by-one book r p n ts =
+    sym (tests-as-one [] (bookTest book r ∷ planTest p ∷ numberTest (book .count) n ∷ []) ts)
+    ∙ book-one-by-one book r (planTest p ∷ numberTest (book .count) n ∷ ts)

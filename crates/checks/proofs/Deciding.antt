@@ -1,6 +1,6 @@
 -- What a test refuses with where its condition does not hold, and what a call then answers: the refusal of the first such test.
 -- Assumes nothing.
-use Prim.Native.Nat.{ℕ, _*_, _%_, _≤_, _<_}
+use Prim.Native.Nat.{ℕ, _*_, _≤_, _<_}
 use mathlib.Core.Path.{_≡_, _∙_, ap}
 use mathlib.Core.Logic.{_↔_}
 use mathlib.Core.Bool.{Bool, not, _&&_}
@@ -10,19 +10,19 @@ use lib.Dec.{leb, ltb, eqb}
 use Rattle.scope.specs.Search.{whenever, firstOf, every}
 use Rattle.scope.specs.Plans.{Pixel, banks, isPlan, determinantSize}
 use Rattle.scope.specs.Banks.{inside, depthOf}
-use Rattle.scope.specs.Numbers.{Answer, turnedDown, limitTest, dependentTest, largeTest, planTest, isSide, sidesTest}
+use Rattle.scope.specs.Numbers.{Answer, turnedDown, limitTest, cyclesTest, dependentTest, largeTest, planTest, isSide, sidesTest}
 use Rattle.scope.specs.Numbers.{memoryTest, outsideTest, bankTest, outputTest, numberTest, isRing, ringTest}
-use Rattle.scope.specs.Calls.{answered, changed, pictureTest, fetchStart}
-use Rattle.scope.specs.promises.Meaning.{IsPlan, IsSide, AllInside, Independent, RingAllowed}
+use Rattle.scope.specs.Calls.{answered, changed, bookTest, pictureTest, fetchStart, cyclesFirst}
+use Rattle.scope.specs.promises.Meaning.{IsPlan, IsSide, AllInside, IsCycles, Independent, RingAllowed}
 use Rattle.scope.specs.declared.Plan.{Plan}
 use Rattle.scope.specs.declared.Book.{Book}
 use Rattle.scope.specs.declared.Refusal.{Refusal}
 use Rattle.scope.specs.declared.Refusal.the-variants.{Limit, Dependent, Large, NotPlan, Sides, Memory}
-use Rattle.scope.specs.declared.Refusal.the-variants.{Outside, Cell, Output, NoPattern, Ring}
+use Rattle.scope.specs.declared.Refusal.the-variants.{Outside, Cell, Output, NoPattern, Ring, Cycles}
 use Rattle.checks.proofs.Searches.{whenever-some, whenever-not-none}
 use Rattle.checks.proofs.Chains.{chain-refuses, chain-goes-on, answered-some, changed-answer}
-use Rattle.checks.proofs.Chains.{pictureTests, picture-one-by-one, fetchTests, fetch-one-by-one}
-use Rattle.checks.proofs.Tests.{limit-legal-iff, independent-iff, size-within-iff, plan-legal-iff, sides-legal-iff, memory-enough-iff}
+use Rattle.checks.proofs.Chains.{bookTests, book-one-by-one, pictureTests, picture-one-by-one, fetchTests, fetch-one-by-one, cycles-one-by-one}
+use Rattle.checks.proofs.Tests.{limit-legal-iff, cycles-legal-iff, independent-iff, size-within-iff, plan-legal-iff, sides-legal-iff, memory-enough-iff}
 use Rattle.checks.proofs.Tests.{all-inside-iff, bank-below-iff, output-enough-iff, number-in-book-iff, ring-allowed-iff}
 
 -- The test t finds nothing exactly where P holds, r where it does not, and never another refusal.
@@ -44,6 +44,10 @@ whenever-decides b r means =
 pub limit-decides : (limit : ℕ) → Decides (limitTest limit) Limit ((1 ≤ limit) × (limit ≤ 1024))
 unfolding limitTest
 limit-decides limit = whenever-decides (not (leb 1 limit && leb limit 1024)) Limit (limit-legal-iff limit)
+
+pub cycles-decide : (r : ℕ) → Decides (cyclesTest r) Cycles (IsCycles r)
+unfolding cyclesTest
+cycles-decide r = whenever-decides (not (leb 1 r && leb r 8)) Cycles (cycles-legal-iff r)
 
 pub independent-decides : (x y : Pixel) → Decides (dependentTest x y) Dependent (Independent x y)
 unfolding dependentTest
@@ -102,14 +106,23 @@ module _ {X A : Type 0} (of : X → Answer A) {tests : List (Option Refusal)} {r
   changed-follows old x new reads =
       record { refused = λ r e. ap of (changed-answer (firstOf tests) refused old x new) ∙ answered-follows x reads .refused r e }
 
--- A chain whose first test is a chain of a call on a picture, or of a fetch, test by test.
+-- A chain whose first test is a chain of a book and r, of a call on a picture, of a fetch or of the cycles, test by test.
+module _ {A : Type 0} {ts : List (Option Refusal)} {answer : Answer A} where
+  pub book-follows : (book : Book) (r : ℕ) → Follows (bookTest book r ∷ ts) answer → Follows (bookTests book r ts) answer
+  book-follows book r chain = record { refused = λ f e. chain .refused f (book-one-by-one book r ts ∙ e) }
+
+  pub cycles-follow :
+      (book : Book) (r : ℕ) (p : Plan) (n : ℕ) → Follows (cyclesFirst book r p n ∷ ts) answer
+      → Follows (bookTests book r (planTest p ∷ numberTest (book .count) n ∷ ts)) answer
+  cycles-follow book r p n chain = record { refused = λ f e. chain .refused f (cycles-one-by-one book r p n ts ∙ e) }
+
 module _ {A : Type 0} {ts : List (Option Refusal)} {answer : Answer A} (p : Plan) (W H words : ℕ) where
   pub picture-follows : Follows (pictureTest p W H words ∷ ts) answer → Follows (pictureTests p W H words ts) answer
   picture-follows chain = record { refused = λ r e. chain .refused r (picture-one-by-one p W H words ts ∙ e) }
 
   pub fetch-follows :
-      (book : Book) (n : ℕ) → Follows (fetchStart book p W H words n ∷ ts) answer → Follows (fetchTests p W H words book n ts) answer
-  fetch-follows book n chain = record { refused = λ r e. chain .refused r (fetch-one-by-one p W H words book n ts ∙ e) }
+      (book : Book) (r n : ℕ) → Follows (fetchStart book r p W H words n ∷ ts) answer → Follows (fetchTests p W H words book r n ts) answer
+  fetch-follows book r n chain = record { refused = λ f e. chain .refused f (fetch-one-by-one p W H words book r n ts ∙ e) }
 
 module _ {A : Type 0} {t : Option Refusal} {ts : List (Option Refusal)} {answer : Answer A} (chain : Follows (t ∷ ts) answer) where
   -- What the first test finds is the answer; where it finds nothing, the answer follows the rest.

@@ -9,23 +9,24 @@ use mathlib.Core.Option.{Option, none}
 use mathlib.Core.List.{List, [], _∷_, map, List·Memᴰ·eq-of-singleton}
 use lib.ListN.{length}
 use Rattle.scope.specs.Search.{firstOf}
-use Rattle.scope.specs.Plans.{Pixel, patternAt, determinantSize, normalForm}
+use Rattle.scope.specs.Plans.{Pixel, patternAt, pixels, determinantSize, normalForm}
 use Rattle.scope.specs.Banks.{bankOf, addressOf, depthOf, wordIn, overStart}
 use Rattle.scope.specs.Books.{bookBytes}
-use Rattle.scope.specs.Numbers.{value, refusal, ofPlanned, ofCounted, ofOutcome, recordTest, planTest, sidesTest, outsideTest}
+use Rattle.scope.specs.Numbers.{value, refusal, ofPlanned, ofCounted, ofFetch, ofOutcome, recordTest, planTest, sidesTest, outsideTest}
 use Rattle.scope.specs.Numbers.{outputTest}
 use Rattle.scope.specs.Calls.{changed, recordOutcome, writeBook, normal, bank, depth, address, wordTest, store, wholeBankTest, clear}
-use Rattle.scope.specs.Calls.{lent, moved, pixelsRead, fetchTest, fetchRest, eitherFetch, fetch, ringFetch, recordPixel, placed, fillRecords}
+use Rattle.scope.specs.Calls.{lent, moved, pixelsRead, besideClash, fetchFirst, fetchTest, fetchRest, eitherFetch, fetch, ringFetch, cyclesFirst, writeCyclesTest, writeCycles, recordPixel, placed, fillRecords}
 use Rattle.scope.specs.promises.Meaning.{IsPlan, IsSide, Inside, AllInside, IsBook, Independent, LegalCallsAnswer}
 use Rattle.scope.specs.promises.PicturePromises.{RefusalsChangeNothing}
 use Rattle.scope.specs.declared.Plan.{Plan}
 use Rattle.scope.specs.declared.Book.{Book}
-use Rattle.scope.specs.declared.Clash.{Clash}
+use Rattle.scope.specs.Cycles.{LongClash, cycles}
 use Rattle.scope.specs.declared.Refusal.{Refusal}
 use Rattle.scope.specs.declared.Planned.{Planned}
 use Rattle.scope.specs.declared.Counted.{Counted}
 use Rattle.scope.specs.declared.Outcome.{Outcome}
 use Rattle.checks.proofs.Chains.{value-not-refusal, answered-none, changed-none-answer, refusal-keeps-content}
+use Rattle.checks.proofs.ClashAnswers.{with-refusal}
 use Rattle.checks.proofs.Booleans.{last-test, test-before}
 use Rattle.checks.proofs.Tests.{independent-iff, size-within-iff, plan-legal-iff, sides-legal-iff, all-inside-iff, output-enough-iff}
 use Rattle.checks.proofs.BookTests.{book-legal-iff}
@@ -104,30 +105,41 @@ legal-calls-answer =
 
 -- a call that counts, and one that tells only that it was done
 counted-unchanged :
-    (t : Option Refusal) (old : List ℕ) (count : ℕ) (new : List ℕ) (n i : ℕ) (c : Option Clash)
+    (t : Option Refusal) (old : List ℕ) (count : ℕ) (new : List ℕ) (n i : ℕ) (c : Option LongClash)
     → ofCounted (changed t Counted.Refused old (Counted.Number count) new .answer) ≡ refusal n i c
     → changed t Counted.Refused old (Counted.Number count) new .content ≡ old
 counted-unchanged t old count new n i c e =
     refusal-keeps-content ofCounted t Counted.Refused old (Counted.Number count) new n i c e value-not-refusal
 
 done-unchanged :
-    {Y : Type 0} (t : Option Refusal) (old new : Y) (n i : ℕ) (c : Option Clash)
+    {Y : Type 0} (t : Option Refusal) (old new : Y) (n i : ℕ) (c : Option LongClash)
     → ofOutcome (changed t Outcome.Refused old Outcome.Done new .answer) ≡ refusal n i c
     → changed t Outcome.Refused old Outcome.Done new .content ≡ old
 done-unchanged t old new n i c e = refusal-keeps-content ofOutcome t Outcome.Refused old Outcome.Done new n i c e value-not-refusal
 
+-- and one that counts beside a clash
+beside-unchanged :
+    (before : Option Refusal) (r : ℕ) (p : Plan) (book : Book) (m : ℕ) (t : Option Refusal) (old : List ℕ) (count : ℕ) (new : List ℕ)
+    (n i : ℕ) (c : Option LongClash)
+    → ofFetch r (besideClash before r p book m (changed t Counted.Refused old (Counted.Number count) new) .answer) ≡ refusal n i c
+    → besideClash before r p book m (changed t Counted.Refused old (Counted.Number count) new) .content ≡ old
+unfolding besideClash
+beside-unchanged before r p book m t old count new n i c e =
+    let inner = with-refusal _ (ofCounted (changed t Counted.Refused old (Counted.Number count) new .answer)) n i c e in
+    counted-unchanged t old count new n i (inner .0) (inner .1)
+
 either-unchanged :
-    (ring : Bool) (book : Book) (p : Plan) (W H : ℕ) (mem : List ℕ) (m : ℕ) (o : Pixel) (out : List ℕ) (n i : ℕ) (c : Option Clash)
-    → ofCounted (eitherFetch ring book p W H mem m o out .answer) ≡ refusal n i c
-    → eitherFetch ring book p W H mem m o out .content ≡ out
+    (ring : Bool) (book : Book) (r : ℕ) (p : Plan) (W H : ℕ) (mem : List ℕ) (m : ℕ) (o : Pixel) (out : List ℕ) (n i : ℕ) (c : Option LongClash)
+    → ofFetch r (eitherFetch ring book r p W H mem m o out .answer) ≡ refusal n i c
+    → eitherFetch ring book r p W H mem m o out .content ≡ out
 unfolding eitherFetch fetchRest fetchTest
-either-unchanged ring book p W H mem m o out =
-    counted-unchanged (fetchTest ring book p W H (length mem) m o (length out)) out _
+either-unchanged ring book r p W H mem m o out =
+    beside-unchanged (fetchFirst book r p W H (length mem) m) r p book m (fetchTest ring book r p W H (length mem) m o (length out)) out _
     (overStart (map (wordIn p W H mem) (pixelsRead ring W H (moved (patternAt book m) o))) out)
 
 -- On a refusal, buffers and lists stay unchanged.
 pub refusals-change-nothing : RefusalsChangeNothing
-unfolding writeBook store clear fetch ringFetch fillRecords
+unfolding writeBook store clear fetch ringFetch writeCycles fillRecords
 refusals-change-nothing =
     record {
       writes =
@@ -139,6 +151,10 @@ refusals-change-nothing =
       clears = λ p W H mem k. done-unchanged (wholeBankTest p W H (length mem) k) (lent mem) _;
       fetches = either-unchanged false;
       ring-fetches = either-unchanged true;
+      writes-cycles =
+          λ book r p m out.
+          beside-unchanged (cyclesFirst book r p m) r p book m (writeCyclesTest book r p m (length out)) out _
+          (overStart (cycles p (pixels (patternAt book m))) out);
       fills =
           λ p W H rs.
           done-unchanged (firstOf (planTest p ∷ sidesTest W H ∷ outsideTest W H (map recordPixel rs) ∷ [])) rs (map (placed p W H) rs);

@@ -13,6 +13,7 @@ pub mod Tests  -- what each test of a call means
 pub mod BookTests  -- what the tests of a book record mean
 pub mod BookRefusals  -- the refusal of a record that is not legal
 pub mod Deciding  -- the refusal of a call whose condition fails
+pub mod ClashAnswers  -- an answer with the positions of a clash beside it
 pub mod RefusalNumbers  -- which numbers a chain or a search can give
 pub mod CountedAnswers  -- what a counted answer shows of its tests
 pub mod Legal  -- a legal call is not refused; a refused one changes nothing

@@ -159,7 +159,7 @@ module _ (f : ℕ → Bool) where
           }
 
   -- One range after the other, and how many are in both.
-  picked-append : (m k n : ℕ) → picked k (m + n) f ≡ picked k m f ++ picked (k + m) n f
+  pub picked-append : (m k n : ℕ) → picked k (m + n) f ≡ picked k m f ++ picked (k + m) n f
   unfolding picked
   picked-append zero k n = ap₂ (λ (i j : ℕ). picked i j f) (sym (add-zero k)) (zero-add n)
   picked-append (suc m) k n = by-test (f k) refl (picked-append m (suc k) n)

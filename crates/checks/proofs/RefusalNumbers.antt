@@ -10,7 +10,7 @@ use mathlib.Core.List.{List, [], _∷_}
 use lib.Dec.{leb}
 use Rattle.scope.specs.Search.{first, whenever, firstOf}
 use Rattle.scope.specs.Plans.{Pixel, pixelAt, patternAt}
-use Rattle.scope.specs.Numbers.{numberOf, countTest, small, repeats, falls, pixelTest, patternTest, recordTest}
+use Rattle.scope.specs.Numbers.{numberOf, clashOf, countTest, small, repeats, falls, pixelTest, patternTest, recordTest}
 use Rattle.scope.specs.Calls.{findTest}
 use Rattle.scope.specs.declared.Pattern.{Pattern}
 use Rattle.scope.specs.declared.Book.{Book}
@@ -18,7 +18,8 @@ use Rattle.scope.specs.declared.Refusal.{Refusal}
 use Rattle.scope.specs.declared.Refusal.the-variants.{Count, Coordinate, Repeat}
 use Rattle.checks.proofs.Searches.{first-found, whenever-some, none-not-some}
 use Rattle.checks.proofs.Chains.{chain-some}
-use Rattle.checks.proofs.Deciding.{Decides, limit-decides}
+use Rattle.checks.proofs.Deciding.{Decides, limit-decides, cycles-decide}
+use Rattle.checks.proofs.ClashAnswers.{no-clash}
 
 -- whatever the test finds, its number is one of these
 pub record Numbers (these : ℕ → Type 0) (t : Option Refusal) : Type 0 where
@@ -81,14 +82,21 @@ module _ {these : ℕ → Type 0} where
         numbers-before (count-numbers 16 (book .count) 0)
         (last-numbers (first-numbers 0 (book .count) (λ n. patternTest (patternAt book n)) (λ n. pattern-numbers (patternAt book n)))) .chain
 
-    -- the finder's tests give these and 6
-    find-numbers : these 6 → (book : Book) (limit : ℕ) → Numbers these (findTest book limit)
+    -- the finder's tests give these, 6 and 20
+    find-numbers : these 6 → these 20 → (book : Book) (r limit : ℕ) → Numbers these (findTest book r limit)
     unfolding findTest
-    find-numbers six book limit =
+    find-numbers six twenty book r limit =
         numbers-before (record-numbers book)
-        (last-numbers (decided-numbers (limit-decides limit) six)) .chain
+        (numbers-before (decided-numbers (limit-decides limit) six)
+        (last-numbers (decided-numbers (cycles-decide r) twenty))) .chain
 
 -- so none of them is 7
-pub find-refusals : (book : Book) (limit : ℕ) (r : Refusal) → findTest book limit ≡ some r → numberOf r ≡ 7 → ⊥
-find-refusals book limit r e =
-    find-numbers {these = λ n. n ≡ 7 → ⊥} (λ h. omega arith) (λ h. omega arith) (λ h. omega arith) (λ h. omega arith) (λ h. omega arith) book limit .each r e
+pub find-refusals : (book : Book) (r limit : ℕ) (f : Refusal) → findTest book r limit ≡ some f → numberOf f ≡ 7 → ⊥
+find-refusals book r limit f e =
+    find-numbers {these = λ n. n ≡ 7 → ⊥} (λ h. omega arith) (λ h. omega arith) (λ h. omega arith) (λ h. omega arith) (λ h. omega arith) (λ h. omega arith) book r limit .each f e
+
+-- and a book's refusal has no clash
+pub record-has-no-clash : (book : Book) (f : Refusal) → recordTest book ≡ some f → clashOf f ≡ none
+record-has-no-clash book f e =
+    no-clash f
+    (record-numbers {these = λ n. n ≡ 10 → ⊥} (λ h. omega arith) (λ h. omega arith) (λ h. omega arith) (λ h. omega arith) book .each f e)

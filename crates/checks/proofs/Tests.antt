@@ -15,12 +15,12 @@ use Rattle.integers.proofs.Comparisons.{leb-iff, leb-false-iff, ltb-false-iff, 
 use Rattle.scope.specs.Search.{every}
 use Rattle.scope.specs.Plans.{Pixel, banks, isPlan, determinant, determinantSize}
 use Rattle.scope.specs.Banks.{inside, depthOf, pixelOf}
-use Rattle.scope.specs.Numbers.{limitTest, dependentTest, largeTest, planTest, isSide, sidesTest, memoryTest, outsideTest}
+use Rattle.scope.specs.Numbers.{limitTest, cyclesTest, dependentTest, largeTest, planTest, isSide, sidesTest, memoryTest, outsideTest}
 use Rattle.scope.specs.Numbers.{bankTest, cellTest, outputTest, numberTest, isRing, ringTest}
-use Rattle.scope.specs.promises.Meaning.{IsPlan, IsSide, Inside, AllInside, Independent, RingAllowed}
+use Rattle.scope.specs.promises.Meaning.{IsPlan, IsSide, Inside, AllInside, IsCycles, Independent, RingAllowed}
 use Rattle.scope.specs.declared.Plan.{Plan}
 use Rattle.scope.specs.declared.Refusal.the-variants.{Limit, Dependent, Large, NotPlan, Sides, Memory}
-use Rattle.scope.specs.declared.Refusal.the-variants.{Outside, Cell, Output, NoPattern, Ring}
+use Rattle.scope.specs.declared.Refusal.the-variants.{Outside, Cell, Output, NoPattern, Ring, Cycles}
 use Rattle.scope.proofs.PlanFacts.{is-plan-iff, are-sides-iff, inside-iff}
 use Rattle.checks.proofs.Searches.{every-holds, holds-every}
 use Rattle.checks.proofs.Booleans.{refuses-iff, demands-iff}
@@ -29,6 +29,11 @@ use Rattle.checks.proofs.Booleans.{refuses-iff, demands-iff}
 pub limit-legal-iff : (limit : ℕ) → (limitTest limit ≡ none) ↔ ((1 ≤ limit) × (limit ≤ 1024))
 unfolding limitTest
 limit-legal-iff limit = demands-iff (leb 1 limit && leb limit 1024) Limit (and-iff _ _ (leb-iff 1 limit) (leb-iff limit 1024))
+
+-- 20: r is 1 to 8
+pub cycles-legal-iff : (r : ℕ) → (cyclesTest r ≡ none) ↔ IsCycles r
+unfolding cyclesTest
+cycles-legal-iff r = demands-iff (leb 1 r && leb r 8) Cycles (and-iff _ _ (leb-iff 1 r) (leb-iff r 8))
 
 -- 8: the vectors are independent
 pub independent-iff : (x y : Pixel) → (dependentTest x y ≡ none) ↔ Independent x y

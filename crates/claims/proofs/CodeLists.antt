@@ -3,21 +3,21 @@
 use Prim.Native.Nat.{ℕ}
 use native.Mathlib.Omega.{arith}
 use mathlib.Core.Path.{_≡_, refl, sym, _∙_, ap, ap₂, subst}
-use mathlib.Core.Option.{Option, none, some}
+use mathlib.Core.Option.{Option}
 use mathlib.Core.List.{List, [], _∷_, _++_, flatMap, append-assoc}
 use lib.ListN.{length, getD, drop}
 use Rattle.scope.specs.Search.{stateAfter, repliesOf}
 use Rattle.scope.specs.Banks.{wordIn, overStart}
 use Rattle.scope.specs.Numbers.{value, ofPlanned}
 use Rattle.scope.specs.Calls.{Result, find}
-use Rattle.scope.specs.promises.Demand.{Call, Reply, Setting, after, reply, run, replies, pictureWords, ListHolds}
+use Rattle.scope.specs.promises.Demand.{Call, Reply, Setting, after, run, replies, pictureWords, ListHolds}
 use Rattle.scope.specs.declared.Book.{Book}
 use Rattle.scope.specs.declared.Plan.{Plan}
 use Rattle.scope.specs.declared.Planned.{Planned}
 use Rattle.scope.specs.declared.Refusal.{Refusal}
 use Rattle.checks.proofs.CallLists.{state-after-append}
 use Rattle.checks.proofs.Chains.{Gives}
-use Rattle.pictures.specs.Lists.{setting, callsOf, outputOf, replyNumbers, Buffers, listTest, listedBy, leftBy, madeList, runList}
+use Rattle.pictures.specs.Lists.{setting, callsOf, outputOf, replyNumbers, Buffers, leftBy, madeList, runList}
 use Rattle.pictures.specs.declared.lists.Listed.{Listed}
 use Rattle.pictures.proofs.DemandHolds.{demand-3}
 use Rattle.pictures.proofs.ListFaults.{made-passes}
@@ -73,60 +73,60 @@ refused-not-ran : {r : Refusal} {p : Plan} {l : Listed} → FoundRun.Refused r �
 refused-not-ran e = let z : _≡_ {A = ℕ} 0 1 = cc in omega arith
 
 -- The contract, by the finder's answer: a plan and the list under it,
-module _ (book : Book) (limit W H : ℕ) (numbers : List ℕ) (b : Buffers) {planned : Planned} (is : planned ≡ find book limit) where
+module _ (book : Book) (r limit W H : ℕ) (numbers : List ℕ) (b : Buffers) {planned : Planned} (is : planned ≡ find book r limit) where
   abbrev Kept : FoundRun → Buffers → Type 0
-  Kept r left =
-      (r ≡ findAndRun book limit W H numbers b .answer)
-      × ((left ≡ findAndRun book limit W H numbers b .content) × Demanded r book W H numbers b left)
+  Kept x left =
+      (x ≡ findAndRun book r limit W H numbers b .answer)
+      × ((left ≡ findAndRun book r limit W H numbers b .content) × Demanded x book r W H numbers b left)
 
-  by-answer : {q : Planned} → planned ≡ q → findAndRun book limit W H numbers b ≡ ranFor q book W H numbers b
+  by-answer : {q : Planned} → planned ≡ q → findAndRun book r limit W H numbers b ≡ ranFor q book r W H numbers b
   unfolding findAndRun
-  by-answer e = ap (λ (q : Planned). ranFor q book W H numbers b) (sym is ∙ e)
+  by-answer e = ap (λ (q : Planned). ranFor q book r W H numbers b) (sym is ∙ e)
 
   pub plan-kept :
       {p : Plan} {listed : Listed} {left : Buffers} → planned ≡ Planned.Plan p
-      → Gives (runList (setting book p W H) numbers b) listed left
+      → Gives (runList (setting book r p W H) numbers b) listed left
       → Kept (FoundRun.Ran p listed) left
   unfolding ranFor
   plan-kept {p} {listed} {left} found (answer, content) = (
-    ap (FoundRun.Ran p) answer ∙ ap (λ (r : Result FoundRun Buffers). r .answer) (sym (by-answer found)),
+    ap (FoundRun.Ran p) answer ∙ ap (λ (x : Result FoundRun Buffers). x .answer) (sym (by-answer found)),
     (
-      content ∙ ap (λ (r : Result FoundRun Buffers). r .content) (sym (by-answer found)),
+      content ∙ ap (λ (x : Result FoundRun Buffers). x .content) (sym (by-answer found)),
       λ q ran enough zeros.
           let same : p ≡ q = same-plan ran in
-          let plan : ofPlanned (find book limit) ≡ value q = ap ofPlanned (sym is ∙ found ∙ ap Planned.Plan same) in
-          demand-met (setting book q W H) numbers b left
+          let plan : ofPlanned (find book r limit) ≡ value q = ap ofPlanned (sym is ∙ found ∙ ap Planned.Plan same) in
+          demand-met (setting book r q W H) numbers b left
           (content
-          ∙ made-left (setting book p W H) numbers b (sym (same-listed ran) ∙ answer)
-          ∙ ap (λ (p : Plan). madeList (setting book p W H) numbers b) same)
-          (demand-3 (setting book q W H) limit (b .memory) (callsOf numbers (b .outputs)) plan enough zeros),
+          ∙ made-left (setting book r p W H) numbers b (sym (same-listed ran) ∙ answer)
+          ∙ ap (λ (p : Plan). madeList (setting book r p W H) numbers b) same)
+          (demand-3 (setting book r q W H) limit (b .memory) (callsOf numbers (b .outputs)) plan enough zeros),
     ),
   )
 
   -- or its refusal.
-  pub refusal-kept : {r : Refusal} → planned ≡ Planned.Refused r → Kept (FoundRun.Refused r) b
+  pub refusal-kept : {f : Refusal} → planned ≡ Planned.Refused f → Kept (FoundRun.Refused f) b
   unfolding ranFor
   refusal-kept found = (
-    ap (λ (r : Result FoundRun Buffers). r .answer) (sym (by-answer found)),
-    (ap (λ (r : Result FoundRun Buffers). r .content) (sym (by-answer found)), λ q ran enough zeros. absurd (refused-not-ran ran)),
+    ap (λ (x : Result FoundRun Buffers). x .answer) (sym (by-answer found)),
+    (ap (λ (x : Result FoundRun Buffers). x .content) (sym (by-answer found)), λ q ran enough zeros. absurd (refused-not-ran ran)),
   )
 
 -- So the third clause of the contract follows from the first two.
-module _ (book : Book) (limit W H : ℕ) (numbers : List ℕ) (b : Buffers) (r : FoundRun) (left : Buffers) where
+module _ (book : Book) (r limit W H : ℕ) (numbers : List ℕ) (b : Buffers) (x : FoundRun) (left : Buffers) where
   abbrev KeptOf : FoundRun → Buffers → Type 0
-  KeptOf = Kept book limit W H numbers b {planned = find book limit} refl
+  KeptOf = Kept book r limit W H numbers b {planned = find book r limit} refl
 
   same-kept :
-      {s : FoundRun} {x : Buffers} → r ≡ findAndRun book limit W H numbers b .answer
-      → left ≡ findAndRun book limit W H numbers b .content → KeptOf s x → Demanded r book W H numbers b left
+      {s : FoundRun} {l : Buffers} → x ≡ findAndRun book r limit W H numbers b .answer
+      → left ≡ findAndRun book r limit W H numbers b .content → KeptOf s l → Demanded x book r W H numbers b left
   same-kept {s} answer content (a, (c, demand)) =
-      subst (λ (s : FoundRun). Demanded s book W H numbers b left) (a ∙ sym answer)
-      (subst (λ (x : Buffers). Demanded s book W H numbers b x) (c ∙ sym content) demand)
+      subst (λ (s : FoundRun). Demanded s book r W H numbers b left) (a ∙ sym answer)
+      (subst (λ (l : Buffers). Demanded s book r W H numbers b l) (c ∙ sym content) demand)
 
-  by-found : (q : Planned) → find book limit ≡ q → (s : FoundRun) × (x : Buffers) × KeptOf s x
-  by-found (Planned.Plan p) found = (_, _, plan-kept book limit W H numbers b refl found (refl, refl))
-  by-found (Planned.Refused f) found = (_, _, refusal-kept book limit W H numbers b refl found)
+  by-found : (q : Planned) → find book r limit ≡ q → (s : FoundRun) × (l : Buffers) × KeptOf s l
+  by-found (Planned.Plan p) found = (_, _, plan-kept book r limit W H numbers b refl found (refl, refl))
+  by-found (Planned.Refused f) found = (_, _, refusal-kept book r limit W H numbers b refl found)
 
 pub demand-follows : DemandFollows
-demand-follows book limit W H numbers b r left answer content =
-    same-kept book limit W H numbers b r left answer content (by-found book limit W H numbers b r left (find book limit) refl .2)
+demand-follows book r limit W H numbers b x left answer content =
+    same-kept book r limit W H numbers b x left answer content (by-found book r limit W H numbers b x left (find book r limit) refl .2)

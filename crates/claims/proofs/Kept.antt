@@ -31,7 +31,8 @@ use Rattle.book.proofs.Parts.{parts-are}
 use Rattle.book.proofs.ReaderRefusals.{reader-refuses}
 use Rattle.finder.proofs.Least.{finder-is-least, finder-none, finder-decides, finder-order}
 use Rattle.finder.proofs.LeastCycles.{least-in-cycles}
-use Rattle.finder.proofs.OneCycle.{one-cycle-is-before}
+use Rattle.finder.proofs.OneCycleCalls.{one-cycle-is-before}
+use Rattle.finder.proofs.KeptAtOne.{kept-at-one}
 use Rattle.finder.proofs.Boxes.{box-is-greatest}
 use Rattle.finder.proofs.Bounds.{finder-stays-within, limit-is-enough}
 use Rattle.finder.proofs.LeastCounts.{count-is-least}
@@ -80,6 +81,7 @@ promises-kept =
       long-clashes = long-clashes;
       least-in-cycles = least-in-cycles;
       one-cycle-is-before = one-cycle-is-before;
+      kept-at-one = kept-at-one;
       formulas-are = formulas-are;
       banks-are-classes = banks-are-classes;
       pixels-have-words = pixels-have-words;

@@ -17,18 +17,18 @@ use Rattle.pictures.specs.declared.lists.Listed.{Listed}
 use Rattle.claims.specs.declared.FoundRun.{FoundRun}
 
 -- The finder's answer, and what came of the list under its plan; where it gave none, nothing is changed.
-unfoldable pub ranFor : Planned → Book → ℕ → ℕ → List ℕ → Buffers → Result FoundRun Buffers
+unfoldable pub ranFor : Planned → Book → ℕ → ℕ → ℕ → List ℕ → Buffers → Result FoundRun Buffers
 unfolding runList
-ranFor (Planned.Plan p) book W H numbers b =
+ranFor (Planned.Plan p) book r W H numbers b =
     record {
-      answer = FoundRun.Ran p (runList (setting book p W H) numbers b .answer);
-      content = runList (setting book p W H) numbers b .content;
+      answer = FoundRun.Ran p (runList (setting book r p W H) numbers b .answer);
+      content = runList (setting book r p W H) numbers b .content;
     }
-ranFor (Planned.Refused r) book W H numbers b = record { answer = FoundRun.Refused r; content = b }
+ranFor (Planned.Refused f) book r W H numbers b = record { answer = FoundRun.Refused f; content = b }
 
-unfoldable pub findAndRun : Book → ℕ → ℕ → ℕ → List ℕ → Buffers → Result FoundRun Buffers
+unfoldable pub findAndRun : Book → ℕ → ℕ → ℕ → ℕ → List ℕ → Buffers → Result FoundRun Buffers
 unfolding ranFor find
-findAndRun book limit W H numbers b = ranFor (find book limit) book W H numbers b
+findAndRun book r limit W H numbers b = ranFor (find book r limit) book r W H numbers b
 
 -- What the calls are to give, each after those before it
 unfoldable pub repliesDue : Setting → ℕ → List Call → List Call → List Reply
@@ -53,13 +53,14 @@ pub record DemandMet (g : Setting) (calls : List Call) (b left : Buffers) : Type
   -- "and the rest is as at the start"
   pub rest : drop (pictureWords g) (left .memory) ≡ drop (pictureWords g) (b .memory)
   pub as-long : length (left .memory) ≡ length (b .memory)
-  -- and the whole claim over the definitions: what each call is to give, that a legal one is taken, that banks differ
+  -- and the whole claim over the definitions: what each call is to give, that a legal one is taken, that no two words of a fetch
+  -- have both bank and cycle in common
   pub holds : ListHolds g (b .memory) calls
 
 -- Where a plan was found and the list was made, on "a memory of at least N × depth words, the first N × depth of them 0".
-abbrev pub Demanded : FoundRun → Book → ℕ → ℕ → List ℕ → Buffers → Buffers → Type 0
-Demanded r book W H numbers b left =
-    (p : Plan) → r ≡ FoundRun.Ran p Listed.Made
-    → pictureWords (setting book p W H) ≤ length (b .memory)
-    → take (pictureWords (setting book p W H)) (b .memory) ≡ replicate (pictureWords (setting book p W H)) 0
-    → DemandMet (setting book p W H) (callsOf numbers (b .outputs)) b left
+abbrev pub Demanded : FoundRun → Book → ℕ → ℕ → ℕ → List ℕ → Buffers → Buffers → Type 0
+Demanded x book r W H numbers b left =
+    (p : Plan) → x ≡ FoundRun.Ran p Listed.Made
+    → pictureWords (setting book r p W H) ≤ length (b .memory)
+    → take (pictureWords (setting book r p W H)) (b .memory) ≡ replicate (pictureWords (setting book r p W H)) 0
+    → DemandMet (setting book r p W H) (callsOf numbers (b .outputs)) b left

@@ -13,7 +13,7 @@ use Rattle.scope.specs.Plans.{Pixel, at, plan}
 use Rattle.scope.specs.Banks.{bankOf, wordOf, wordIn, overStart}
 use Rattle.scope.specs.Books.{bookOf}
 use Rattle.scope.specs.promises.Meaning.{Inside}
-use Rattle.scope.specs.promises.Demand.{Call, read, fetch, Setting, test, lastStored, banksRead, pictureWords, CallHolds}
+use Rattle.scope.specs.promises.Demand.{Call, read, fetch, Setting, test, lastStored, banksRead, cyclesRead, pictureWords, CallHolds}
 use Rattle.scope.specs.declared.Book.{Book}
 use Rattle.scope.specs.declared.Refusal.{Refusal}
 use Rattle.pictures.specs.Lists.{setting, callsOf, replyNumbers, Buffers, buffers}
@@ -23,13 +23,13 @@ use Rattle.claims.specs.declared.FoundRun.{FoundRun}
 -- Demand 3 follows where the answer r and what is left are those of the definition.
 abbrev pub DemandFollows : Type 0
 DemandFollows =
-    (book : Book) (limit W H : ℕ) (numbers : List ℕ) (b : Buffers) (r : FoundRun) (left : Buffers)
-    → r ≡ findAndRun book limit W H numbers b .answer → left ≡ findAndRun book limit W H numbers b .content
-    → Demanded r book W H numbers b left
+    (book : Book) (r limit W H : ℕ) (numbers : List ℕ) (b : Buffers) (x : FoundRun) (left : Buffers)
+    → x ≡ findAndRun book r limit W H numbers b .answer → left ≡ findAndRun book r limit W H numbers b .content
+    → Demanded x book r W H numbers b left
 
 unfoldable pub small : Setting
 unfolding bookOf at plan
-small = setting (bookOf ((at (pos 0) (pos 0) ∷ at (pos 1) (pos 0) ∷ []) ∷ [])) (plan 2 0 1) 3 1
+small = setting (bookOf ((at (pos 0) (pos 0) ∷ at (pos 1) (pos 0) ∷ []) ∷ [])) 1 (plan 2 0 1) 3 1
 
 -- 8 is stored at (1, 0) and 9 at (2, 0); both are fetched; bank 0 is cleared, (1, 0) is loaded, and (3, 0), which is outside
 abbrev pub stores : List ℕ
@@ -68,11 +68,11 @@ pub record ReadOff (left : Buffers) : Type 0 where
   pub rest-stays : drop 4 (left .memory) ≡ 7 ∷ []
   pub as-long : length (left .memory) ≡ 5
   pub exact-as-long :
-      (short : Buffers) → short ≡ findAndRun (small .book) 1024 3 1 [] exact .content → length (short .memory) ≡ 4
+      (short : Buffers) → short ≡ findAndRun (small .book) 1 1024 3 1 [] exact .content → length (short .memory) ≡ 4
   -- the two words of the fetch come from two banks
   pub banks-differ : bankOf (plan 2 0 1) (at (pos 1) (pos 0)) ≡ bankOf (plan 2 0 1) (at (pos 2) (pos 0)) → ⊥
   -- with limit 0 the finder refuses, and nothing is changed
-  pub refused : findAndRun (small .book) 0 3 1 six start ≡ record { answer = FoundRun.Refused Refusal.Limit; content = start }
+  pub refused : findAndRun (small .book) 1 0 3 1 six start ≡ record { answer = FoundRun.Refused Refusal.Limit; content = start }
 
 in-picture : (i : ℕ) → i < 3 → Inside 3 1 (at (pos i) (pos 0))
 unfolding at
@@ -91,27 +91,27 @@ no-pixel v h e =
     let row : v .row ≡ pos 0 = h .row ∙ ap pos (omega (arith, h .j-below)) in
     no-word (h .i) (h .i-below) (rw (h .column, row) at e)
 
-no-plan : findAndRun (small .book) 0 3 1 six start ≡ record { answer = FoundRun.Refused Refusal.Limit; content = start }
+no-plan : findAndRun (small .book) 1 0 3 1 six start ≡ record { answer = FoundRun.Refused Refusal.Limit; content = start }
 unfolding small findAndRun
 no-plan = refl
 
-module _ (follows : DemandFollows) (left : Buffers) (is : left ≡ findAndRun (small .book) 1024 3 1 six start .content) where
+module _ (follows : DemandFollows) (left : Buffers) (is : left ≡ findAndRun (small .book) 1 1024 3 1 six start .content) where
   -- the premises hold
   met : DemandMet small (callsOf six (start .outputs)) start left
   unfolding small findAndRun pictureWords
-  met = follows (small .book) 1024 3 1 six start _ left refl is (plan 2 0 1) refl (omega arith) refl
+  met = follows (small .book) 1 1024 3 1 six start _ left refl is (plan 2 0 1) refl (omega arith) refl
 
   exact-met :
-      (short : Buffers) → short ≡ findAndRun (small .book) 1024 3 1 [] exact .content → DemandMet small (callsOf [] []) exact short
+      (short : Buffers) → short ≡ findAndRun (small .book) 1 1024 3 1 [] exact .content → DemandMet small (callsOf [] []) exact short
   unfolding small findAndRun pictureWords
-  exact-met short e = follows (small .book) 1024 3 1 [] exact _ short refl e (plan 2 0 1) refl (omega arith) refl
+  exact-met short e = follows (small .book) 1 1024 3 1 [] exact _ short refl e (plan 2 0 1) refl (omega arith) refl
 
   of-fetch : CallHolds small (start .memory) (callsOf stores []) both
   unfolding both callsOf
   of-fetch = met .holds .each (callsOf stores []) both (callsOf later []) refl
 
   pub read-off : ReadOff left
-  unfolding small callsOf repliesDue overStart flatMap replyNumbers wordIn lastStored pictureWords both banksRead test
+  unfolding small callsOf repliesDue overStart flatMap replyNumbers wordIn lastStored pictureWords both banksRead cyclesRead test
   read-off =
       record {
         words-fetched = met .outputs;
@@ -122,6 +122,6 @@ module _ (follows : DemandFollows) (left : Buffers) (is : left ≡ findAndRun (s
         rest-stays = met .rest;
         as-long = met .as-long;
         exact-as-long = λ short e. exact-met short e .as-long;
-        banks-differ = of-fetch .apart refl 0 1 (omega arith) (omega arith);
+        banks-differ = λ same. of-fetch .in-cycles refl .apart 0 1 (omega arith) (omega arith) same refl;
         refused = no-plan;
       }

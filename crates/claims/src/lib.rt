@@ -16,9 +16,10 @@ pub enum FoundRun {
     Refused(Refusal),
 }
 
-// Finds the plan with the fewest banks within the limit, and makes a list of calls under it, in the numbers of `run_list`.
+// Finds the plan for r with the fewest banks within the limit, and makes a list of calls for r under it, in the numbers of `run_list`.
 pub fn find_and_run(
     book: Book,
+    r: u32,
     limit: u32,
     w: u32,
     h: u32,
@@ -27,13 +28,13 @@ pub fn find_and_run(
     outs: &mut [u16],
     rows: &mut [u64],
 ) -> FoundRun
-    ensures answer { λ r. ⌜ r ≡ findAndRun book limit w h (now (numbers .entry)) (buffers (now (mem .entry)) (now (outs .entry)) (now (rows .entry))) .answer ⌝ }
-    ensures left { λ r. ⌜ buffers (now (mem .exit)) (now (outs .exit)) (now (rows .exit)) ≡ findAndRun book limit w h (now (numbers .entry)) (buffers (now (mem .entry)) (now (outs .entry)) (now (rows .entry))) .content ⌝ }
-    ensures demand { λ r. ⌜ Demanded r book w h (now (numbers .entry)) (buffers (now (mem .entry)) (now (outs .entry)) (now (rows .entry))) (buffers (now (mem .exit)) (now (outs .exit)) (now (rows .exit))) ⌝ }
+    ensures answer { λ x. ⌜ x ≡ findAndRun book r limit w h (now (numbers .entry)) (buffers (now (mem .entry)) (now (outs .entry)) (now (rows .entry))) .answer ⌝ }
+    ensures left { λ x. ⌜ buffers (now (mem .exit)) (now (outs .exit)) (now (rows .exit)) ≡ findAndRun book r limit w h (now (numbers .entry)) (buffers (now (mem .entry)) (now (outs .entry)) (now (rows .entry))) .content ⌝ }
+    ensures demand { λ x. ⌜ Demanded x book r w h (now (numbers .entry)) (buffers (now (mem .entry)) (now (outs .entry)) (now (rows .entry))) (buffers (now (mem .exit)) (now (outs .exit)) (now (rows .exit))) ⌝ }
 {
-    let planned = find(book, limit);
+    let planned = find(book, r, limit);
     match planned {
-        Planned::Plan(p) => FoundRun::Ran(p, run_list(book, p, w, h, mem, numbers, outs, rows)),
-        Planned::Refused(r) => FoundRun::Refused(r),
+        Planned::Plan(p) => FoundRun::Ran(p, run_list(book, r, p, w, h, mem, numbers, outs, rows)),
+        Planned::Refused(f) => FoundRun::Refused(f),
     }
 }

@@ -30,14 +30,18 @@ use Rattle.book.specs.Scan.{cellOf}
 use Rattle.book.proofs.Window.{offset, offset-is, offset-below, cell-inside}
 use Rattle.finder.specs.Counting.{patternEntry, cellsOf, EntriesPut, cellPixel, patternIn}
 
--- A pattern's entries: its count, then the cells of its pixels.
+-- A pattern's entries: its count, then the cells of its pixels, then 0.
 pub count-entry : (t : Pattern) (k : ℕ) → k ≡ 0 → t .used ≡ patternEntry t k
 unfolding patternEntry
 count-entry t k i = rw i
 
-pub pixel-entry : (t : Pattern) (k e : ℕ) → k ≡ suc e → cellOf (pixelAt t e) ≡ patternEntry t k
+pub pixel-entry : (t : Pattern) (k e : ℕ) → k ≡ suc e → e < t .used → cellOf (pixelAt t e) ≡ patternEntry t k
 unfolding patternEntry
-pixel-entry t k e i = rw i
+pixel-entry t k e i below = rw (i, ltb-iff e (t .used) .1 below) refl
+
+pub empty-entry : (t : Pattern) (k e : ℕ) → k ≡ suc e → t .used ≤ e → 0 ≡ patternEntry t k
+unfolding patternEntry
+empty-entry t k e i above = rw (i, ltb-false-iff e (t .used) .1 above) refl
 
 -- They are put one after the other.
 module _ {t : Pattern} {n : ℕ} where
@@ -199,7 +203,7 @@ pattern-in-cells book n legal h =
         ∙ ap raised (getD-pixels t e origin b)
         ∙ sym (ap cellPixel
         (getD-used book n (suc e) (omega (arith, is-pattern .most)) (is-book .most) h
-        ∙ sym (pixel-entry t (suc e) e refl))
+        ∙ sym (pixel-entry t (suc e) e refl b))
         ∙ cell-gives-pixel (pixelAt t e) (is-pattern .each e b .column) (is-pattern .each e b .row))
 
 -- and from the book's count on none.

@@ -14,7 +14,7 @@ use Rattle.scope.specs.Search.{first}
 use Rattle.scope.specs.Plans.{Pixel, minus, patternAt, pixels, patterns, suits, suitsAll, InLattice}
 use Rattle.scope.specs.Finding.{pixelIn, clashIn, clash}
 use Rattle.scope.specs.promises.Meaning.{IsBook}
-use Rattle.scope.specs.promises.PlanPromises.{Meets, FirstClashIn}
+use Rattle.scope.specs.promises.OneCyclePromises.{Meets, FirstClashIn}
 use Rattle.scope.specs.declared.Plan.{Plan}
 use Rattle.scope.specs.declared.Pattern.{Pattern}
 use Rattle.scope.specs.declared.Book.{Book}

@@ -43,7 +43,7 @@ module _ (p : Plan) (t : List Pixel) where
 
   module _ {r : ℕ} {counts : List ℕ} {e k : ℕ} (s : CountedTo r counts e) (is : k ≡ bankOf p (pixelIn t e)) (small : k < 1024) where
     -- what is counted in the bank of the next pixel is its cycle
-    cycle-counted : getD counts k 0 ≡ cycleOf p t e
+    pub cycle-counted : getD counts k 0 ≡ cycleOf p t e
     unfolding cycleOf
     cycle-counted = s .count k small ∙ ap (λ (β : ℕ). length (picked 0 e (inBank β))) is
 

@@ -16,7 +16,7 @@ use Rattle.scope.specs.Search.{first, picked, whenever}
 use Rattle.scope.specs.Plans.{isPlan, pixelAt, pixels}
 use Rattle.scope.specs.Finding.{together}
 use Rattle.scope.specs.Banks.{bankOf}
-use Rattle.scope.specs.Cycles.{LongClash, followers, clashInFor}
+use Rattle.scope.specs.Cycles.{LongClash, shortened, followers, clashInFor}
 use Rattle.scope.specs.declared.Plan.{Plan}
 use Rattle.scope.specs.declared.Pattern.{Pattern}
 use Rattle.scope.specs.declared.Clash.{Clash}
@@ -26,11 +26,11 @@ use Rattle.checks.proofs.Lists.{getD-set-same, getD-set-other}
 use Rattle.checks.proofs.Picked.{FirstPicked, picked-here, picked-beyond, picked-same, picked-at-most, first-picked}
 use Rattle.checks.proofs.Patterns.{origin, length-pixels, getD-pixels}
 use Rattle.lattice.proofs.Cycles.{together-by-bank}
-use Rattle.finder.specs.Clashing.{shortened, metAt}
+use Rattle.finder.specs.Clashing.{metAt}
 use Rattle.finder.specs.declared.clash.Met.{Met}
 
 -- the positions k, k + 1, .., m of them, that have bank β
-abbrev inBank : (ℕ → ℕ) → ℕ → ℕ → ℕ → List ℕ
+abbrev pub inBank : (ℕ → ℕ) → ℕ → ℕ → ℕ → List ℕ
 inBank bank β k m = picked k m (λ l. eqb (bank l) β)
 
 -- the first of a list, and 0 of none
@@ -44,10 +44,10 @@ first-taken (suc r) h [] = refl
 first-taken (suc r) h (l ∷ ls) = refl
 
 module _ (bank : ℕ → ℕ) (β : ℕ) where
-  bank-here : (k m : ℕ) → bank k ≡ β → inBank bank β k (suc m) ≡ k ∷ inBank bank β (suc k) m
+  pub bank-here : (k m : ℕ) → bank k ≡ β → inBank bank β k (suc m) ≡ k ∷ inBank bank β (suc k) m
   bank-here k m e = picked-here (λ l. eqb (bank l) β) k m (eqb-iff (bank k) β .1 e)
 
-  bank-beyond : (k m : ℕ) → (bank k ≡ β → ⊥) → inBank bank β k (suc m) ≡ inBank bank β (suc k) m
+  pub bank-beyond : (k m : ℕ) → (bank k ≡ β → ⊥) → inBank bank β k (suc m) ≡ inBank bank β (suc k) m
   bank-beyond k m u = picked-beyond (λ l. eqb (bank l) β) k m (eqb-false-iff (bank k) β .1 u)
 
   -- the first of them is below a number that the range ends below
@@ -80,7 +80,7 @@ clash-of-record r p n t = ap (λ (u : ℕ). first 0 u (clashFrom r p n t)) (leng
 
 module _ (p : Plan) (plan : isPlan p ≡ true) (t : Pattern) where
   -- the followers of a position are those after it with its bank
-  followers-by-bank : (e : ℕ) → e < t .used → followers p (pixels t) e ≡ behind p t e
+  pub followers-by-bank : (e : ℕ) → e < t .used → followers p (pixels t) e ≡ behind p t e
   unfolding followers
   followers-by-bank e e-in =
       ap (λ (u : ℕ). picked (suc e) (u - suc e) (together p (pixels t) e)) (length-pixels t)

@@ -10,14 +10,14 @@ use Rattle.scope.specs.Plans.{Pixel, plan, patterns, suits, suitsAll}
 use Rattle.scope.specs.Finding.{suitable, leastPlan, leastCount}
 use Rattle.scope.specs.Cycles.{suitsFor, suitsAllFor, suitableFor, leastPlanFor, leastCountFor}
 use Rattle.scope.specs.promises.Meaning.{IsBook}
-use Rattle.scope.specs.promises.PlanPromises.{Parted}
-use Rattle.scope.specs.promises.CyclePromises.{Uncrowded, OneCycleIsBefore}
+use Rattle.scope.specs.promises.OneCyclePromises.{Parted}
+use Rattle.scope.specs.promises.CyclePromises.{Uncrowded}
 use Rattle.scope.specs.declared.Plan.{Plan}
 use Rattle.scope.specs.declared.Book.{Book}
 use Rattle.checks.proofs.Patterns.{Different, different-in-book}
 use Rattle.lattice.proofs.Suits.{suits-all-iff}
 use Rattle.lattice.proofs.Classes.{suits-all-for-iff}
-use Rattle.lattice.proofs.OneCycle.{uncrowded-one-iff, suits-for-one, clash-for-one}
+use Rattle.lattice.proofs.OneCycle.{uncrowded-one-iff, suits-for-one}
 use Rattle.finder.proofs.PlanSearch.{search-same, least-count-is}
 use Rattle.finder.proofs.LeastCycles.{least-in-cycles}
 
@@ -36,7 +36,7 @@ module _ (book : Book) (legal : IsBook book) where
   )
 
   -- the same plans
-  suits-one : (p : Plan) → 1 ≤ p .a → 1 ≤ p .d → (t : List Pixel) → List·Memᴰ t ts → suitsFor 1 p t ≡ suits p t
+  pub suits-one : (p : Plan) → 1 ≤ p .a → 1 ≤ p .d → (t : List Pixel) → List·Memᴰ t ts → suitsFor 1 p t ≡ suits p t
   suits-one p a-least d-least t m = suits-for-one p a-least d-least t (different t m)
 
   pub suits-all-one : (p : Plan) → 1 ≤ p .a → 1 ≤ p .d → suitsAllFor 1 p ts ≡ suitsAll p ts
@@ -51,20 +51,7 @@ module _ (book : Book) (legal : IsBook book) where
   least-plan-one =
       search-same (suitableFor 1 ts) (suitable ts) (λ a b d d-least b-below. suits-all-one (plan a b d) (omega arith) d-least)
 
-  least-count-one : leastCountFor 1 ts ≡ leastCount ts
+  pub least-count-one : leastCountFor 1 ts ≡ leastCount ts
   least-count-one =
       let (p, found, count) = least-in-cycles 1 book .enough (omega arith) legal in
       count ∙ sym (least-count-is ts p (sym (least-plan-one 1024) ∙ found))
-
-pub one-cycle-is-before : OneCycleIsBefore
-one-cycle-is-before =
-    record {
-      of-book = λ book legal.
-          record {
-            uncrowded = uncrowded-one book legal;
-            suiting = suits-one book legal;
-            least-plan = least-plan-one book legal;
-            least-count = least-count-one book legal;
-          };
-      clashes = clash-for-one;
-    }

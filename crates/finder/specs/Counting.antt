@@ -20,11 +20,11 @@ use Rattle.scope.specs.declared.Plan.{Plan}
 use Rattle.book.specs.Scan.{cellOf}
 use Rattle.finder.specs.Table.{TestOf}
 
--- A pattern's 65 entries: its pixel count, then the cells of its pixels
+-- A pattern's 65 entries: its pixel count, then the cells of its pixels, then 0
 unfoldable pub patternEntry : Pattern → ℕ → ℕ
 unfolding cellOf pixelAt
 patternEntry t zero = t .used
-patternEntry t (suc e) = cellOf (pixelAt t e)
+patternEntry t (suc e) = cond (ltb e (t .used)) (cellOf (pixelAt t e)) 0
 
 -- the entries of a book's patterns one after the other, then 0
 unfoldable pub cellsOf : Book → List ℕ

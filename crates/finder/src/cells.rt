@@ -9,13 +9,16 @@ ghost use lib.ListN.{length, replicate};
 ghost use Rattle.scope.specs.Numbers.{recordTest};
 ghost use Rattle.finder.specs.Counting.{patternEntry, cellsOf, EntriesPut};
 
-// The entries of a pattern: its pixel count, then the cells of its pixels.
+// The entries of a pattern: its pixel count, then the cells of its pixels, then 0. What stands past its pixels is not looked at.
 fn entry_of(t: Pattern, k: usize) -> u16
     requires { ⌜ (t .used ≤ 64) × (k < 65) ⌝ }
     ensures { λ r. ⌜ r ≡ patternEntry t k ⌝ }
 {
     if k == 0 {
         return t.used as u16;
+    }
+    if t.used < k {
+        return 0;
     }
     let e = k - 1;
     let i = t.columns[e];

@@ -1,6 +1,6 @@
 // The finder. It marks the differences of a book's patterns in a table of the upper half window, rows 0 to 31 and columns -31 to
-// 31, and tries the plans in order: a plan suits if no cell of its lattice is marked, but for the origin's. That is for r = 1, which is
-// all that a call asks for; for r above 1 counting.rt tests the plans.
+// 31, and tries the plans in order: a plan suits if no cell of its lattice is marked, but for the origin's. That is for r = 1; for r
+// above 1 counting.rt tests the plans.
 use crate::cells::put_cells;
 use crate::counting::counted_b;
 use book::record_outcome;
@@ -221,13 +221,13 @@ fn plan_for(book: Book, r: u8, limit: usize) -> Planned
     least_plan(&marks, &cells, r, limit)
 }
 
-// The plan with the fewest banks within the limit, of several the one with least b, then least d; or 2, 3, 4, 19, 6, 7.
-pub fn find(book: Book, limit: u32) -> Planned
-    ensures { λ r. ⌜ r ≡ find book limit ⌝ }
+// The plan for r with the fewest banks within the limit, of several the one with least b, then least d; or 2, 3, 4, 19, 6, 20, 7.
+pub fn find(book: Book, r: u32, limit: u32) -> Planned
+    ensures { λ x. ⌜ x ≡ find book r limit ⌝ }
 {
     let outcome = record_outcome(book);
-    if let Outcome::Refused(r) = outcome {
-        return Planned::Refused(r);
+    if let Outcome::Refused(f) = outcome {
+        return Planned::Refused(f);
     }
     if limit == 0 {
         return Planned::Refused(Refusal::Limit);
@@ -235,16 +235,22 @@ pub fn find(book: Book, limit: u32) -> Planned
     if 1024 < limit {
         return Planned::Refused(Refusal::Limit);
     }
-    plan_for(book, 1, limit as usize)
+    if r == 0 {
+        return Planned::Refused(Refusal::Cycles);
+    }
+    if 8 < r {
+        return Planned::Refused(Refusal::Cycles);
+    }
+    plan_for(book, r as u8, limit as usize)
 }
 
-// The least count of a book, the N of the finder's plan at limit 1024, or 2, 3, 4, 19.
-pub fn least_count(book: Book) -> Counted
-    ensures { λ r. ⌜ r ≡ fewest book ⌝ }
+// The least count for r of a book, the N of the finder's plan at limit 1024, or 2, 3, 4, 19, 20.
+pub fn least_count(book: Book, r: u32) -> Counted
+    ensures { λ x. ⌜ x ≡ fewest book r ⌝ }
 {
-    let least = find(book, 1024);
+    let least = find(book, r, 1024);
     match least {
         Planned::Plan(p) => Counted::Number(p.banks()),
-        Planned::Refused(r) => Counted::Refused(r),
+        Planned::Refused(f) => Counted::Refused(f),
     }
 }

@@ -15,8 +15,8 @@ use Rattle.integers.proofs.Comparisons.{same-truth, leb-iff}
 use Rattle.scope.specs.Search.{first, whenever}
 use Rattle.scope.specs.Plans.{Pixel, minus, Combination, InLattice, along, up, suits}
 use Rattle.scope.specs.Finding.{pixelIn, together, meeting, clashIn, clash}
-use Rattle.scope.specs.Cycles.{suitsFor, LongClash, followers, clashInFor, clashFor}
-use Rattle.scope.specs.promises.CyclePromises.{Ascending, OneClass, UncrowdedIn, NotAfter, lengthened}
+use Rattle.scope.specs.Cycles.{suitsFor, LongClash, lengthened, followers, clashInFor, clashFor}
+use Rattle.scope.specs.promises.CyclePromises.{Ascending, OneClass, UncrowdedIn, NotAfter}
 use Rattle.scope.specs.declared.Plan.{Plan}
 use Rattle.scope.specs.declared.Clash.{Clash}
 use Rattle.checks.proofs.Searches.{none-not-some, first-same, first-mapped, some-whenever}
@@ -117,7 +117,7 @@ module _ (p : Plan) where
       (n : ℕ) (t : List Pixel) (e : ℕ)
       → whenever (leb 1 (length (followers p t e))) (record { pattern = n; positions = e ∷ take 1 (followers p t e) })
       ≡ Option·map lengthened (first (suc e) (length t - suc e) (meeting p t n e))
-  unfolding meeting followers lengthened
+  unfolding meeting followers
   clash-for-one-from n t e =
       by-followers (followers p t e)
       ∙ ap (Option·map lengthened) (sym (first-is-picked (together p t e) (pair n e) (length t - suc e) (suc e)))
@@ -159,7 +159,6 @@ module _ (p : Plan) (a-least : 1 ≤ p .a) (d-least : 1 ≤ p .d) (n : ℕ) (t :
 
   -- So the clash of a pattern is its first pair,
   pub clash-is-first-pair : (c : Clash) → clashIn p n t ≡ some c → FirstPair c
-  unfolding lengthened
   clash-is-first-pair c h =
       let (number, f) = found-is-first 1 p a-least d-least t n (lengthened c) (clash-for-one-in p n t ∙ ap (Option·map lengthened) h) in
       record {

@@ -5,51 +5,49 @@ use mathlib.Core.Path.{_≡_, refl, sym}
 use mathlib.Core.Logic.{_↔_, Iff·trans}
 use mathlib.Core.Bool.{true}
 use mathlib.Core.Option.{Option, none, some}
-use Rattle.scope.specs.Plans.{pixels, suits}
-use Rattle.scope.specs.Finding.{clashIn}
+use Rattle.scope.specs.Plans.{pixels}
+use Rattle.scope.specs.Cycles.{suitsFor, LongClash, shortened, clashInFor}
 use Rattle.scope.specs.Numbers.{suitsTest}
-use Rattle.scope.specs.promises.Meaning.{IsPlan, IsPattern, TestsMean}
+use Rattle.scope.specs.promises.Meaning.{IsPlan, TestsMean}
 use Rattle.scope.specs.declared.Plan.{Plan}
 use Rattle.scope.specs.declared.Pattern.{Pattern}
-use Rattle.scope.specs.declared.Clash.{Clash}
 use Rattle.scope.specs.declared.Refusal.{Refusal}
 use Rattle.scope.specs.declared.Refusal.the-variants.{Unsuited}
 use Rattle.checks.proofs.Searches.{none-not-some, some-injective}
 use Rattle.checks.proofs.BookTests.{book-legal-iff}
-use Rattle.checks.proofs.Patterns.{pattern-different}
-use Rattle.checks.proofs.Tests.{limit-legal-iff, independent-iff, size-within-iff, plan-legal-iff, sides-legal-iff, memory-enough-iff}
+use Rattle.checks.proofs.Tests.{limit-legal-iff, cycles-legal-iff, independent-iff, size-within-iff, plan-legal-iff, sides-legal-iff, memory-enough-iff}
 use Rattle.checks.proofs.Tests.{all-inside-iff, bank-below-iff, cell-legal-iff, output-enough-iff, number-in-book-iff, ring-allowed-iff}
-use Rattle.lattice.proofs.OneCycle.{no-clash-iff-suits}
+use Rattle.lattice.proofs.LongClashes.{long-clashes}
 
 -- The test for 10 finds what the search for a clash finds.
-module _ (p : Plan) (n : ℕ) (t : Pattern) where
-  abbrev found : Option Clash
-  found = clashIn p n (pixels t)
+module _ (r : ℕ) (p : Plan) (n : ℕ) (t : Pattern) where
+  abbrev found : Option LongClash
+  found = clashInFor r p n (pixels t)
 
-  suits-test-none-iff : (suitsTest p n t ≡ none) ↔ (found ≡ none)
+  pub suits-test-none-iff : (suitsTest r p n t ≡ none) ↔ (found ≡ none)
   unfolding suitsTest
   suits-test-none-iff = (by-found found refl, λ e. rw (e, suitsTest))
     where
-      by-found : (o : Option Clash) → found ≡ o → suitsTest p n t ≡ none → found ≡ none
+      by-found : (o : Option LongClash) → found ≡ o → suitsTest r p n t ≡ none → found ≡ none
       by-found none h e = h
       by-found (some c) h e = absurd (none-not-some (sym (rw (h, suitsTest) at e)))
 
   pub suits-test-some :
-      (r : Refusal) → suitsTest p n t ≡ some r
-      → (c : Clash) × (clashIn p n (pixels t) ≡ some c) × (r ≡ Unsuited c)
+      (f : Refusal) → suitsTest r p n t ≡ some f
+      → (c : LongClash) × (found ≡ some c) × (f ≡ Unsuited (shortened c))
   unfolding suitsTest
-  suits-test-some r e = by-found found refl
+  suits-test-some f e = by-found found refl
     where
-      by-found : (o : Option Clash) → found ≡ o → (c : Clash) × (found ≡ some c) × (r ≡ Unsuited c)
+      by-found : (o : Option LongClash) → found ≡ o → (c : LongClash) × (found ≡ some c) × (f ≡ Unsuited (shortened c))
       by-found none h = absurd (none-not-some (rw (h, suitsTest) at e))
       by-found (some c) h = (c, h, some-injective (sym (rw (h, suitsTest) at e)))
 
--- 10: the plan suits the pattern
+-- 10: the plan suits the pattern for r
 suits-pattern-iff :
-    (t : Pattern) (p : Plan) (n : ℕ) → IsPattern t → IsPlan p → (suitsTest p n t ≡ none) ↔ (suits p (pixels t) ≡ true)
-suits-pattern-iff t p n legal is-plan =
-    Iff·trans (suits-test-none-iff p n t)
-    (no-clash-iff-suits p (is-plan .a-least) (is-plan .d-least) n (pixels t) (pattern-different t legal))
+    (r : ℕ) (t : Pattern) (p : Plan) (n : ℕ) → IsPlan p → (suitsTest r p n t ≡ none) ↔ (suitsFor r p (pixels t) ≡ true)
+suits-pattern-iff r t p n is-plan =
+    Iff·trans (suits-test-none-iff r p n t)
+    (long-clashes r p (is-plan .a-least) (is-plan .d-least) .none-in-pattern n (pixels t))
 
 -- For each number but 1, 5 and 7, its test finds nothing exactly where the condition does not hold.
 pub tests-mean : TestsMean
@@ -69,4 +67,5 @@ tests-mean =
       output-16 = output-enough-iff;
       number-17 = number-in-book-iff;
       ring-18 = λ p W H legal. ring-allowed-iff p W H;
+      cycles-20 = cycles-legal-iff;
     }

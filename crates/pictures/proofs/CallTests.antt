@@ -6,19 +6,45 @@ use mathlib.Core.Logic.{_↔_, Iff·rfl, Iff·trans}
 use mathlib.Core.Bool.{true, false}
 use mathlib.Core.Option.{none}
 use mathlib.Core.List.{[], _∷_, List·Memᴰ·head}
-use Rattle.scope.specs.Plans.{Pixel, pixels, patternAt, banks, suits}
-use Rattle.scope.specs.Numbers.{suitsTest}
-use Rattle.scope.specs.Calls.{pictureTest, wordTest, wholeBankTest, moved, fetchStart, edgeTest, restTest, fetchTest}
-use Rattle.scope.specs.promises.Meaning.{IsBook, IsPicture, Inside, AllInside, RingAllowed}
-use Rattle.scope.specs.promises.PicturePromises.{LegalFetch}
+use Rattle.scope.specs.Plans.{Pixel, patternAt, banks}
+use Rattle.scope.specs.Calls.{pictureTest, wordTest, wholeBankTest, moved, fetchFirst, fetchStart, edgeTest, restTest, fetchTest}
+use Rattle.scope.specs.Calls.{cyclesFirst, writeCyclesTest}
+use Rattle.scope.specs.promises.Meaning.{IsBook, IsCycles, IsPicture, Inside, AllInside, RingAllowed}
+use Rattle.scope.specs.promises.PicturePromises.{LegalFetch, LegalCycles}
 use Rattle.scope.specs.declared.Plan.{Plan}
 use Rattle.scope.specs.declared.Book.{Book}
 use Rattle.checks.proofs.Booleans.{last-test, test-before}
 use Rattle.checks.proofs.Tests.{plan-legal-iff, sides-legal-iff, memory-enough-iff, all-inside-iff, bank-below-iff}
 use Rattle.checks.proofs.Tests.{output-enough-iff, number-in-book-iff, ring-allowed-iff}
-use Rattle.checks.proofs.BookTests.{book-legal-iff}
+use Rattle.checks.proofs.BookTests.{book-test-iff}
 use Rattle.checks.proofs.Legal.{one-inside}
 use Rattle.lattice.proofs.TestMeanings.{tests-mean}
+
+-- The cycles of a pattern: legal ones, and room.
+pub cycles-test-iff :
+    (book : Book) (r : ℕ) (p : Plan) (n room : ℕ)
+    → (writeCyclesTest book r p n room ≡ none) ↔ (LegalCycles book r p n × (patternAt book n .used ≤ room))
+unfolding writeCyclesTest cyclesFirst
+cycles-test-iff book r p n room =
+    Iff·trans
+    (test-before
+    (test-before (book-test-iff book r) (test-before (plan-legal-iff p) (last-test (number-in-book-iff (book .count) n))) .iff)
+    (test-before Iff·rfl (last-test (output-enough-iff (patternAt book n .used) room))) .iff) (
+      λ ((book-legal, (plan, number)), (suiting, enough)). (
+        record {
+          legal-book = book-legal .0;
+          legal-cycles = book-legal .1;
+          plan = plan;
+          number = number;
+          suiting = tests-mean .suits-10 r (patternAt book n) p n plan .0 suiting;
+        },
+        enough,
+      ),
+      λ (l, enough). (
+        ((l .legal-book, l .legal-cycles), (l .plan, l .number)),
+        (tests-mean .suits-10 r (patternAt book n) p n (l .plan) .1 (l .suiting), enough),
+      ),
+    )
 
 module _ (p : Plan) (W H words : ℕ) where
   -- The tests of a picture: a plan, its sides, and a memory that is long enough.
@@ -43,40 +69,44 @@ module _ (p : Plan) (W H words : ℕ) where
   unfolding wholeBankTest
   bank-test-iff k = test-before picture-test-iff (last-test (bank-below-iff p k)) .iff
 
-  module _ (book : Book) (n : ℕ) where
+  module _ (book : Book) (r n : ℕ) where
+    -- What both fetches test before 10: a book and r, a picture, and a number of the book.
+    pub fetch-first-iff :
+        (fetchFirst book r p W H words n ≡ none) ↔ ((IsBook book × IsCycles r) × (IsPicture p W H words × (n < book .count)))
+    unfolding fetchFirst
+    fetch-first-iff =
+        test-before (book-test-iff book r) (test-before picture-test-iff (last-test (number-in-book-iff (book .count) n))) .iff
+
     -- What both fetches begin with: a legal one.
-    pub fetch-start-iff : (fetchStart book p W H words n ≡ none) ↔ LegalFetch book p W H words n
+    pub fetch-start-iff : (fetchStart book r p W H words n ≡ none) ↔ LegalFetch book r p W H words n
     unfolding fetchStart
     fetch-start-iff =
-        Iff·trans
-        (test-before (book-legal-iff book)
-        (test-before picture-test-iff (test-before (number-in-book-iff (book .count) n) (last-test Iff·rfl))) .iff) (
-          λ h. record {
-            legal-book = h .0;
-            picture = h .1 .0;
-            number = h .1 .1 .0;
-            suiting = suits-iff (h .0) (h .1 .0) (h .1 .1 .0) .0 (h .1 .1 .1);
+        Iff·trans (test-before fetch-first-iff (last-test Iff·rfl) .iff) (
+          λ ((book-legal, (picture, number)), suiting). record {
+            legal-book = book-legal .0;
+            legal-cycles = book-legal .1;
+            picture = picture;
+            number = number;
+            suiting = tests-mean .suits-10 r (patternAt book n) p n (picture .plan) .0 suiting;
           },
-          λ l. (l .legal-book, (l .picture, (l .number, suits-iff (l .legal-book) (l .picture) (l .number) .1 (l .suiting)))),
+          λ l. (
+            ((l .legal-book, l .legal-cycles), (l .picture, l .number)),
+            tests-mean .suits-10 r (patternAt book n) p n (l .picture .plan) .1 (l .suiting),
+          ),
         )
-      where
-        suits-iff :
-            IsBook book → IsPicture p W H words → n < book .count
-            → (suitsTest p n (patternAt book n) ≡ none) ↔ (suits p (pixels (patternAt book n)) ≡ true)
-        suits-iff legal picture number = tests-mean .suits-10 (patternAt book n) p n (legal .each n number) (picture .plan)
 
     -- Fetch: a legal one, every pixel inside, and room. Ring fetch: a legal one, allowed, and room.
     pub fetch-test-iff :
-        (o : Pixel) (room : ℕ) → (fetchTest false book p W H words n o room ≡ none)
-        ↔ (LegalFetch book p W H words n × (AllInside W H (moved (patternAt book n) o) × (patternAt book n .used ≤ room)))
+        (o : Pixel) (room : ℕ) → (fetchTest false book r p W H words n o room ≡ none)
+        ↔ (LegalFetch book r p W H words n × (AllInside W H (moved (patternAt book n) o) × (patternAt book n .used ≤ room)))
     unfolding fetchTest restTest edgeTest
     fetch-test-iff o room =
         test-before fetch-start-iff
         (test-before (all-inside-iff W H (moved (patternAt book n) o)) (last-test (output-enough-iff (patternAt book n .used) room))) .iff
 
     pub ring-fetch-test-iff :
-        (o : Pixel) (room : ℕ) → (fetchTest true book p W H words n o room ≡ none)
-        ↔ (LegalFetch book p W H words n × (RingAllowed p W H × (patternAt book n .used ≤ room)))
+        (o : Pixel) (room : ℕ) → (fetchTest true book r p W H words n o room ≡ none)
+        ↔ (LegalFetch book r p W H words n × (RingAllowed p W H × (patternAt book n .used ≤ room)))
     unfolding fetchTest restTest edgeTest
     ring-fetch-test-iff o room =
         test-before fetch-start-iff

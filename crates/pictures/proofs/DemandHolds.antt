@@ -8,36 +8,36 @@ use mathlib.Core.List.{List, []}
 use lib.ListN.{length, getD, take, replicate, getD-replicate}
 use Rattle.scope.specs.Plans.{patternAt, patterns}
 use Rattle.scope.specs.Banks.{wordIn}
-use Rattle.scope.specs.promises.Meaning.{IsPlan, IsSide, IsBook, IsPicture}
-use Rattle.scope.specs.promises.PlanPromises.{LeastFor}
+use Rattle.scope.specs.promises.Meaning.{IsPlan, IsSide, IsBook, IsCycles, IsPicture}
+use Rattle.scope.specs.promises.CyclePromises.{LeastForCycles}
 use Rattle.scope.specs.promises.PicturePromises.{LegalFetch}
 use Rattle.scope.specs.promises.Demand.{store, clear, load, fetch, Call, write, read, Setting, run, test, lastStored, Allowed}
-use Rattle.scope.specs.promises.Demand.{AllDifferent, banksRead, pictureWords, Demand3}
+use Rattle.scope.specs.promises.Demand.{banksRead, cyclesRead, InCycles, pictureWords, Demand3}
 use Rattle.scope.specs.declared.Plan.{Plan}
 use Rattle.checks.proofs.Lists.{getD-take}
 use Rattle.checks.proofs.Patterns.{patterns-mem}
-use Rattle.lattice.proofs.Suits.{suits-all-iff}
-use Rattle.lattice.proofs.Apart.{fetched-banks-differ}
-use Rattle.finder.proofs.FindAnswers.{find-value-iff}
+use Rattle.lattice.proofs.Classes.{suits-all-for-iff}
+use Rattle.lattice.proofs.Apart.{fetched-in-cycles}
+use Rattle.finder.proofs.FindAnswers.{LegalFind, find-value-iff}
 use Rattle.finder.proofs.Least.{finder-is-least}
 use Rattle.pictures.proofs.CallTests.{word-test-iff, bank-test-iff, fetch-test-iff}
 use Rattle.pictures.proofs.Runs.{Holds, word-inside-picture, run-holds}
 use Rattle.pictures.proofs.Replies.{reply-is-due}
 
-none-different : AllDifferent []
-none-different e l h k = absurd (omega arith)
+none-read : (r : ℕ) → InCycles r [] []
+none-read r =
+    record { as-many = refl; apart = λ e l h k same alike. absurd (omega arith); below = λ e h. absurd (omega arith) }
 
--- The words that a call reads, if it is not turned down, come from banks that are all different.
-banks-apart : (g : Setting) (words : ℕ) (c : Call) → test g words c ≡ none → AllDifferent (banksRead g c)
-unfolding test banksRead
-banks-apart g words (write w) t = none-different
-banks-apart g words (read (load v)) t = none-different
-banks-apart g words (read (fetch n o out)) t =
-    fetched-banks-differ (g .plan) (patternAt (g .book) n) o (legal .picture .plan) (legal .legal-book .each n (legal .number))
-    (legal .suiting)
+-- The words that a call reads, if it is not turned down, come in r cycles, at most one from each bank in each.
+read-in-cycles : (g : Setting) (words : ℕ) (c : Call) → test g words c ≡ none → InCycles (g .r) (banksRead g c) (cyclesRead g c)
+unfolding test banksRead cyclesRead
+read-in-cycles g words (write w) t = none-read (g .r)
+read-in-cycles g words (read (load v)) t = none-read (g .r)
+read-in-cycles g words (read (fetch n o out)) t =
+    fetched-in-cycles (g .r) (g .plan) (patternAt (g .book) n) o (legal .picture .plan) (legal .suiting)
   where
-    legal : LegalFetch (g .book) (g .plan) (g .W) (g .H) words n
-    legal = fetch-test-iff (g .plan) (g .W) (g .H) words (g .book) n o (length out) .0 t .0
+    legal : LegalFetch (g .book) (g .r) (g .plan) (g .W) (g .H) words n
+    legal = fetch-test-iff (g .plan) (g .W) (g .H) words (g .book) (g .r) n o (length out) .0 t .0
 
 -- what is allowed on a picture, with the sides of that picture
 with-sides : {p : Plan} {W H words : ℕ} {P : Type 0} → IsPicture p W H words × P → IsSide W × IsSide H × P
@@ -51,11 +51,11 @@ taken-call-legal g words (write (store v x)) t = with-sides (word-test-iff (g .p
 taken-call-legal g words (write (clear k)) t = with-sides (bank-test-iff (g .plan) (g .W) (g .H) words k .0 t)
 taken-call-legal g words (read (load v)) t = with-sides (word-test-iff (g .plan) (g .W) (g .H) words v .0 t)
 taken-call-legal g words (read (fetch n o out)) t =
-    let (legal, (inside, room)) = fetch-test-iff (g .plan) (g .W) (g .H) words (g .book) n o (length out) .0 t in
+    let (legal, (inside, room)) = fetch-test-iff (g .plan) (g .W) (g .H) words (g .book) (g .r) n o (length out) .0 t in
     with-sides (legal .picture, (legal .number, inside, room))
 
 module _
-    (g : Setting) (legal-book : IsBook (g .book)) (least : LeastFor (g .book) (g .plan))
+    (g : Setting) (legal-book : IsBook (g .book)) (legal-cycles : IsCycles (g .r)) (least : LeastForCycles (g .r) (g .book) (g .plan))
     (words : ℕ) (enough : pictureWords g ≤ words)
   where
     picture : IsSide (g .W) → IsSide (g .H) → IsPicture (g .plan) (g .W) (g .H) words
@@ -69,12 +69,14 @@ module _
     legal-call-taken w h (write (clear k)) below = bank-test-iff (g .plan) (g .W) (g .H) words k .1 (picture w h, below)
     legal-call-taken w h (read (load v)) inside = word-test-iff (g .plan) (g .W) (g .H) words v .1 (picture w h, inside)
     legal-call-taken w h (read (fetch n o out)) allowed =
-        fetch-test-iff (g .plan) (g .W) (g .H) words (g .book) n o (length out) .1 (
+        fetch-test-iff (g .plan) (g .W) (g .H) words (g .book) (g .r) n o (length out) .1 (
           record {
             legal-book = legal-book;
+            legal-cycles = legal-cycles;
             picture = picture w h;
             number = allowed .0;
-            suiting = suits-all-iff (g .plan) (patterns (g .book)) .0 (least .suiting) _ (patterns-mem (g .book) n (allowed .0));
+            suiting =
+                suits-all-for-iff (g .r) (g .plan) (patterns (g .book)) .0 (least .suiting) _ (patterns-mem (g .book) n (allowed .0));
           },
           (allowed .1, allowed .2),
         )
@@ -106,9 +108,9 @@ demand-3 g limit mem calls e enough zeros =
       each =
           λ past c later _. record {
             agrees = reply-is-due g mem past (run g mem past) (since past) c;
-            taken = λ w h allowed. legal-call-taken g legal-book least (length mem) enough w h c allowed;
+            taken = λ w h allowed. legal-call-taken g (legal .legal-book) (legal .legal-cycles) least (length mem) enough w h c allowed;
             only-legal = taken-call-legal g (length mem) c;
-            apart = banks-apart g (length mem) c;
+            in-cycles = read-in-cycles g (length mem) c;
           };
       words = since calls .words;
       others = since calls .others;
@@ -116,11 +118,11 @@ demand-3 g limit mem calls e enough zeros =
       as-long = since calls .as-long;
     }
   where
-    legal-book : IsBook (g .book)
-    legal-book = find-value-iff (g .book) limit (g .plan) .0 e .0 .legal-book
+    legal : LegalFind (g .book) (g .r) limit
+    legal = find-value-iff (g .book) (g .r) limit (g .plan) .0 e .0
 
-    least : LeastFor (g .book) (g .plan)
-    least = finder-is-least (g .book) limit (g .plan) e .0
+    least : LeastForCycles (g .r) (g .book) (g .plan)
+    least = finder-is-least (g .book) (g .r) limit (g .plan) e .0
 
     since : (past : List Call) → Holds g mem (lastStored g (length mem) past) (run g mem past)
     since past = run-holds g (least .plan) mem enough (λ v. 0) mem past (start-holds g mem (least .plan) zeros)

@@ -6,6 +6,7 @@ pub mod Sums  -- the sum of a bank, below 2^64
 pub mod Fetches  -- what a legal fetch gives
 pub mod Pictures  -- a legal call on a picture gives what it is for
 pub mod Runs  -- a run of calls keeps the words last stored in place
+pub mod Positions  -- the positions beside a fetch
 pub mod Replies  -- so each call gives what it is to give
 pub mod DemandHolds  -- demand 3
 pub mod PictureTests  -- the tests 11, 12, 13, what depth and place show, and what a call that writes leaves

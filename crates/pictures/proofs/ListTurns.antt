@@ -11,18 +11,16 @@ use mathlib.Core.List.{List, [], _∷_, _++_, flatMap, append-nil}
 use lib.ListN.{length, getD, take, drop, length-drop, drop-of-length-le}
 use lib.Seq.{drop-drop, getD-drop, length-take-le, take-all}
 use Rattle.scope.specs.Search.{stateAfter, repliesOf}
-use Rattle.scope.specs.Calls.{fetchStart}
-use Rattle.pictures.specs.Fetching.{foundBy}
-use Rattle.pictures.proofs.Starts.{found-by, starts-alike}
 use Rattle.scope.specs.Banks.{overStart}
-use Rattle.scope.specs.promises.Demand.{Call, Reply, Setting, after, reply, run, replies}
-use Rattle.pictures.specs.Lists.{callOf, callAt, roomOf, roomAt, callsFrom, callsOf, listFault, listTest, listedBy, leftBy, replyNumbers, outputOf, Buffers, buffers, madeList, runList, Begun, OneMade}
+use Rattle.scope.specs.promises.Demand.{Call, Setting, after, reply, run, replies}
+use Rattle.pictures.specs.Lists.{callOf, callAt, roomOf, roomAt, callsFrom, callsOf, listFault, listTest, listedBy, leftBy, replyNumbers, outputOf, Buffers, buffers, madeList, runList, BegunAt, noStart, Begun, OneMade}
 use Rattle.pictures.specs.declared.lists.Listed.{Listed}
 use Rattle.checks.proofs.Chains.{Gives}
 use Rattle.scope.specs.declared.Book.{Book}
-use Rattle.scope.specs.declared.Outcome.{Outcome}
 use Rattle.scope.specs.declared.Plan.{Plan}
-use Rattle.pictures.proofs.ReplyRows.{length-reply}
+use Rattle.finder.specs.declared.clash.Suited.{Suited}
+use Rattle.pictures.proofs.Starts.{starts-alike}
+use Rattle.pictures.proofs.ReplyRows.{length-reply, row-long}
 use Rattle.pictures.proofs.ListFaults.{room-at, fault-goes-on}
 use Rattle.pictures.proofs.Stretches.{overFrom, nothing-put, put-after, after-stretch, stretch-length}
 use Rattle.pictures.proofs.MadeCalls.{output-own}
@@ -80,7 +78,7 @@ module _ (g : Setting) (calls : List Call) (mem₀ outs₀ rows₀ : List ℕ) w
         outputs =
             put-after outs (outputOf (reply g mem c)) at r room size (flatMap outputOf (replies g (after g mem c) rest)) ∙ w .outputs;
         answers =
-            put-after rows (replyNumbers (reply g mem c)) q 12 fits (length-reply (reply g mem c))
+            put-after rows (replyNumbers (reply g mem c)) q 12 fits (length-reply g mem c)
             (flatMap replyNumbers (replies g (after g mem c) rest))
             ∙ w .answers;
       }
@@ -193,7 +191,7 @@ module _ (g : Setting) (numbers mem₀ outs₀ rows₀ : List ℕ) where
           outs-size = stretch-length outs end at r room-end end-long
 
           rows-size : length (take q rows ++ (row ++ drop 12 (drop q rows))) ≡ length rows
-          rows-size = stretch-length rows row q 12 row-fits (ap length (made .row-is) ∙ length-reply (reply g mem c))
+          rows-size = stretch-length rows row q 12 row-fits (row-long made)
 
       -- The same as the loop has it: the room and the call's numbers read from the list, the outputs lent on from `at` to the end
       -- of the call's own, the replies lent on from q to their end.
@@ -225,33 +223,21 @@ module _ (g : Setting) (numbers mem₀ outs₀ rows₀ : List ℕ) where
         unfolding overStart
         going-on {row} {next} {end} {tail} next-long made end-long tail-is =
             let own-made : OneMade g mem (callAt xs old) old row next end = rw (call-of numbers k old) (rw part-is at made) in
-            let twelve-long : length row ≡ 12 = ap length (own-made .row-is) ∙ length-reply (reply g mem (callAt xs old)) in
+            let twelve-long : length row ≡ 12 = row-long own-made in
             let tail-row : tail ++ drop (length rows - q) (drop q rows) ≡ row ++ drop 12 (drop q rows) =
             ap₂ {C = List ℕ} _++_ (tail-is ∙ ap₂ (λ (n : ℕ) (ys : List ℕ). row ++ drop n ys) twelve-long rows-part) no-rows-after
             ∙ append-nil (row ++ drop 12 (drop q rows)) in
             rw (part-is, own-room, tail-row)
             (going-turn own-made next-long (end-long ∙ ap (λ (n : ℕ). length (take n (drop at outs))) part-is ∙ old-long))
 
--- What was found out once holds on a memory of the same length.
-pub begun-on :
-    {book : Book} {p : Plan} {W H words n : ℕ} {starts : List Outcome} → n ≡ words → Begun book p W H words starts
-    → Begun book p W H n starts
-begun-on e b = rw e b
-
--- and tells what a fetch of any pattern number begins with
-pub start-known :
-    (book : Book) (p : Plan) (W H words n : ℕ) (starts : List Outcome) {s : ℕ} → Begun book p W H words starts → s ≡ min n 16
-    → foundBy (getD starts s Outcome.Done) ≡ fetchStart book p W H words n
-start-known book p W H words n starts {s} b e = by-number (decLt n 16)
-  where
-    by-number : Dec (n < 16) → foundBy (getD starts s Outcome.Done) ≡ fetchStart book p W H words n
-    by-number (yes h) =
-        let is : s ≡ n = omega arith in
-        found-by _ (ap (λ (m : ℕ). getD starts m Outcome.Done) is ∙ b .found n (omega arith))
-    by-number (no h) =
-        let is : s ≡ 16 = omega arith in
-        found-by _ (ap (λ (m : ℕ). getD starts m Outcome.Done) is ∙ b .found 16 (omega arith))
-        ∙ starts-alike book n p W H words (omega arith)
+-- What was found out once holds on a memory of the same length, and tells what a fetch of any pattern number begins with.
+module _ (book : Book) (r : ℕ) (p : Plan) (W H : ℕ) {words memory : ℕ} (n : ℕ) (starts : List Suited) where
+  pub start-known : {s : ℕ} → memory ≡ words → Begun book r p W H words starts → s ≡ min n 16 → BegunAt book r p W H memory n (getD starts s noStart)
+  start-known {s} long b e = rw long (by-number (decLt n 16))
+    where
+      by-number : Dec (n < 16) → BegunAt book r p W H words n (getD starts s noStart)
+      by-number (yes h) = let is : s ≡ n = omega arith in rw is (b .found n (omega arith))
+      by-number (no h) = let is : s ≡ 16 = omega arith in rw is (starts-alike book r p W H words n (omega arith) (b .found 16 (omega arith)))
 
 -- A list that passes its test is made, and one that does not is answered with what is wrong, and nothing changes.
 module _ (g : Setting) (numbers : List ℕ) (b : Buffers) where

@@ -2,33 +2,32 @@
 -- Assumes nothing.
 use Prim.Native.Nat.{ℕ, zero, suc, _%_}
 use native.Mathlib.Omega.{arith}
-use mathlib.Core.Path.{_≡_, refl, sym, _∙_, ap, ap₂}
+use mathlib.Core.Path.{_≡_, refl, _∙_, ap, ap₂}
 use mathlib.Core.Bool.{false}
-use mathlib.Core.Option.{Option}
 use mathlib.Core.List.{List, [], _∷_}
 use lib.ListN.{length, getD, take}
 use borrow.Author.Tests.{ne-eqb}
 use Rattle.scope.specs.Plans.{Pixel, at}
-use Rattle.scope.specs.Numbers.{ofCounted, ofLoaded, ofOutcome}
+use Rattle.scope.specs.Numbers.{withPositions, ofCounted, ofLoaded, ofOutcome, ofFetch}
 use Rattle.scope.specs.Calls as Calls
-use Rattle.scope.specs.Calls.{Result, Lent, lent, fetchStart, fetchRest, eitherFetch}
-use Rattle.scope.specs.promises.Demand.{Call, read, fetch, Setting, writeResult, readReply, reply, after}
+use Rattle.scope.specs.Calls.{Result, Lent, lent, fetchRest}
+use Rattle.scope.specs.promises.Demand.{fetch, Setting, writeResult, readReply, reply, after}
 use Rattle.scope.specs.declared.Book.{Book}
 use Rattle.scope.specs.declared.Counted.{Counted}
 use Rattle.scope.specs.declared.Loaded.{Loaded}
 use Rattle.scope.specs.declared.Outcome.{Outcome}
 use Rattle.scope.specs.declared.Pattern.{Pattern}
 use Rattle.scope.specs.declared.Plan.{Plan}
-use Rattle.scope.specs.declared.Refusal.{Refusal}
 use Rattle.checks.proofs.Chains.{Gives}
-use Rattle.pictures.specs.Fetching.{entryFor}
-use Rattle.pictures.specs.Lists.{setting, coordinateOf, callOf, callAt, roomOf, roomAt, answerNumbers, twelve, replyNumbers, outputOf, stretchAfter, OneMade}
+use Rattle.finder.specs.declared.clash.Suited.{Suited}
+use Rattle.pictures.specs.Fetching.{foundBy, entryFor}
+use Rattle.pictures.specs.Lists.{setting, coordinateOf, callOf, callAt, roomOf, roomAt, answerNumbers, twelve, replyNumbers, outputOf, stretchAfter, BegunAt, OneMade}
 use Rattle.pictures.proofs.Starts.{fetched-by-entry}
 use Rattle.pictures.proofs.WholeBanks.{Leaves}
 
-module _ (book : Book) (p : Plan) (W H : ℕ) (mem : List ℕ) (kind i j n : ℕ) (out : List ℕ) where
+module _ (book : Book) (r : ℕ) (p : Plan) (W H : ℕ) (mem : List ℕ) (kind i j n : ℕ) (out : List ℕ) where
   abbrev Makes : List ℕ → List ℕ → List ℕ → Type 0
-  Makes row next end = OneMade (setting book p W H) mem (callOf kind i j n out) out row next end
+  Makes row next end = OneMade (setting book r p W H) mem (callOf kind i j n out) out row next end
 
   abbrev told : Outcome → List ℕ
   told o = twelve (answerNumbers (λ x. []) (ofOutcome o))
@@ -71,17 +70,22 @@ module _ (book : Book) (p : Plan) (W H : ℕ) (mem : List ℕ) (kind i j n : ℕ
 
     -- a fetch, with what it begins with and the record that stands for its pattern
     pub fetch-made :
-        {start : Option Refusal} {t : Pattern} {answer : Counted} {end row : List ℕ}
+        {start : Suited} {t : Pattern} {counted : Counted} {end row : List ℕ}
         → (kind ≡ 0 → ⊥) → (kind ≡ 1 → ⊥) → (kind ≡ 2 → ⊥)
-        → start ≡ fetchStart book p W H (length mem) n → t ≡ entryFor book n
-        → Gives (fetchRest start false t p W H mem v out) answer end
-        → row ≡ twelve (answerNumbers (λ m. m ∷ []) (ofCounted answer))
+        → BegunAt book r p W H (length mem) n start → t ≡ entryFor book n
+        → Gives (fetchRest (foundBy (start .outcome)) false t p W H mem v out) counted end
+        → row ≡ twelve (answerNumbers (λ m. m ∷ []) (ofFetch r (record { counted = counted; positions = start .positions })))
         → Makes row mem end
     unfolding callOf reply readReply after replyNumbers Calls.fetch
-    fetch-made {start} {t} {answer} {end} {row} no-store no-clear no-load start-is entry gives row-is =
-        let (number, words) = fetched-by-entry false book p W H mem n (at (coordinateOf i) (coordinateOf j)) out start-is entry handed gives in
+    fetch-made {start} {t} {counted} {end} {row} no-store no-clear no-load begun entry gives row-is =
+        let ((number, positions), words) =
+        fetched-by-entry false book r p W H mem n (at (coordinateOf i) (coordinateOf j)) out begun entry handed gives in
         rw (ne-eqb kind 0 no-store, ne-eqb kind 1 no-clear, ne-eqb kind 2 no-load) (record {
-          row-is = row-is ∙ ap (λ (c : Counted). twelve (answerNumbers (λ m. m ∷ []) (ofCounted c))) number;
+          row-is =
+              row-is
+              ∙ ap₂ (λ (c : Counted) (es : List ℕ). twelve (answerNumbers (λ m. m ∷ []) (withPositions (take (suc r) es) (ofCounted c))))
+              number
+              positions;
           memory-is = refl;
           output-is = words;
         })

@@ -26,7 +26,7 @@ use Rattle.pictures.proofs.Memory.{bankEnd, bank-in-picture, store-puts
 use Rattle.pictures.proofs.Memory.{clear-zeros, clear-before, clear-after, clear-past, clear-length}
 use Rattle.pictures.proofs.Sums.{bank-sum-is-total, total-below}
 use Rattle.pictures.proofs.CallTests.{word-test-iff, bank-test-iff}
-use Rattle.pictures.proofs.Fetches.{fetch-gives, ring-fetch-gives}
+use Rattle.pictures.proofs.Fetches.{fetch-gives, ring-fetch-gives, cycles-given}
 
 -- a call that changes what it was lent and whose tests found nothing is done, and leaves the new content
 module _ {X : Type 0} {t : Option Refusal} (old new : X) (passed : t ≡ none) where
@@ -132,7 +132,8 @@ picture-calls =
       clears = clear-gives;
       sums = sum-gives;
       sum-fits = sum-below;
-      fetches = λ book p W H mem n o out legal inside enough. fetch-gives book p W H mem n o out legal enough inside;
-      ring-fetches = λ book p W H mem n o out legal allowed enough. ring-fetch-gives book p W H mem n o out legal enough allowed;
+      fetches = λ book r p W H mem n o out legal inside enough. fetch-gives book r p W H mem n o out legal enough inside;
+      ring-fetches = λ book r p W H mem n o out legal allowed enough. ring-fetch-gives book r p W H mem n o out legal enough allowed;
+      writes-cycles = cycles-given;
       fills = fill-gives;
     }

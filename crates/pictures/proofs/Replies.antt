@@ -7,17 +7,18 @@ use mathlib.Core.List.{List, [], _∷_, map, List·Memᴰ, List·Memᴰ·head, L
 use lib.ListN.{length}
 use Rattle.scope.specs.Plans.{Pixel, patternAt}
 use Rattle.scope.specs.Banks.{wordIn, overStart}
-use Rattle.scope.specs.Numbers.{Answer, value, turnedDown, ofCounted, ofLoaded, ofOutcome}
+use Rattle.scope.specs.Numbers.{Answer, value, turnedDown, withPositions, ofCounted, ofLoaded, ofOutcome}
 use Rattle.scope.specs.Calls as Calls
-use Rattle.scope.specs.Calls.{Result, Lent, lent, answered, changed, moved, pixelsRead, fetchRest, fetchTest, eitherFetch}
+use Rattle.scope.specs.Calls.{Result, Lent, lent, answered, changed, moved, besideClash, pixelsRead, fetchRest, fetchTest, eitherFetch}
 use Rattle.scope.specs.promises.Meaning.{AllInside}
 use Rattle.scope.specs.promises.Demand.{load, fetch, Call, write, read, Setting, test, lastStored}
-use Rattle.scope.specs.promises.Demand.{wrote, loaded, fetched, readReply, reply, replyDue}
+use Rattle.scope.specs.promises.Demand.{wrote, loaded, fetched, readReply, reply, refusedFetch, replyDue}
 use Rattle.scope.specs.declared.Refusal.{Refusal}
 use Rattle.scope.specs.declared.Counted.{Counted}
 use Rattle.scope.specs.declared.Outcome.{Outcome}
 use Rattle.checks.proofs.Chains.{changed-answer, changed-content}
 use Rattle.pictures.proofs.CallTests.{word-test-iff, fetch-test-iff}
+use Rattle.pictures.proofs.Positions.{told, told-as-due}
 use Rattle.pictures.proofs.Runs.{Holds, write-is}
 
 -- two maps that agree on each entry give the same list
@@ -37,24 +38,26 @@ module _ {t s : Option Refusal} (same : t ≡ s) where
       by-test none k = k refl
       by-test (some r) k = refl
 
-  -- and so in numbers and values
+  -- and so in numbers and values, where a refusal is told as it is due
   read-answer :
-      {X A : Type 0} (of : X → Answer A) {refused : Refusal → X} {x : X} {y : Answer A}
-      → ((r : Refusal) → of (refused r) ≡ turnedDown r) → (s ≡ none → of x ≡ y)
-      → of (answered t refused x) ≡ answered s turnedDown y
+      {X A : Type 0} (of : X → Answer A) {refused : Refusal → X} (due : Refusal → Answer A) {x : X} {y : Answer A}
+      → ((f : Refusal) → s ≡ some f → of (refused f) ≡ due f) → (s ≡ none → of x ≡ y)
+      → of (answered t refused x) ≡ answered s due y
   unfolding answered
-  read-answer of {refused} {x} reads h = by-test t ∙ same-answers turnedDown h
+  read-answer {X} {A} of {refused} due {x} {y} reads h = ap (λ (u : Option Refusal). of (answered u refused x)) same ∙ by-test s reads h
     where
-      by-test : (u : Option Refusal) → of (answered u refused x) ≡ answered u turnedDown (of x)
-      by-test none = refl
-      by-test (some r) = reads r
+      by-test :
+          (u : Option Refusal) → ((f : Refusal) → u ≡ some f → of (refused f) ≡ due f) → (u ≡ none → of x ≡ y)
+          → of (answered u refused x) ≡ answered u due y
+      by-test none reads k = k refl
+      by-test (some f) reads k = reads f refl
 
   -- of a call that changes what it was lent
   read-changed :
-      {X A Y : Type 0} (of : X → Answer A) {refused : Refusal → X} (old new : Y) {x : X} {y : Answer A}
-      → ((r : Refusal) → of (refused r) ≡ turnedDown r) → (s ≡ none → of x ≡ y)
-      → of (changed t refused old x new .answer) ≡ answered s turnedDown y
-  read-changed of {refused} old new {x} reads h = ap of (changed-answer t refused old x new) ∙ read-answer of reads h
+      {X A Y : Type 0} (of : X → Answer A) {refused : Refusal → X} (due : Refusal → Answer A) (old new : Y) {x : X} {y : Answer A}
+      → ((f : Refusal) → s ≡ some f → of (refused f) ≡ due f) → (s ≡ none → of x ≡ y)
+      → of (changed t refused old x new .answer) ≡ answered s due y
+  read-changed of {refused} due old new {x} reads h = ap of (changed-answer t refused old x new) ∙ read-answer of due reads h
 
   read-content :
       {X Y : Type 0} (refused : Refusal → X) (old : Y) (x : X) {new expected : Y} → (s ≡ none → new ≡ expected)
@@ -76,17 +79,22 @@ module _
 
     -- The call's answer, and a fetch's output, are what the conditions and the words last stored tell.
     pub reply-is-due : (c : Call) → reply g mem c ≡ replyDue g (length start) past c
-    unfolding reply readReply replyDue test Calls.load Calls.fetch eitherFetch fetchRest fetchTest pixelsRead
+    unfolding reply readReply replyDue test Calls.load Calls.fetch eitherFetch besideClash fetchRest fetchTest pixelsRead
     reply-is-due (write w) =
         ap wrote
         (ap (λ (r : Result Outcome Lent). ofOutcome (r .answer)) (write-is g mem w)
-        ∙ read-changed (same-test (write w)) ofOutcome (lent mem) _ (λ r. refl) (λ e. refl))
+        ∙ read-changed (same-test (write w)) ofOutcome turnedDown (lent mem) _ (λ f e. refl) (λ e. refl))
     reply-is-due (read (load v)) =
         ap loaded
-        (read-answer (same-test (read (load v))) ofLoaded (λ r. refl)
+        (read-answer (same-test (read (load v))) ofLoaded turnedDown (λ f e. refl)
         (λ e. ap value (h .words v (word-test-iff (g .plan) (g .W) (g .H) (length start) v .0 e .1))))
     reply-is-due (read (fetch n o out)) =
-        ap₂ fetched (read-changed (same-test (read (fetch n o out))) ofCounted out _ (λ r. refl) (λ e. refl))
-        (read-content (same-test (read (fetch n o out))) Counted.Refused out _ (λ e. ap (λ (xs : List ℕ). overStart xs out)
+        let same = same-test (read (fetch n o out)) in
+        ap₂ fetched
+        (read-changed same
+        (λ (c : Counted). withPositions (told (g .book) (g .r) (g .plan) (g .W) (g .H) (length mem) n) (ofCounted c)) (refusedFetch g n)
+        out _
+        (λ f e. told-as-due g n f (length mem) o (length out) (same ∙ e)) (λ e. refl))
+        (read-content same Counted.Refused out _ (λ e. ap (λ (xs : List ℕ). overStart xs out)
         (words-due (moved (patternAt (g .book) n) o)
-        (fetch-test-iff (g .plan) (g .W) (g .H) (length start) (g .book) n o (length out) .0 e .1 .0))))
+        (fetch-test-iff (g .plan) (g .W) (g .H) (length start) (g .book) (g .r) n o (length out) .0 e .1 .0))))

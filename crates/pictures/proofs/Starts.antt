@@ -1,38 +1,40 @@
--- What a fetch begins with: its outcome by the test that refuses, what the outcome tells, and that the record which stands for
--- the pattern's number is then that pattern's own.
+-- What a fetch begins with: what its first tests find and the positions of the clash, by the test that refuses; what that tells; and
+-- that the record which stands for the pattern's number is then that pattern's own.
 -- Assumes nothing.
 use Prim.Native.Nat.{ℕ, _≤_, _<_}
 use native.Mathlib.Omega.{arith}
 use mathlib.Core.Path.{_≡_, refl, sym, _∙_, ap}
 use mathlib.Core.Bool.{Bool, true, false}
-use mathlib.Core.Logic.{Iff·rfl}
 use mathlib.Core.Option.{Option, none, some}
 use mathlib.Core.List.{List, [], _∷_}
-use lib.ListN.{length}
+use lib.ListN.{length, replicate}
 use Rattle.scope.specs.Search.{firstOf}
-use Rattle.scope.specs.Plans.{Pixel, patternAt, isPlan}
-use Rattle.scope.specs.Numbers.{recordTest, numberTest, countTest, planTest, suitsTest}
-use Rattle.scope.specs.Calls.{pictureTest, fetchStart, fetchRest, eitherFetch, fetch, ringFetch}
+use Rattle.scope.specs.Plans.{Pixel, patternAt, pixels}
+use Rattle.scope.specs.Cycles.{LongClash, clashInFor}
+use Rattle.scope.specs.Numbers.{numberTest, suitsTest, places}
+use Rattle.scope.specs.Calls.{Result, bookTest, pictureTest, clashBeside, besideClash, fetchFirst, fetchStart, fetchRest, eitherFetch, fetch, ringFetch}
 use Rattle.scope.specs.declared.Book.{Book}
 use Rattle.scope.specs.declared.Counted.{Counted}
+use Rattle.scope.specs.declared.FetchAnswer.{FetchAnswer}
 use Rattle.scope.specs.declared.Outcome.{Outcome}
 use Rattle.scope.specs.declared.Outcome.the-variants.{Done, Refused}
 use Rattle.scope.specs.declared.Pattern.{Pattern}
 use Rattle.scope.specs.declared.Plan.{Plan}
 use Rattle.scope.specs.declared.Refusal.{Refusal}
 use Rattle.scope.specs.declared.Refusal.the-variants.{NoPattern}
-use Rattle.scope.proofs.PlanFacts.{is-plan-iff}
-use Rattle.checks.proofs.Booleans.{last-test, test-before}
-use Rattle.checks.proofs.BookTests.{book-legal-iff, count-legal-iff}
+use Rattle.checks.proofs.BookTests.{book-test-iff}
 use Rattle.checks.proofs.Chains.{chain-refuses, chain-goes-on, chain-of-one, Gives, same-gives}
+use Rattle.checks.proofs.ClashAnswers.{beside-none, beside-some}
 use Rattle.checks.proofs.Deciding.{number-decides}
-use Rattle.checks.proofs.Searches.{none-not-some}
-use Rattle.checks.proofs.Tests.{number-in-book-iff, plan-legal-iff}
 use Rattle.book.specs.Scan.{outcomeOf, entryNumber}
 use Rattle.book.proofs.Outcomes.{answered-by-refusal, done-found-nothing, refused-found}
 use Rattle.book.proofs.Scanning.{entry-number-is}
-use Rattle.finder.specs.Clashing.{suitsOutcome}
-use Rattle.pictures.specs.Fetching.{foundBy, entryFor, startTest}
+use Rattle.finder.specs.Clashing.{singleTest, suitsOutcome, suitsPositions}
+use Rattle.finder.specs.declared.clash.Suited.{Suited}
+use Rattle.finder.proofs.MetAnswers.{SingleLegal, single-legal-iff, only-10, only-clash}
+use Rattle.pictures.specs.Fetching.{foundBy, entryFor, firstTest, startTest, startPositions}
+use Rattle.pictures.specs.Lists.{BegunAt}
+use Rattle.pictures.proofs.CallTests.{picture-test-iff, fetch-first-iff, fetch-start-iff}
 use Rattle.pictures.proofs.Deliveries.{rest-alike}
 
 -- An outcome says what its tests found.
@@ -45,154 +47,202 @@ entry-below : (book : Book) (n : ℕ) → n < 16 → entryFor book n ≡ pattern
 unfolding entryFor
 entry-below book n h = ap (patternAt book) (entry-number-is n h)
 
-module _ (tested picture : Option Refusal) (count : ℕ) (t : Pattern) (p : Plan) (n : ℕ) where
-  abbrev start : Option Refusal
-  start = startTest tested picture count t p n
+module _ (tested picture : Option Refusal) (count : ℕ) (t : Pattern) (r : ℕ) (p : Plan) (n : ℕ) where
+  abbrev before : Option Refusal
+  before = firstTest tested picture count n
 
   abbrev number : Option Refusal
   number = numberTest count n
 
   abbrev suiting : Option Refusal
-  suiting = suitsTest p n t
+  suiting = suitsTest r p n t
 
-  -- The outcome, by the test that refuses.
-  pub refused-by-tested : {r : Refusal} → tested ≡ some r → Refused r ≡ outcomeOf start
-  unfolding startTest
-  refused-by-tested {r} e = answered-by-refusal start r (chain-refuses tested (picture ∷ number ∷ suiting ∷ []) r e)
+  abbrev found : Option LongClash
+  found = clashInFor r p n (pixels t)
+
+  -- what a fetch begins with, as the code has it
+  abbrev pub Begins : Outcome → List ℕ → Type 0
+  Begins outcome positions =
+      (outcome ≡ outcomeOf (startTest tested picture count t r p n)) × (positions ≡ startPositions tested picture count t r p n)
+
+  -- A test before 10 refuses,
+  refused-before : {f : Refusal} → before ≡ some f → Begins (Refused f) (replicate 9 0)
+  unfolding startTest startPositions places
+  refused-before {f} e =
+      (answered-by-refusal _ f (chain-refuses before (suiting ∷ []) f e), sym (beside-some before found f e))
+
+  pub refused-by-tested : {f : Refusal} → tested ≡ some f → Begins (Refused f) (replicate 9 0)
+  unfolding firstTest
+  refused-by-tested {f} e = refused-before (chain-refuses tested (picture ∷ number ∷ []) f e)
 
   module _ (legal : tested ≡ none) where
-    past-tested : start ≡ firstOf (picture ∷ number ∷ suiting ∷ [])
-    unfolding startTest
-    past-tested = chain-goes-on tested (picture ∷ number ∷ suiting ∷ []) legal
-
-    pub refused-by-picture : {r : Refusal} → picture ≡ some r → Refused r ≡ outcomeOf start
-    refused-by-picture {r} e = answered-by-refusal start r (past-tested ∙ chain-refuses picture (number ∷ suiting ∷ []) r e)
+    pub refused-by-picture : {f : Refusal} → picture ≡ some f → Begins (Refused f) (replicate 9 0)
+    unfolding firstTest
+    refused-by-picture {f} e =
+        refused-before (chain-goes-on tested (picture ∷ number ∷ []) legal ∙ chain-refuses picture (number ∷ []) f e)
 
     module _ (here : picture ≡ none) where
-      past-picture : start ≡ firstOf (number ∷ suiting ∷ [])
-      past-picture = past-tested ∙ chain-goes-on picture (number ∷ suiting ∷ []) here
+      past-picture : before ≡ number
+      unfolding firstTest
+      past-picture =
+          chain-goes-on tested (picture ∷ number ∷ []) legal ∙ chain-goes-on picture (number ∷ []) here ∙ chain-of-one number
 
-      pub refused-by-number : count ≤ n → Refused NoPattern ≡ outcomeOf start
-      refused-by-number h =
-          answered-by-refusal start NoPattern
-          (past-picture ∙ chain-refuses number (suiting ∷ []) NoPattern (number-decides count n .refuses (λ below. omega arith)))
+      pub refused-by-number : count ≤ n → Begins (Refused NoPattern) (replicate 9 0)
+      refused-by-number h = refused-before (past-picture ∙ number-decides count n .refuses (λ below. omega arith))
 
-      -- the plan and the pattern's pixel count have been tested: what is left is whether the plan suits
+      -- or what is left is whether the plan suits.
       pub as-it-suits :
-          {answer : Outcome} → (1 ≤ t .used) × (t .used ≤ 64) → isPlan p ≡ true → n < count → answer ≡ suitsOutcome p n t
-          → answer ≡ outcomeOf start
-      unfolding suitsOutcome
-      as-it-suits size plan below is = is ∙ ap outcomeOf (only-10 ∙ sym past-number)
-        where
-          only-10 : firstOf (countTest 64 (t .used) 0 ∷ planTest p ∷ suiting ∷ []) ≡ suiting
-          only-10 =
-              chain-goes-on (countTest 64 (t .used) 0) (planTest p ∷ suiting ∷ []) (count-legal-iff 64 (t .used) 0 .1 size)
-              ∙ chain-goes-on (planTest p) (suiting ∷ []) (plan-legal-iff p .1 (is-plan-iff p .0 plan))
-              ∙ chain-of-one suiting
+          {outcome : Outcome} {positions : List ℕ} → SingleLegal p t r → n < count → outcome ≡ suitsOutcome p n t r
+          → positions ≡ suitsPositions p n t r → Begins outcome positions
+      unfolding startTest startPositions
+      as-it-suits legal below is are =
+          let single : singleTest p t r ≡ none = single-legal-iff p t r .1 legal in
+          let passed : before ≡ none = past-picture ∙ number-decides count n .passes below in (
+            is ∙ only-10 p n t r single ∙ sym (ap outcomeOf (chain-goes-on before (suiting ∷ []) passed ∙ chain-of-one suiting)),
+            are ∙ only-clash p n t r single ∙ sym (beside-none before found passed),
+          )
 
-          past-number : start ≡ suiting
-          past-number = past-picture ∙ chain-goes-on number (suiting ∷ []) (number-decides count n .passes below) ∙ chain-of-one suiting
+-- The test for 10 and its clash count only where the tests before find nothing.
+module _
+    (r : ℕ) (p : Plan) {first first′ : Option Refusal} (n n′ : ℕ) (t t′ : Pattern) (same : first ≡ first′)
+    (alike : first′ ≡ none → (n ≡ n′) × (t ≡ t′))
+  where
+    abbrev SameBegin : Type 0
+    SameBegin =
+        (firstOf (first ∷ suitsTest r p n t ∷ []) ≡ firstOf (first′ ∷ suitsTest r p n′ t′ ∷ []))
+        × (clashBeside first (clashInFor r p n (pixels t)) ≡ clashBeside first′ (clashInFor r p n′ (pixels t′)))
 
--- the last of four tests counts only where the first and the third find nothing
-last-alike :
-    (a b c : Option Refusal) {d e : Option Refusal} → (a ≡ none → c ≡ none → d ≡ e)
-    → firstOf (a ∷ b ∷ c ∷ d ∷ []) ≡ firstOf (a ∷ b ∷ c ∷ e ∷ [])
-unfolding firstOf
-last-alike (some r) b c h = refl
-last-alike none (some r) c h = refl
-last-alike none none (some r) h = refl
-last-alike none none none h = rw (h refl refl) refl
+    same-begin : SameBegin
+    same-begin = by-first first′ refl
+      where
+        by-first : (o : Option Refusal) → first′ ≡ o → SameBegin
+        by-first none e = (cc (same, alike e .0, alike e .1), cc (same, alike e .0, alike e .1))
+        by-first (some f) e = (
+          chain-refuses first (suitsTest r p n t ∷ []) f (same ∙ e) ∙ sym (chain-refuses first′ (suitsTest r p n′ t′ ∷ []) f e),
+          beside-some first _ f (same ∙ e) ∙ sym (beside-some first′ _ f e),
+        )
 
 -- the entry that the code takes
 pub entry-is : (book : Book) (n : ℕ) {k : ℕ} → k ≡ entryNumber n → patternAt book k ≡ entryFor book n
 unfolding entryFor
 entry-is book n e = ap (patternAt book) e
 
-module _ (book : Book) (n : ℕ) where
+module _ (book : Book) (r n : ℕ) where
   -- the record that stands for a number of a legal book is that pattern's, and its pixel count is legal
-  entry-own : recordTest book ≡ none → n < book .count → entryFor book n ≡ patternAt book n
-  entry-own passed below = entry-below book n (omega (arith, book-legal-iff book .0 passed .most))
-
   pub entry-size :
-      {tested : Option Refusal} {t : Pattern} → tested ≡ recordTest book → t ≡ entryFor book n → tested ≡ none → n < book .count
-      → (1 ≤ t .used) × (t .used ≤ 64)
-  entry-size found entry e below =
-      let passed = sym found ∙ e in
-      let legal = book-legal-iff book .0 passed .each n below in
-      rw (entry ∙ entry-own passed below) (legal .least, legal .most)
+      {tested : Option Refusal} {t : Pattern} → tested ≡ bookTest book r → t ≡ entryFor book n → tested ≡ none
+      → (1 ≤ r) × (r ≤ 8) × (n < book .count → (1 ≤ t .used) × (t .used ≤ 64))
+  entry-size found entry e =
+      let (legal, cycles) = book-test-iff book r .0 (sym found ∙ e) in (
+        cycles .0,
+        cycles .1,
+        λ below.
+            let own = entry-below book n (omega (arith, legal .most)) in
+            rw (entry ∙ own) (legal .each n below .least, legal .each n below .most),
+      )
 
-  -- With what the tests of the book and of the picture found, and that record, it is the chain that both fetches begin with.
-  pub start-is :
-      (p : Plan) (W H words : ℕ) {tested picture : Option Refusal} {t : Pattern} {answer : Outcome}
-      → tested ≡ recordTest book → picture ≡ pictureTest p W H words → t ≡ entryFor book n
-      → answer ≡ outcomeOf (startTest tested picture (book .count) t p n)
-      → answer ≡ outcomeOf (fetchStart book p W H words n)
-  unfolding fetchStart startTest
-  start-is p W H words {tested} {picture} {t} book-found picture-found entry is =
-      is
-      ∙ ap outcomeOf
-      (cc (book-found, picture-found, entry)
-      ∙ last-alike (recordTest book) (pictureTest p W H words) (numberTest (book .count) n)
-      (λ passed in-book. ap (suitsTest p n) (entry-own passed (number-in-book-iff (book .count) n .0 in-book))))
+  module _ (p : Plan) (W H words : ℕ) where
+    abbrev first : Option Refusal
+    first = fetchFirst book r p W H words n
 
-  -- From 16 on all numbers begin alike.
-  pub starts-alike : (p : Plan) (W H words : ℕ) → 16 ≤ n → fetchStart book p W H words 16 ≡ fetchStart book p W H words n
-  unfolding fetchStart firstOf
-  starts-alike p W H words h = by-tests (recordTest book) refl
-    where
-      by-tests :
-          (a : Option Refusal) → recordTest book ≡ a →
-          let b = pictureTest p W H words in
-          firstOf (a ∷ b ∷ numberTest (book .count) 16 ∷ suitsTest p 16 (patternAt book 16) ∷ [])
-          ≡ firstOf (a ∷ b ∷ numberTest (book .count) n ∷ suitsTest p n (patternAt book n) ∷ [])
-      by-tests (some r) e = refl
-      by-tests none e =
-          let most : book .count ≤ 16 = book-legal-iff book .0 e .most in
-          rw
-          (number-decides (book .count) 16 .refuses (λ below. omega arith), number-decides (book .count) n .refuses (λ below. omega arith))
-          (last-alike none (pictureTest p W H words) (some NoPattern) {d = suitsTest p 16 (patternAt book 16)} {e = suitsTest p n (patternAt book n)} (λ _ found. absurd (none-not-some (sym found))))
+    entry-own : first ≡ none → entryFor book n ≡ patternAt book n
+    entry-own passed =
+        let ((legal, _), (_, below)) = fetch-first-iff p W H words book r n .0 passed in
+        entry-below book n (omega (arith, legal .most))
+
+    -- With what the tests of the book and of the picture found, and that record, it is what both fetches begin with.
+    pub start-is :
+        {tested picture : Option Refusal} {t : Pattern} {start : Suited} → tested ≡ bookTest book r
+        → picture ≡ pictureTest p W H words → t ≡ entryFor book n
+        → Begins tested picture (book .count) t r p n (start .outcome) (start .positions)
+        → BegunAt book r p W H words n start
+    unfolding fetchStart fetchFirst startTest startPositions firstTest
+    start-is {tested} {picture} {t} book-found picture-found entry (outcome, positions) =
+        let same : firstTest tested picture (book .count) n ≡ first = cc (book-found, picture-found) in
+        let (tests, clash) = same-begin r p n n t (patternAt book n) same (λ passed. (refl, entry ∙ entry-own passed)) in
+        record { outcome-is = outcome ∙ ap outcomeOf tests; positions-are = positions ∙ clash }
+
+-- From 16 on all numbers begin alike: there is no such pattern.
+module _ (book : Book) (r : ℕ) (p : Plan) (W H words : ℕ) where
+  no-pattern : (n : ℕ) → 16 ≤ n → bookTest book r ≡ none → numberTest (book .count) n ≡ some NoPattern
+  no-pattern n h e =
+      let most = book-test-iff book r .0 e .0 .most in
+      number-decides (book .count) n .refuses (λ below. omega arith)
+
+  module _ (n : ℕ) (h : 16 ≤ n) where
+    first-alike : fetchFirst book r p W H words 16 ≡ fetchFirst book r p W H words n
+    unfolding fetchFirst
+    first-alike = by-book (bookTest book r) refl
+      where
+        rest : ℕ → List (Option Refusal)
+        rest m = pictureTest p W H words ∷ numberTest (book .count) m ∷ []
+
+        by-book : (o : Option Refusal) → bookTest book r ≡ o → firstOf (bookTest book r ∷ rest 16) ≡ firstOf (bookTest book r ∷ rest n)
+        by-book none e = cc (no-pattern 16 (omega arith) e, no-pattern n h e)
+        by-book (some f) e = chain-refuses (bookTest book r) (rest 16) f e ∙ sym (chain-refuses (bookTest book r) (rest n) f e)
+
+    first-refuses : fetchFirst book r p W H words n ≡ none → ⊥
+    first-refuses e = let ((legal, _), (_, below)) = fetch-first-iff p W H words book r n .0 e in omega (arith, legal .most, below)
+
+    pub starts-alike : {start : Suited} → BegunAt book r p W H words 16 start → BegunAt book r p W H words n start
+    unfolding fetchStart
+    starts-alike begun =
+        let (tests, clash) =
+        same-begin r p 16 n (patternAt book 16) (patternAt book n) first-alike (λ passed. absurd (first-refuses passed)) in
+        record { outcome-is = begun .outcome-is ∙ ap outcomeOf tests; positions-are = begun .positions-are ∙ clash }
 
 -- What the first tests of a fetch show where they find nothing.
-module _ (book : Book) (p : Plan) (W H words n : ℕ) where
+module _ (book : Book) (r : ℕ) (p : Plan) (W H words n : ℕ) where
   pub record Started (t : Pattern) : Type 0 where
     pub picture : pictureTest p W H words ≡ none
     pub own : t ≡ patternAt book n
     pub most : t .used ≤ 64
 
-  pub started : fetchStart book p W H words n ≡ none → Started (entryFor book n)
-  unfolding fetchStart
+  pub started : fetchStart book r p W H words n ≡ none → Started (entryFor book n)
   started e =
-      let (legal, (here, (below, _))) =
-      test-before (book-legal-iff book)
-      (test-before Iff·rfl (test-before (number-in-book-iff (book .count) n) (last-test (Iff·rfl {A = suitsTest p n (patternAt book n) ≡ none})))) .iff .0
-      e in
-      let own : entryFor book n ≡ patternAt book n = entry-below book n (omega (arith, legal .most)) in
-      record { picture = here; own = own; most = rw own (legal .each n below .most) }
+      let legal = fetch-start-iff p W H words book r n .0 e in
+      let own : entryFor book n ≡ patternAt book n = entry-below book n (omega (arith, legal .number, legal .legal-book .most)) in
+      record {
+        picture = picture-test-iff p W H words .1 (legal .picture);
+        own = own;
+        most = rw own (legal .legal-book .each n (legal .number) .most);
+      }
+
+-- A fetch gives this count, leaves this content, and has these positions beside it.
+abbrev pub GivesFetch : Result FetchAnswer (List ℕ) → Counted → List ℕ → List ℕ → Type 0
+GivesFetch x counted positions content = ((counted ≡ x .answer .counted) × (positions ≡ x .answer .positions)) × (content ≡ x .content)
 
 -- Fetch and ring fetch are either fetch; the position is as a call hands it on.
 module _
-    (book : Book) (p : Plan) (W H : ℕ) (mem : List ℕ) (n : ℕ) (o : Pixel) (out : List ℕ)
-    {v : Pixel} {answer : Counted} {content : List ℕ} (same : v ≡ o)
+    (book : Book) (r : ℕ) (p : Plan) (W H : ℕ) (mem : List ℕ) (n : ℕ) (o : Pixel) (out : List ℕ)
+    {v : Pixel} {counted : Counted} {positions content : List ℕ} (same : v ≡ o)
   where
-    pub is-fetch : Gives (eitherFetch false book p W H mem n v out) answer content → Gives (fetch book p W H mem n o out) answer content
+    pub is-fetch :
+        GivesFetch (eitherFetch false book r p W H mem n v out) counted positions content
+        → GivesFetch (fetch book r p W H mem n o out) counted positions content
     unfolding fetch
-    is-fetch = same-gives (ap (λ (u : Pixel). fetch book p W H mem n u out) same)
+    is-fetch gives = rw (sym same) gives
 
     pub is-ring-fetch :
-        Gives (eitherFetch true book p W H mem n v out) answer content → Gives (ringFetch book p W H mem n o out) answer content
+        GivesFetch (eitherFetch true book r p W H mem n v out) counted positions content
+        → GivesFetch (ringFetch book r p W H mem n o out) counted positions content
     unfolding ringFetch
-    is-ring-fetch = same-gives (ap (λ (u : Pixel). ringFetch book p W H mem n u out) same)
+    is-ring-fetch gives = rw (sym same) gives
 
--- A fetch with the record that stands for the pattern, and the position as a call hands it on, is the fetch of the book.
+-- A fetch by what it begins with, the record that stands for the pattern, and the position as a call hands it on, is the fetch of the
+-- book.
 pub fetched-by-entry :
-    (ring : Bool) (book : Book) (p : Plan) (W H : ℕ) (mem : List ℕ) (n : ℕ) (o : Pixel) (out : List ℕ)
-    {start : Option Refusal} {t : Pattern} {v : Pixel} {answer : Counted} {content : List ℕ}
-    → start ≡ fetchStart book p W H (length mem) n → t ≡ entryFor book n → v ≡ o
-    → Gives (fetchRest start ring t p W H mem v out) answer content
-    → Gives (eitherFetch ring book p W H mem n o out) answer content
-unfolding eitherFetch
-fetched-by-entry ring book p W H mem n o out is entry same =
+    (ring : Bool) (book : Book) (r : ℕ) (p : Plan) (W H : ℕ) (mem : List ℕ) (n : ℕ) (o : Pixel) (out : List ℕ)
+    {start : Suited} {t : Pattern} {v : Pixel} {counted : Counted} {content : List ℕ}
+    → BegunAt book r p W H (length mem) n start → t ≡ entryFor book n → v ≡ o
+    → Gives (fetchRest (foundBy (start .outcome)) ring t p W H mem v out) counted content
+    → GivesFetch (eitherFetch ring book r p W H mem n o out) counted (start .positions) content
+unfolding eitherFetch besideClash
+fetched-by-entry ring book r p W H mem n o out {start} {t} {v} begun entry same gives =
+    let found : foundBy (start .outcome) ≡ fetchStart book r p W H (length mem) n = found-by _ (begun .outcome-is) in
+    let (counted, content) =
     same-gives
-    (cc (is, same)
-    ∙ rest-alike (fetchStart book p W H (length mem) n) ring _ (patternAt book n) p W H mem o out
-    (λ e. entry ∙ started book p W H (length mem) n e .own))
+    (cc (found, same)
+    ∙ rest-alike (fetchStart book r p W H (length mem) n) ring t (patternAt book n) p W H mem o out
+    (λ e. entry ∙ started book r p W H (length mem) n e .own)) gives in
+    ((counted, begun .positions-are), content)

@@ -1,12 +1,14 @@
 -- Something is put into a list from a place on, stretch after stretch.
 -- Assumes nothing.
-use Prim.Native.Nat.{ℕ, _+_, _≤_}
+use Prim.Native.Nat.{ℕ, _+_, _≤_, _<_}
+use native.Mathlib.Numerals.{add-one}
 use native.Mathlib.Omega.{arith}
 use mathlib.Core.Path.{_≡_, refl, sym, _∙_, ap, ap₂}
 use mathlib.Core.List.{List, [], _∷_, _++_, append-assoc}
-use lib.ListN.{length, take, drop, length-append, length-drop, take-append-drop}
-use lib.Seq.{take-at, drop-at, drop-drop, length-take-le}
+use lib.ListN.{length, getD, take, drop, set, length-append, length-drop, take-append-drop}
+use lib.Seq.{take-at, take-suc, drop-at, drop-drop, length-take-le}
 use Rattle.scope.specs.Banks.{overStart}
+use Rattle.checks.proofs.Outputs.{Put, one-more-put}
 
 -- `new` over the start of what stands in `all` from place i on
 abbrev pub overFrom : ℕ → List ℕ → List ℕ → List ℕ
@@ -51,3 +53,14 @@ module _ (all part : List ℕ) (i r : ℕ) (bound : i + r ≤ length all) (size 
       ∙ append-assoc (take i all) part (overStart rest (drop r (drop i all)))
       ∙ ap (λ (n : ℕ). take i all ++ (part ++ overStart rest (drop n (drop i all)))) (sym size)
       ∙ ap (λ (xs : List ℕ). take i all ++ xs) (over-start-more part (drop i all) rest)
+
+-- The entries of ys are put one after the other behind xs, which stands at the start.
+pub entry-put :
+    (xs ys : List ℕ) {before out : List ℕ} (i e : ℕ) → i ≡ length xs + e → e < length ys → i < length before
+    → Put (xs ++ take e ys) before out
+    → Put (xs ++ take (e + 1) ys) before (set out i (getD ys e 0))
+entry-put xs ys i e at h room put =
+    let longer : xs ++ take (e + 1) ys ≡ (xs ++ take e ys) ++ (getD ys e 0 ∷ []) =
+    rw (add-one e, append-assoc) (ap (λ (zs : List ℕ). xs ++ zs) (take-suc ys e 0 h)) in
+    rw longer
+    (one-more-put put i (getD ys e 0) (omega (arith, length-append xs (take e ys), length-take-le e ys (omega arith))) room)

@@ -14,20 +14,21 @@ use lib.Dec.{leb, ltb, eqb}
 use lib.IntN.{ℤ, pos, _-ℤ_}
 use lib.ListN.{length, getD, take, drop, replicate}
 use Rattle.scope.specs.Search.{whenever, firstOf}
-use Rattle.scope.specs.Plans.{at}
+use Rattle.scope.specs.Plans.{at, pixels, patternAt}
+use Rattle.scope.specs.Cycles.{LongClash, clashInFor}
 use Rattle.scope.specs.Banks.{overStart}
 use Rattle.scope.specs.Numbers.{Answer, value, refusal}
-use Rattle.scope.specs.Calls.{Result, fetchStart}
-use Rattle.scope.specs.promises.Demand.{Write, store, clear, Read, load, fetch, Call, write, read, Reply, wrote, loaded, fetched, Setting, after, reply, run, replies}
+use Rattle.scope.specs.Calls.{Result, clashBeside, fetchFirst, fetchStart}
+use Rattle.scope.specs.promises.Demand.{store, clear, load, fetch, Call, write, read, Reply, wrote, loaded, fetched, Setting, after, reply, run, replies}
 use Rattle.scope.specs.declared.Book.{Book}
 use Rattle.scope.specs.declared.Plan.{Plan}
-use Rattle.scope.specs.declared.Clash.{Clash}
+use Rattle.finder.specs.declared.clash.Suited.{Suited}
 use Rattle.scope.specs.declared.Outcome.{Outcome}
 use Rattle.book.specs.Scan.{outcomeOf}
 use Rattle.pictures.specs.declared.lists.Listed.{Listed}
 
-abbrev pub setting : Book → Plan → ℕ → ℕ → Setting
-setting book p W H = record { book = book; plan = p; W = W; H = H }
+abbrev pub setting : Book → ℕ → Plan → ℕ → ℕ → Setting
+setting book r p W H = record { book = book; r = r; plan = p; W = W; H = H }
 
 unfoldable pub coordinateOf : ℕ → ℤ
 coordinateOf x = cond (ltb (x % 65536) 32768) (pos (x % 65536)) (pos (x % 65536) -ℤ pos 65536)
@@ -96,10 +97,10 @@ unfoldable pub listedBy : Option Listed → Listed
 listedBy none = Listed.Made
 listedBy (some fault) = fault
 
--- an answer in numbers: 0 and its values, or the refusal's number, its place and, of 10, the clash
-abbrev pub clashNumbers : Option Clash → List ℕ
+-- an answer in numbers: 0 and its values, or the refusal's number, its place and, of 10, the clash: its pattern and its positions
+abbrev pub clashNumbers : Option LongClash → List ℕ
 clashNumbers none = []
-clashNumbers (some c) = c .pattern ∷ c .earlier ∷ c .later ∷ []
+clashNumbers (some c) = c .pattern ∷ c .positions
 
 unfoldable pub answerNumbers : {A : Type 0} → (A → List ℕ) → Answer A → List ℕ
 answerNumbers values (value x) = 0 ∷ values x
@@ -154,9 +155,17 @@ runList g xs b =
     let wrong : Option Listed = listTest xs (length (b .outputs)) (length (b .rows)) in
     record { answer = listedBy wrong; content = leftBy wrong b (madeList g xs b) }
 
--- What the code has found out once: what a fetch of each pattern number up to 16 begins with
-pub record Begun (book : Book) (p : Plan) (W H words : ℕ) (starts : List Outcome) : Type 0 where
-  pub found : (n : ℕ) → n < 17 → getD starts n Outcome.Done ≡ outcomeOf (fetchStart book p W H words n)
+-- what a fetch of pattern number n begins with, as the code has it: what its tests found, and the positions of the clash
+pub record BegunAt (book : Book) (r : ℕ) (p : Plan) (W H words n : ℕ) (start : Suited) : Type 0 where
+  pub outcome-is : start .outcome ≡ outcomeOf (fetchStart book r p W H words n)
+  pub positions-are : start .positions ≡ clashBeside (fetchFirst book r p W H words n) (clashInFor r p n (pixels (patternAt book n)))
+
+-- What the code has found out once: that of each pattern number up to 16; past the end of a list there is `noStart`
+abbrev pub noStart : Suited
+noStart = record { outcome = Outcome.Done; positions = [] }
+
+pub record Begun (book : Book) (r : ℕ) (p : Plan) (W H words : ℕ) (starts : List Suited) : Type 0 where
+  pub found : (n : ℕ) → n < 17 → BegunAt book r p W H words n (getD starts n noStart)
 
 -- a fetch's output after its reply, that of another call as it was
 abbrev pub stretchAfter : Reply → List ℕ → List ℕ

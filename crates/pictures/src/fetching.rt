@@ -4,8 +4,9 @@ use crate::moving::all_inside;
 use crate::moving::put_words;
 use crate::places::picture_outcome;
 use book::entry_number;
-use book::record_outcome;
-use finder::suits_outcome;
+use finder::Suited;
+use finder::book_outcome;
+use finder::suits_answer;
 use scope::Book;
 use scope::Counted;
 use scope::FetchAnswer;
@@ -13,7 +14,6 @@ use scope::Outcome;
 use scope::Pattern;
 use scope::Plan;
 use scope::Refusal;
-use scope::counted_positions;
 ghost use mathlib.Core.Path.{_≡_};
 ghost use mathlib.Core.Bool.{true, false};
 ghost use mathlib.Core.Option.{none};
@@ -22,34 +22,45 @@ ghost use lib.ListN.{length};
 ghost use Rattle.scope.specs.Search.{every};
 ghost use Rattle.scope.specs.Plans.{at, isPlan};
 ghost use Rattle.scope.specs.Banks.{inside};
-ghost use Rattle.scope.specs.Numbers.{isRing, positionsIn, ofCounted};
+ghost use Rattle.scope.specs.Numbers.{isRing};
 ghost use Rattle.scope.specs.Calls.{pictureTest, moved, edgeTest, fetchRest, eitherFetch, fetch, ringFetch};
 ghost use Rattle.book.specs.Scan.{outcomeOf};
-ghost use Rattle.pictures.specs.Fetching.{foundBy, startTest, delivered};
+ghost use Rattle.pictures.specs.Fetching.{foundBy, startTest, startPositions, delivered};
 
-// What a fetch of the pattern t, number n of `count`, begins with: what the tests of the book and of the picture found, then 17,
-// 10.
-pub(crate) fn start_outcome(
+// What a fetch of the pattern t, number n of `count`, begins with: what the tests of the book and r and of the picture found, then 17,
+// 10, and beside it the positions of the clash.
+pub(crate) fn start_answer(
     tested: Outcome,
     picture: Outcome,
     count: usize,
     t: Pattern,
+    r: u32,
     p: Plan,
     n: usize,
-) -> Outcome
-    requires { ⌜ (foundBy tested ≡ none → n < count → (1 ≤ t .used) × (t .used ≤ 64)) × (foundBy picture ≡ none → isPlan p ≡ true) ⌝ }
-    ensures { λ r. ⌜ r ≡ outcomeOf (startTest (foundBy tested) (foundBy picture) count t p n) ⌝ }
+) -> Suited
+    requires { ⌜ (foundBy tested ≡ none → (1 ≤ r) × (r ≤ 8) × (n < count → (1 ≤ t .used) × (t .used ≤ 64))) × (foundBy picture ≡ none → isPlan p ≡ true) ⌝ }
+    ensures { λ x. ⌜ (x .outcome ≡ outcomeOf (startTest (foundBy tested) (foundBy picture) count t r p n)) × (x .positions ≡ startPositions (foundBy tested) (foundBy picture) count t r p n) ⌝ }
 {
+    let positions = [0usize; 9];
     if let Outcome::Refused(_) = tested {
-        return tested;
+        return Suited {
+            outcome: tested,
+            positions,
+        };
     }
     if let Outcome::Refused(_) = picture {
-        return picture;
+        return Suited {
+            outcome: picture,
+            positions,
+        };
     }
     if count <= n {
-        return Outcome::Refused(Refusal::NoPattern);
+        return Suited {
+            outcome: Outcome::Refused(Refusal::NoPattern),
+            positions,
+        };
     }
-    suits_outcome(p, n, t)
+    suits_answer(p, n, t, r)
 }
 
 // Whether a ring fetch is allowed. The bank count is formed in 32 bits, so that no division is wider.
@@ -134,36 +145,7 @@ pub(crate) fn fetch_rest(
 fn either_fetch(
     ring: bool,
     book: Book,
-    p: Plan,
-    w: u32,
-    h: u32,
-    mem: &[u16],
-    n: usize,
-    i: i16,
-    j: i16,
-    out: &mut [u16],
-) -> Counted
-    ensures { λ r. ⌜ (r ≡ eitherFetch ring book p w h (now (mem .entry)) n (at i j) (now (out .entry)) .answer) × (now (out .exit) ≡ eitherFetch ring book p w h (now (mem .entry)) n (at i j) (now (out .entry)) .content) ⌝ }
-{
-    let tested = record_outcome(book);
-    let picture = picture_outcome(p, w, h, mem.len());
-    let k = entry_number(n);
-    let t = book.patterns[k];
-    let start = start_outcome(tested, picture, book.count, t, p, n);
-    fetch_rest(start, ring, t, p, w, h, mem, i, j, out)
-}
-
-// An answer with the positions of its clash beside it.
-fn with_positions(counted: Counted) -> FetchAnswer
-    ensures { λ r. ⌜ (r .counted ≡ counted) × (r .positions ≡ positionsIn (ofCounted counted)) ⌝ }
-{
-    let positions = counted_positions(counted);
-    FetchAnswer { counted, positions }
-}
-
-// Fetches pattern n moved to (i, j) and tells how many words, or 2, 3, 4, 19, 11, 12, 13, 17, 10, 14, 16 and the output as it was.
-pub fn fetch(
-    book: Book,
+    r: u32,
     p: Plan,
     w: u32,
     h: u32,
@@ -173,14 +155,44 @@ pub fn fetch(
     j: i16,
     out: &mut [u16],
 ) -> FetchAnswer
-    ensures { λ r. ⌜ (r .counted ≡ fetch book p w h (now (mem .entry)) n (at i j) (now (out .entry)) .answer) × (now (out .exit) ≡ fetch book p w h (now (mem .entry)) n (at i j) (now (out .entry)) .content) × (r .positions ≡ positionsIn (ofCounted (fetch book p w h (now (mem .entry)) n (at i j) (now (out .entry)) .answer))) ⌝ }
+    ensures answer { λ x. ⌜ (x .counted ≡ eitherFetch ring book r p w h (now (mem .entry)) n (at i j) (now (out .entry)) .answer .counted) × (x .positions ≡ eitherFetch ring book r p w h (now (mem .entry)) n (at i j) (now (out .entry)) .answer .positions) ⌝ }
+    ensures left { λ x. ⌜ now (out .exit) ≡ eitherFetch ring book r p w h (now (mem .entry)) n (at i j) (now (out .entry)) .content ⌝ }
 {
-    with_positions(either_fetch(false, book, p, w, h, mem, n, i, j, out))
+    let tested = book_outcome(book, r);
+    let picture = picture_outcome(p, w, h, mem.len());
+    let k = entry_number(n);
+    let t = book.patterns[k];
+    let start = start_answer(tested, picture, book.count, t, r, p, n);
+    let outcome = start.outcome;
+    let positions = start.positions;
+    let counted = fetch_rest(outcome, ring, t, p, w, h, mem, i, j, out);
+    FetchAnswer { counted, positions }
+}
+
+// Fetches pattern n moved to (i, j) for r and tells how many words, or 2, 3, 4, 19, 20, 11, 12, 13, 17, 10, 14, 16 and the output as it
+// was.
+pub fn fetch(
+    book: Book,
+    r: u32,
+    p: Plan,
+    w: u32,
+    h: u32,
+    mem: &[u16],
+    n: usize,
+    i: i16,
+    j: i16,
+    out: &mut [u16],
+) -> FetchAnswer
+    ensures answer { λ x. ⌜ (x .counted ≡ fetch book r p w h (now (mem .entry)) n (at i j) (now (out .entry)) .answer .counted) × (x .positions ≡ fetch book r p w h (now (mem .entry)) n (at i j) (now (out .entry)) .answer .positions) ⌝ }
+    ensures left { λ x. ⌜ now (out .exit) ≡ fetch book r p w h (now (mem .entry)) n (at i j) (now (out .entry)) .content ⌝ }
+{
+    either_fetch(false, book, r, p, w, h, mem, n, i, j, out)
 }
 
 // The same around the picture's edges; 18 in the place of 14.
 pub fn ring_fetch(
     book: Book,
+    r: u32,
     p: Plan,
     w: u32,
     h: u32,
@@ -190,7 +202,8 @@ pub fn ring_fetch(
     j: i16,
     out: &mut [u16],
 ) -> FetchAnswer
-    ensures { λ r. ⌜ (r .counted ≡ ringFetch book p w h (now (mem .entry)) n (at i j) (now (out .entry)) .answer) × (now (out .exit) ≡ ringFetch book p w h (now (mem .entry)) n (at i j) (now (out .entry)) .content) × (r .positions ≡ positionsIn (ofCounted (ringFetch book p w h (now (mem .entry)) n (at i j) (now (out .entry)) .answer))) ⌝ }
+    ensures answer { λ x. ⌜ (x .counted ≡ ringFetch book r p w h (now (mem .entry)) n (at i j) (now (out .entry)) .answer .counted) × (x .positions ≡ ringFetch book r p w h (now (mem .entry)) n (at i j) (now (out .entry)) .answer .positions) ⌝ }
+    ensures left { λ x. ⌜ now (out .exit) ≡ ringFetch book r p w h (now (mem .entry)) n (at i j) (now (out .entry)) .content ⌝ }
 {
-    with_positions(either_fetch(true, book, p, w, h, mem, n, i, j, out))
+    either_fetch(true, book, r, p, w, h, mem, n, i, j, out)
 }

@@ -2,30 +2,30 @@
 // tested once.
 use crate::banks::clear;
 use crate::fetching::fetch_rest;
-use crate::fetching::start_outcome;
+use crate::fetching::start_answer;
 use crate::places::picture_outcome;
-use crate::rows::counted_row;
+use crate::rows::fetched_row;
 use crate::rows::loaded_row;
 use crate::rows::outcome_row;
 use crate::rows::put_row;
 use crate::words::load;
 use crate::words::store;
 use book::entry_number;
-use book::record_outcome;
+use finder::Suited;
+use finder::book_outcome;
 use scope::Book;
+use scope::FetchAnswer;
 use scope::Outcome;
 use scope::Pattern;
 use scope::Plan;
 ghost use mathlib.Core.Path.{_≡_};
 ghost use mathlib.Core.Option.{none};
-ghost use Prim.Native.Nat.{ℕ, _*_, _/_, _≤_, _<_, min};
-ghost use lib.ListN.{length, getD};
+ghost use Prim.Native.Nat.{_*_, _/_, _≤_, min};
+ghost use lib.ListN.{length};
 ghost use Rattle.scope.specs.declared.Book.{Book};
-ghost use Rattle.scope.specs.declared.Outcome.{Outcome};
-ghost use Rattle.book.specs.Scan.{outcomeOf};
-ghost use Rattle.scope.specs.Calls.{pictureTest, fetchStart};
+ghost use Rattle.scope.specs.Calls.{pictureTest};
 ghost use Rattle.pictures.specs.Fetching.{foundBy, entryFor};
-ghost use Rattle.pictures.specs.Lists.{setting, coordinateOf, callOf, roomOf, isCall, listFault, listTest, listedBy, buffers, madeList, runList, Begun, OneMade};
+ghost use Rattle.pictures.specs.Lists.{setting, coordinateOf, callOf, roomOf, isCall, listFault, listTest, listedBy, buffers, madeList, runList, BegunAt, Begun, OneMade};
 
 // What came of a list: it was made, or it was not and nothing changed, because the numbers from this place on are no call's, or
 // because the outputs or the replies are too short.
@@ -114,17 +114,21 @@ fn list_outcome(numbers: &[u64], outs: usize, rows: usize) -> Listed
 }
 
 // What a fetch of the pattern numbers 0 to 16 begins with; the record has no entry 16.
-fn starts_of(book: Book, p: Plan, w: u32, h: u32, words: usize) -> [Outcome; 17]
-    ensures { λ r. ⌜ ((n : ℕ) → n < 17 → getD r n Outcome.Done ≡ outcomeOf (fetchStart book p w h words n)) ⌝ }
+fn starts_of(book: Book, r: u32, p: Plan, w: u32, h: u32, words: usize) -> [Suited; 17]
+    ensures { λ x. ⌜ Begun book r p w h words x ⌝ }
 {
-    let tested = record_outcome(book);
+    let tested = book_outcome(book, r);
     let picture = picture_outcome(p, w, h, words);
-    let mut starts = [Outcome::Done; 17];
+    let none = Suited {
+        outcome: Outcome::Done,
+        positions: [0; 9],
+    };
+    let mut starts = [none; 17];
     let mut n = 0;
     while n < 17 {
         let k = entry_number(n);
         let t = book.patterns[k];
-        starts[n] = start_outcome(tested, picture, book.count, t, p, n);
+        starts[n] = start_answer(tested, picture, book.count, t, r, p, n);
         n += 1;
     }
     starts
@@ -139,8 +143,9 @@ fn start_number(n: u64) -> usize
 
 // Makes the call of these numbers. Only a fetch uses the output, what it begins with and the record of its pattern.
 fn make_call(
-    start: Outcome,
+    start: Suited,
     t: Pattern,
+    r: u32,
     p: Plan,
     w: u32,
     h: u32,
@@ -151,8 +156,8 @@ fn make_call(
     n: u64,
     out: &mut [u16],
 ) -> [u64; 12]
-    requires { ⌜ (foundBy start ≡ none → (pictureTest p w h (length (now mem)) ≡ none) × (t .used ≤ 64)) ⌝ }
-    ensures { λ r. ⌜ ((book : Book) → foundBy start ≡ fetchStart book p w h (length (now (mem .entry))) n → t ≡ entryFor book n → OneMade (setting book p w h) (now (mem .entry)) (callOf kind i j n (now (out .entry))) (now (out .entry)) r (now (mem .exit)) (now (out .exit))) ⌝ }
+    requires { ⌜ (foundBy (start .outcome) ≡ none → (pictureTest p w h (length (now mem)) ≡ none) × (t .used ≤ 64)) × (length (start .positions) ≡ 9) ⌝ }
+    ensures { λ x. ⌜ ((book : Book) → BegunAt book r p w h (length (now (mem .entry))) n start → t ≡ entryFor book n → OneMade (setting book r p w h) (now (mem .entry)) (callOf kind i j n (now (out .entry))) (now (out .entry)) x (now (mem .exit)) (now (out .exit))) ⌝ }
 {
     if kind == 1 {
         return outcome_row(clear(p, w, h, mem, n));
@@ -165,13 +170,17 @@ fn make_call(
     if kind == 2 {
         return loaded_row(load(p, w, h, mem, x, y));
     }
-    counted_row(fetch_rest(start, false, t, p, w, h, mem, x, y, out))
+    let outcome = start.outcome;
+    let positions = start.positions;
+    let counted = fetch_rest(outcome, false, t, p, w, h, mem, x, y, out);
+    fetched_row(FetchAnswer { counted, positions }, r)
 }
 
 // Makes the calls of a list of numbers, five to a call, one after the other.
 fn make_calls(
     book: Book,
-    starts: [Outcome; 17],
+    starts: [Suited; 17],
+    r: u32,
     p: Plan,
     w: u32,
     h: u32,
@@ -180,8 +189,8 @@ fn make_calls(
     outs: &mut [u16],
     rows: &mut [u64],
 )
-    requires { ⌜ Begun book p w h (length (now mem)) starts × (listFault (length (now numbers) / 5) 0 (now numbers) (length (now outs)) ≡ none) × (12 * (length (now numbers) / 5) ≤ length (now rows)) ⌝ }
-    ensures { λ r. ⌜ buffers (now (mem .exit)) (now (outs .exit)) (now (rows .exit)) ≡ madeList (setting book p w h) (now (numbers .entry)) (buffers (now (mem .entry)) (now (outs .entry)) (now (rows .entry))) ⌝ }
+    requires { ⌜ Begun book r p w h (length (now mem)) starts × (listFault (length (now numbers) / 5) 0 (now numbers) (length (now outs)) ≡ none) × (12 * (length (now numbers) / 5) ≤ length (now rows)) ⌝ }
+    ensures { λ x. ⌜ buffers (now (mem .exit)) (now (outs .exit)) (now (rows .exit)) ≡ madeList (setting book r p w h) (now (numbers .entry)) (buffers (now (mem .entry)) (now (outs .entry)) (now (rows .entry))) ⌝ }
 {
     let mut left = numbers.len() / 5;
     let mut k = 0;
@@ -198,6 +207,7 @@ fn make_calls(
         let row = make_call(
             start,
             t,
+            r,
             p,
             w,
             h,
@@ -220,6 +230,7 @@ fn make_calls(
 // numbers to a reply.
 pub fn run_list(
     book: Book,
+    r: u32,
     p: Plan,
     w: u32,
     h: u32,
@@ -228,13 +239,13 @@ pub fn run_list(
     outs: &mut [u16],
     rows: &mut [u64],
 ) -> Listed
-    ensures answer { λ r. ⌜ r ≡ runList (setting book p w h) (now (numbers .entry)) (buffers (now (mem .entry)) (now (outs .entry)) (now (rows .entry))) .answer ⌝ }
-    ensures left { λ r. ⌜ buffers (now (mem .exit)) (now (outs .exit)) (now (rows .exit)) ≡ runList (setting book p w h) (now (numbers .entry)) (buffers (now (mem .entry)) (now (outs .entry)) (now (rows .entry))) .content ⌝ }
+    ensures answer { λ x. ⌜ x ≡ runList (setting book r p w h) (now (numbers .entry)) (buffers (now (mem .entry)) (now (outs .entry)) (now (rows .entry))) .answer ⌝ }
+    ensures left { λ x. ⌜ buffers (now (mem .exit)) (now (outs .exit)) (now (rows .exit)) ≡ runList (setting book r p w h) (now (numbers .entry)) (buffers (now (mem .entry)) (now (outs .entry)) (now (rows .entry))) .content ⌝ }
 {
     let outcome = list_outcome(numbers, outs.len(), rows.len());
     if let Listed::Made = outcome {
-        let starts = starts_of(book, p, w, h, mem.len());
-        make_calls(book, starts, p, w, h, mem, numbers, outs, rows);
+        let starts = starts_of(book, r, p, w, h, mem.len());
+        make_calls(book, starts, r, p, w, h, mem, numbers, outs, rows);
     }
     outcome
 }

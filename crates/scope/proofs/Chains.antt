@@ -10,7 +10,7 @@ use mathlib.Core.List.{List, [], _∷_, _++_}
 use Rattle.scope.specs.Search.{whenever, firstOf}
 use Rattle.scope.specs.Numbers.{Answer, value, refusal, turnedDown, ofOutcome}
 use Rattle.scope.specs.Calls.{answered}
-use Rattle.scope.specs.declared.Clash.{Clash}
+use Rattle.scope.specs.Cycles.{LongClash}
 use Rattle.scope.specs.declared.Refusal.{Refusal}
 use Rattle.scope.specs.declared.Outcome.{Outcome}
 
@@ -64,7 +64,7 @@ tests-as-one (some r ∷ before) these after = refl
 
 -- A value is no refusal, and each says what it holds.
 module _ {A : Type 0} where
-  pub value-not-refusal : {x : A} {n i : ℕ} {c : Option Clash} → value x ≡ refusal n i c → ⊥
+  pub value-not-refusal : {x : A} {n i : ℕ} {c : Option LongClash} → value x ≡ refusal n i c → ⊥
   value-not-refusal e = let z : _≡_ {A = ℕ} 0 1 = cc in omega arith
 
   pub value-injective : {x y : A} → value x ≡ value y → x ≡ y

@@ -1,19 +1,20 @@
 -- Every call of document 01: the checks that concern it, in the order "book 1-5, 6, 8, 9, 11, 12, 13, 17, then 10, 18, 14,
 -- 15, 16, with 7 last", its answer, and the final content of what it was lent. "buffers and lists stay unchanged" on a refusal.
--- Document 02, Card 3: 19 is tested among the checks of the book, "wherever a book is taken".
+-- Document 02, Card 3: 19 is tested among the checks of the book, "wherever a book is taken". Card 4: "20, r outside 1 to 8, just
+-- after 6".
 -- Assumes nothing.
 use Prim.Native.Nat.{ℕ, _+_, _-_}
 use mathlib.Core.Bool.{Bool, true, false}
 use mathlib.Core.Option.{Option, none, some}
 use mathlib.Core.List.{List, [], _∷_, map}
-use lib.IntN.{ℤ}
 use lib.ListN.{length}
 use Rattle.scope.specs.Search.{firstOf}
-use Rattle.scope.specs.Plans.{Pixel, plus, pixels, patterns, patternAt, banks, suitsAll, normalForm}
-use Rattle.scope.specs.Finding.{leastOf, leastPlan, leastCount, clash}
+use Rattle.scope.specs.Plans.{Pixel, plus, pixels, patterns, patternAt, banks, normalForm}
+use Rattle.scope.specs.Finding.{leastOf}
+use Rattle.scope.specs.Cycles.{LongClash, shortened, suitsAllFor, leastPlanFor, leastCountFor, cycles, clashInFor, clashFor}
 use Rattle.scope.specs.Banks.{bankOf, addressOf, depthOf, pixelOf, wordIn, afterStore, afterClear, bankSum, overStart, wrapped}
 use Rattle.scope.specs.Books.{byte, start, partIn, bookIn, bookOf, bookBytes}
-use Rattle.scope.specs.Numbers.{bytesTest, recordTest, limitTest, dependentTest, largeTest, suitsTest, planTest, sidesTest, memoryTest, outsideTest, bankTest, cellTest, outputTest, numberTest, ringTest}
+use Rattle.scope.specs.Numbers.{bytesTest, recordTest, limitTest, cyclesTest, dependentTest, largeTest, suitsTest, planTest, sidesTest, memoryTest, outsideTest, bankTest, cellTest, outputTest, numberTest, ringTest, places}
 use Rattle.scope.specs.declared.Plan.{Plan}
 use Rattle.scope.specs.declared.Book.{Book}
 use Rattle.scope.specs.declared.Pattern.{Pattern}
@@ -26,6 +27,8 @@ use Rattle.scope.specs.declared.Loaded.{Loaded}
 use Rattle.scope.specs.declared.Located.{Located}
 use Rattle.scope.specs.declared.Outcome.{Outcome}
 use Rattle.scope.specs.declared.Reading.{Reading}
+use Rattle.scope.specs.declared.CheckAnswer.{CheckAnswer}
+use Rattle.scope.specs.declared.FetchAnswer.{FetchAnswer}
 
 -- "Where none of them holds, the call is not turned down": the value, or the refusal.
 unfoldable pub answered : {A : Type 0} → Option Refusal → (Refusal → A) → A → A
@@ -86,41 +89,55 @@ unfolding answered firstOf dependentTest largeTest normalForm
 normal x y =
     answered (firstOf (dependentTest x y ∷ largeTest x y ∷ [])) Planned.Refused (Planned.Plan (normalForm x y))
 
--- Find: 2, 3, 4, 19, 6, "with 7 last".
-unfoldable pub findTest : Book → ℕ → Option Refusal
-unfolding firstOf recordTest limitTest
-findTest book limit = firstOf (recordTest book ∷ limitTest limit ∷ [])
+-- Find for r: 2, 3, 4, 19, 6, 20, "with 7 last".
+unfoldable pub findTest : Book → ℕ → ℕ → Option Refusal
+unfolding firstOf recordTest limitTest cyclesTest
+findTest book r limit = firstOf (recordTest book ∷ limitTest limit ∷ cyclesTest r ∷ [])
 
 unfoldable pub found : Option Plan → Planned
 found none = Planned.Refused Refusal.NoPlan
 found (some p) = Planned.Plan p
 
-unfoldable pub find : Book → ℕ → Planned
-unfolding answered findTest found leastOf suitsAll patterns
-find book limit = answered (findTest book limit) Planned.Refused (found (leastPlan (patterns book) limit))
+unfoldable pub find : Book → ℕ → ℕ → Planned
+unfolding answered findTest found leastOf suitsAllFor patterns
+find book r limit = answered (findTest book r limit) Planned.Refused (found (leastPlanFor r (patterns book) limit))
 
--- "the least count" of a book: 2, 3, 4, 19.
-unfoldable pub fewest : Book → Counted
-unfolding answered recordTest leastCount patterns
-fewest book = answered (recordTest book) Counted.Refused (Counted.Number (leastCount (patterns book)))
+-- The tests of a book and r: 2, 3, 4, 19, 20.
+unfoldable pub bookTest : Book → ℕ → Option Refusal
+unfolding firstOf recordTest cyclesTest
+bookTest book r = firstOf (recordTest book ∷ cyclesTest r ∷ [])
 
--- Check a supplier's vectors: 2, 3, 4, 19, 8, 9, then the clash, which is 10. "the normal form together with the surplus, N
--- minus the least count, or a clash, or a refusal"
-unfoldable pub checkTest : Book → Pixel → Pixel → Option Refusal
-unfolding firstOf recordTest dependentTest largeTest
-checkTest book x y = firstOf (recordTest book ∷ dependentTest x y ∷ largeTest x y ∷ [])
+-- "the least for that r" of a book: 2, 3, 4, 19, 20.
+unfoldable pub fewest : Book → ℕ → Counted
+unfolding answered bookTest leastCountFor patterns
+fewest book r = answered (bookTest book r) Counted.Refused (Counted.Number (leastCountFor r (patterns book)))
 
-unfoldable pub judged : List (List Pixel) → Plan → Verdict
-unfolding clash banks leastCount
-judged ts p =
-    elim (clash p ts) [
-      | some c ↦ Verdict.Clashes c
-      | none ↦ Verdict.Suits (record { plan = p; surplus = banks p - leastCount ts })
+-- "10 also carries its clash": its positions, where the tests before 10 found nothing
+unfoldable pub clashBeside : Option Refusal → Option LongClash → List ℕ
+unfolding answered places
+clashBeside before c = answered before (λ f. places none) (places c)
+
+-- Check a supplier's vectors for r: 2, 3, 4, 19, 20, 8, 9, then the clash, which is 10. "the normal form together with the surplus",
+-- "counted against the least for that r", "or a clash, or a refusal"
+unfoldable pub checkTest : Book → ℕ → Pixel → Pixel → Option Refusal
+unfolding firstOf bookTest dependentTest largeTest
+checkTest book r x y = firstOf (bookTest book r ∷ dependentTest x y ∷ largeTest x y ∷ [])
+
+unfoldable pub judged : ℕ → List (List Pixel) → Plan → Verdict
+unfolding clashFor shortened banks leastCountFor
+judged r ts p =
+    elim (clashFor r p ts) [
+      | some c ↦ Verdict.Clashes (shortened c)
+      | none ↦ Verdict.Suits (record { plan = p; surplus = banks p - leastCountFor r ts })
     ]
 
-unfoldable pub check : Book → Pixel → Pixel → Verdict
-unfolding answered checkTest judged patterns normalForm
-check book x y = answered (checkTest book x y) Verdict.Refused (judged (patterns book) (normalForm x y))
+unfoldable pub check : Book → ℕ → Pixel → Pixel → CheckAnswer
+unfolding answered checkTest judged patterns normalForm clashBeside clashFor
+check book r x y =
+    record {
+      verdict = answered (checkTest book r x y) Verdict.Refused (judged r (patterns book) (normalForm x y));
+      positions = clashBeside (checkTest book r x y) (clashFor r (normalForm x y) (patterns book));
+    }
 
 -- The bank of a pixel: 11.
 unfoldable pub bank : Plan → Pixel → Counted
@@ -200,12 +217,14 @@ unfoldable pub ringMoved : ℕ → ℕ → Pattern → Pixel → List Pixel
 unfolding wrapped moved
 ringMoved W H t o = map (wrapped W H) (moved t o)
 
--- The tests that both fetches begin with: 2, 3, 4, 19, 11, 12, 13, 17, "10 for its own pattern only".
-unfoldable pub fetchStart : Book → Plan → ℕ → ℕ → ℕ → ℕ → Option Refusal
-unfolding firstOf recordTest pictureTest numberTest suitsTest patternAt
-fetchStart book p W H words n =
-    firstOf
-    (recordTest book ∷ pictureTest p W H words ∷ numberTest (book .count) n ∷ suitsTest p n (patternAt book n) ∷ [])
+-- The tests that both fetches begin with: 2, 3, 4, 19, 20, 11, 12, 13, 17; then "10 for its own pattern only".
+unfoldable pub fetchFirst : Book → ℕ → Plan → ℕ → ℕ → ℕ → ℕ → Option Refusal
+unfolding firstOf bookTest pictureTest numberTest
+fetchFirst book r p W H words n = firstOf (bookTest book r ∷ pictureTest p W H words ∷ numberTest (book .count) n ∷ [])
+
+unfoldable pub fetchStart : Book → ℕ → Plan → ℕ → ℕ → ℕ → ℕ → Option Refusal
+unfolding firstOf fetchFirst suitsTest patternAt
+fetchStart book r p W H words n = firstOf (fetchFirst book r p W H words n ∷ suitsTest r p n (patternAt book n) ∷ [])
 
 -- "a ring fetch has 18 and no 14": the test of the edge, and the pixels that are read
 unfoldable pub edgeTest : (ring : Bool) → Plan → ℕ → ℕ → List Pixel → Option Refusal
@@ -233,24 +252,54 @@ fetchRest start ring t p W H mem o out =
     (Counted.Number (length (pixelsRead ring W H (moved t o))))
     (overStart (map (wordIn p W H mem) (pixelsRead ring W H (moved t o))) out)
 
--- Fetch, and tell how many words: 2, 3, 4, 19, 11, 12, 13, 17, 10, 14, 16. Ring fetch: 18 in the place of 14.
-unfoldable pub fetchTest : (ring : Bool) → Book → Plan → ℕ → ℕ → ℕ → ℕ → Pixel → ℕ → Option Refusal
+-- Fetch for r, and tell how many words: 2, 3, 4, 19, 20, 11, 12, 13, 17, 10, 14, 16. Ring fetch: 18 in the place of 14. "A fetch
+-- still writes only words."
+unfoldable pub fetchTest : (ring : Bool) → Book → ℕ → Plan → ℕ → ℕ → ℕ → ℕ → Pixel → ℕ → Option Refusal
 unfolding restTest fetchStart patternAt
-fetchTest ring book p W H words n o room = restTest (fetchStart book p W H words n) ring (patternAt book n) p W H o room
+fetchTest ring book r p W H words n o room = restTest (fetchStart book r p W H words n) ring (patternAt book n) p W H o room
+
+-- a counted answer beside the clash of pattern n, where `before` is what the tests before 10 found
+unfoldable pub besideClash : Option Refusal → ℕ → Plan → Book → ℕ → Result Counted (List ℕ) → Result FetchAnswer (List ℕ)
+unfolding clashBeside clashInFor pixels patternAt
+besideClash before r p book n x =
+    record {
+      answer = record { counted = x .answer; positions = clashBeside before (clashInFor r p n (pixels (patternAt book n))) };
+      content = x .content;
+    }
 
 unfoldable pub eitherFetch :
-    (ring : Bool) → Book → Plan → ℕ → ℕ → List ℕ → ℕ → Pixel → List ℕ → Result Counted (List ℕ)
-unfolding fetchRest fetchStart patternAt
-eitherFetch ring book p W H mem n o out =
-    fetchRest (fetchStart book p W H (length mem) n) ring (patternAt book n) p W H mem o out
+    (ring : Bool) → Book → ℕ → Plan → ℕ → ℕ → List ℕ → ℕ → Pixel → List ℕ → Result FetchAnswer (List ℕ)
+unfolding besideClash fetchFirst fetchRest fetchStart patternAt
+eitherFetch ring book r p W H mem n o out =
+    besideClash (fetchFirst book r p W H (length mem) n) r p book n
+    (fetchRest (fetchStart book r p W H (length mem) n) ring (patternAt book n) p W H mem o out)
 
-unfoldable pub fetch : Book → Plan → ℕ → ℕ → List ℕ → ℕ → Pixel → List ℕ → Result Counted (List ℕ)
+unfoldable pub fetch : Book → ℕ → Plan → ℕ → ℕ → List ℕ → ℕ → Pixel → List ℕ → Result FetchAnswer (List ℕ)
 unfolding eitherFetch
 fetch = eitherFetch false
 
-unfoldable pub ringFetch : Book → Plan → ℕ → ℕ → List ℕ → ℕ → Pixel → List ℕ → Result Counted (List ℕ)
+unfoldable pub ringFetch : Book → ℕ → Plan → ℕ → ℕ → List ℕ → ℕ → Pixel → List ℕ → Result FetchAnswer (List ℕ)
 unfolding eitherFetch
 ringFetch = eitherFetch true
+
+-- "writes the cycles in pixel order, one byte each, at the start of a lent output, the rest unchanged; it turns down what a fetch does,
+-- without 12, 13 and 14": 2, 3, 4, 19, 20, 11, 17, 10, 16. It tells how many bytes.
+unfoldable pub cyclesFirst : Book → ℕ → Plan → ℕ → Option Refusal
+unfolding firstOf bookTest planTest numberTest
+cyclesFirst book r p n = firstOf (bookTest book r ∷ planTest p ∷ numberTest (book .count) n ∷ [])
+
+unfoldable pub writeCyclesTest : Book → ℕ → Plan → ℕ → ℕ → Option Refusal
+unfolding firstOf cyclesFirst suitsTest outputTest patternAt
+writeCyclesTest book r p n room =
+    firstOf (cyclesFirst book r p n ∷ suitsTest r p n (patternAt book n) ∷ outputTest (patternAt book n .used) room ∷ [])
+
+unfoldable pub writeCycles : Book → ℕ → Plan → ℕ → List ℕ → Result FetchAnswer (List ℕ)
+unfolding besideClash cyclesFirst changed writeCyclesTest overStart cycles pixels patternAt
+writeCycles book r p n out =
+    besideClash (cyclesFirst book r p n) r p book n
+    (changed (writeCyclesTest book r p n (length out)) Counted.Refused out
+    (Counted.Number (length (cycles p (pixels (patternAt book n)))))
+    (overStart (cycles p (pixels (patternAt book n))) out))
 
 -- Fill a record list: 11, 12, 14. "every record's bank and address are filled in; if any pixel is outside, no record changes"
 unfoldable pub recordPixel : PixelRecord → Pixel

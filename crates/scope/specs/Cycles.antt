@@ -1,5 +1,5 @@
 -- Document 02, Card 4: "Our cheaper cameras may spend r cycles on a pattern". The lattice classes of a pattern's pixels, the plans
--- that suit for r and the least of them, a pixel's cycle, and the clash for r. No call goes by these definitions yet.
+-- that suit for r and the least of them, a pixel's cycle, and the clash for r.
 -- Assumes nothing.
 use Prim.Native.Nat.{ℕ, suc, _-_}
 use mathlib.Core.Bool.{Bool, not}
@@ -12,6 +12,7 @@ use Rattle.scope.specs.Plans.{Pixel, at}
 use Rattle.scope.specs.Finding.{leastOf, leastCountOf, pixelIn, together}
 use Rattle.scope.specs.Banks.{bankOf}
 use Rattle.scope.specs.declared.Plan.{Plan}
+use Rattle.scope.specs.declared.Clash.{Clash}
 
 -- Two pixels are in one "lattice class" if their difference is in the lattice: `together` of their positions. The class of the pixel
 -- at e, as far as t holds it, is the positions of the pixels that are in one class with it, its own too
@@ -56,6 +57,13 @@ cycles p t = gather 0 (length t) (cycleOf p t)
 pub record LongClash : Type 0 where
   pub pattern : ℕ
   pub positions : List ℕ
+
+-- the clash struct inside an enum holds the pattern and two positions: as a clash of two, and the first two of a longer one
+abbrev pub lengthened : Clash → LongClash
+lengthened c = record { pattern = c .pattern; positions = c .earlier ∷ c .later ∷ [] }
+
+unfoldable pub shortened : LongClash → Clash
+shortened c = record { pattern = c .pattern; earlier = getD (c .positions) 0 0; later = getD (c .positions) 1 0 }
 
 -- the later positions of the class of the pixel at e
 unfoldable pub followers : Plan → List Pixel → ℕ → List ℕ

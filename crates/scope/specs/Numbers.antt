@@ -2,23 +2,22 @@
 -- this paper's numbers and values, and the table's conditions. Calls.antt has the order in which a call tests them.
 -- Assumes nothing.
 use Prim.Native.Nat.{ℕ, zero, suc, _+_, _*_, _%_}
-use mathlib.Core.Bool.{Bool, true, false, not, _&&_, _||_}
+use mathlib.Core.Bool.{Bool, false, not, _&&_, _||_}
 use mathlib.Core.Option.{Option, none, some}
-use mathlib.Core.List.{List, [], _∷_, map}
+use mathlib.Core.List.{List, [], _∷_}
 use lib.Dec.{leb, ltb, eqb}
 use lib.IntN.{ℤ, pos, negsuc}
-use lib.ListN.{length}
+use lib.ListN.{length, take, replicate}
 use Rattle.scope.specs.Search.{first, whenever, firstOf, every, someBelow}
-use Rattle.scope.specs.Plans.{Pixel, at, samePixel, lower, pixelAt, patternAt, pixels, banks, isPlan, determinantSize}
-use Rattle.scope.specs.Finding.{clashIn}
-use Rattle.scope.specs.Banks.{inside, depthOf, pixelOf}
+use Rattle.scope.specs.Plans.{Pixel, samePixel, lower, pixelAt, patternAt, pixels, banks, isPlan, determinantSize}
+use Rattle.scope.specs.Cycles.{LongClash, lengthened, shortened, clashInFor}
+use Rattle.scope.specs.Banks.{inside, depthOf, pixelOf, overStart}
 use Rattle.scope.specs.Books.{byte, start, pixelFrom}
 use Rattle.scope.specs.declared.Plan.{Plan}
 use Rattle.scope.specs.declared.Pattern.{Pattern}
 use Rattle.scope.specs.declared.Book.{Book}
-use Rattle.scope.specs.declared.Clash.{Clash}
 use Rattle.scope.specs.declared.Refusal.{Refusal}
-use Rattle.scope.specs.declared.Refusal.the-variants.{Ends, Count, Coordinate, Repeat, Extra, Limit, NoPlan, Dependent, Large, Unsuited, NotPlan, Sides, Memory, Outside, Cell, Output, NoPattern, Ring, Lower}
+use Rattle.scope.specs.declared.Refusal.the-variants.{Ends, Count, Coordinate, Repeat, Extra, Limit, NoPlan, Dependent, Large, Unsuited, NotPlan, Sides, Memory, Outside, Cell, Output, NoPattern, Ring, Lower, Cycles}
 use Rattle.scope.specs.declared.Checked.{Checked}
 use Rattle.scope.specs.declared.Verdict.{Verdict}
 use Rattle.scope.specs.declared.Planned.{Planned}
@@ -26,11 +25,13 @@ use Rattle.scope.specs.declared.Counted.{Counted}
 use Rattle.scope.specs.declared.Loaded.{Loaded}
 use Rattle.scope.specs.declared.Located.{Located}
 use Rattle.scope.specs.declared.Outcome.{Outcome}
+use Rattle.scope.specs.declared.CheckAnswer.{CheckAnswer}
+use Rattle.scope.specs.declared.FetchAnswer.{FetchAnswer}
 
 -- The column "No." of the table, the place and the clash. "The place is a byte offset for 1 to 5 where the call was given
 -- a book's bytes [..]. It is 0 elsewhere. 10 also carries its clash." Document 02, Card 3: 19, "its place in a book's bytes
--- being the pixel's first byte"
-abbrev pub rowOf : Refusal → ℕ × ℕ × Option Clash
+-- being the pixel's first byte"; Card 4: 20
+abbrev pub rowOf : Refusal → ℕ × ℕ × Option LongClash
 rowOf (Ends i) = (1, i, none)
 rowOf (Count i) = (2, i, none)
 rowOf (Coordinate i) = (3, i, none)
@@ -40,7 +41,7 @@ rowOf Limit = (6, 0, none)
 rowOf NoPlan = (7, 0, none)
 rowOf Dependent = (8, 0, none)
 rowOf Large = (9, 0, none)
-rowOf (Unsuited c) = (10, 0, some c)
+rowOf (Unsuited c) = (10, 0, some (lengthened c))
 rowOf NotPlan = (11, 0, none)
 rowOf Sides = (12, 0, none)
 rowOf Memory = (13, 0, none)
@@ -50,6 +51,7 @@ rowOf Output = (16, 0, none)
 rowOf NoPattern = (17, 0, none)
 rowOf Ring = (18, 0, none)
 rowOf (Lower i) = (19, i, none)
+rowOf Cycles = (20, 0, none)
 
 abbrev pub numberOf : Refusal → ℕ
 numberOf r = rowOf r .0
@@ -57,13 +59,13 @@ numberOf r = rowOf r .0
 abbrev pub placeOf : Refusal → ℕ
 placeOf r = rowOf r .1
 
-abbrev pub clashOf : Refusal → Option Clash
+abbrev pub clashOf : Refusal → Option LongClash
 clashOf r = rowOf r .2
 
 -- An answer in this paper's terms: a value, or a refusal's number, place and clash.
 pub data Answer (A : Type 0) : Type 0 where
   value : A → Answer A
-  refusal : (number place : ℕ) → Option Clash → Answer A
+  refusal : (number place : ℕ) → Option LongClash → Answer A
 
 abbrev pub turnedDown : {A : Type 0} → Refusal → Answer A
 turnedDown r = refusal (numberOf r) (placeOf r) (clashOf r)
@@ -95,15 +97,24 @@ ofVerdict (Verdict.Suits c) = value c
 ofVerdict (Verdict.Clashes c) = turnedDown (Unsuited c)
 ofVerdict (Verdict.Refused r) = turnedDown r
 
--- Document 02, Card 4, has a clash of up to nine positions. They stand in nine places beside the answer, 0 where none is left; today a
--- clash has two, and an answer without a clash has none.
-abbrev pub positionsOf : Option Clash → List ℕ
-positionsOf none = 0 ∷ 0 ∷ 0 ∷ 0 ∷ 0 ∷ 0 ∷ 0 ∷ 0 ∷ 0 ∷ []
-positionsOf (some c) = c .earlier ∷ c .later ∷ 0 ∷ 0 ∷ 0 ∷ 0 ∷ 0 ∷ 0 ∷ 0 ∷ []
+-- Document 02, Card 4: "the r + 1 ascending positions" of a clash stand beside the enum in nine places, then 0; all are 0 without one
+unfoldable pub places : Option LongClash → List ℕ
+unfolding overStart
+places none = replicate 9 0
+places (some c) = overStart (c .positions) (replicate 9 0)
 
-abbrev pub positionsIn : {A : Type 0} → Answer A → List ℕ
-positionsIn (value x) = positionsOf none
-positionsIn (refusal n i c) = positionsOf c
+-- an answer's clash with these positions
+abbrev pub withPositions : {A : Type 0} → List ℕ → Answer A → Answer A
+withPositions es (value x) = value x
+withPositions es (refusal n i none) = refusal n i none
+withPositions es (refusal n i (some c)) = refusal n i (some (record { pattern = c .pattern; positions = es }))
+
+-- what a check for r, a fetch for r and the cycles for r are in these terms: a clash has the first r + 1 of the places
+abbrev pub ofCheck : ℕ → CheckAnswer → Answer Checked
+ofCheck r a = withPositions (take (suc r) (a .positions)) (ofVerdict (a .verdict))
+
+abbrev pub ofFetch : ℕ → FetchAnswer → Answer ℕ
+ofFetch r a = withPositions (take (suc r) (a .positions)) (ofCounted (a .counted))
 
 -- The conditions. 2: "pattern count not 1-16 or pixel count not 1-64"
 unfoldable pub countTest : ℕ → ℕ → ℕ → Option Refusal
@@ -192,10 +203,15 @@ unfoldable pub largeTest : Pixel → Pixel → Option Refusal
 unfolding whenever determinantSize
 largeTest x y = whenever (ltb 1024 (determinantSize x y)) Large
 
--- 10: "plan doesn't suit", for the pattern t with number n
-unfoldable pub suitsTest : Plan → ℕ → Pattern → Option Refusal
-unfolding clashIn pixels
-suitsTest p n t = elim (clashIn p n (pixels t)) [ none ↦ none | some c ↦ some (Unsuited c) ]
+-- 20 (document 02, Card 4): "r outside 1 to 8"
+unfoldable pub cyclesTest : ℕ → Option Refusal
+unfolding whenever
+cyclesTest r = whenever (not (leb 1 r && leb r 8)) Cycles
+
+-- 10: "plan doesn't suit", for the pattern t with number n; Card 4: "turned down by 10 only where a class exceeds r"
+unfoldable pub suitsTest : ℕ → Plan → ℕ → Pattern → Option Refusal
+unfolding clashInFor pixels shortened
+suitsTest r p n t = elim (clashInFor r p n (pixels t)) [ none ↦ none | some c ↦ some (Unsuited (shortened c)) ]
 
 -- 11: "not a plan as defined"
 unfoldable pub planTest : Plan → Option Refusal

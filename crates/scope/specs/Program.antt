@@ -1,7 +1,7 @@
 -- Document 01, "Figures to agree with", the last lines: what the program writes for the bytes that it reads.
 -- Assumes nothing.
 use Prim.Native.Nat.{ℕ, zero, suc, _+_, _/_, _%_}
-use Prim.Native.Char.{Char, code}
+use Prim.Native.Char.{code}
 use Prim.Native.String.{String}
 use mathlib.Core.List.{List, [], _∷_, _++_}
 use Rattle.scope.specs.Plans.{banks}
@@ -10,7 +10,6 @@ use Rattle.scope.specs.Calls.{readBook, find}
 use Rattle.scope.specs.declared.Plan.{Plan}
 use Rattle.scope.specs.declared.Refusal.{Refusal}
 use Rattle.scope.specs.declared.Planned.{Planned}
-use Rattle.scope.specs.declared.Reading.{Reading}
 use Rattle.scope.specs.declared.Outcome.{Outcome}
 
 -- the decimal digits of n in ASCII, in front of `rest`; n has at most as many digits as the steps given
@@ -43,11 +42,11 @@ unfolding planLines refusedLine
 planText (Planned.Plan p) = planLines p
 planText (Planned.Refused r) = refusedLine r
 
--- "The program reads a book from standard input and uses limit 1024."
+-- "The program reads a book from standard input and uses limit 1024." It uses r = 1: its text is that of document 01
 unfoldable pub programText : List ℕ → List ℕ
 unfolding readBook find planText refusedLine
 programText s =
     elim (readBook s .outcome) [
-      | Outcome.Done ↦ planText (find (readBook s .book) 1024)
+      | Outcome.Done ↦ planText (find (readBook s .book) 1 1024)
       | Outcome.Refused r ↦ refusedLine r
     ]

@@ -1,12 +1,9 @@
 // Document 01's types. What each call does with them is defined in specs/; a plan's methods are in plans.rt, its formulas
-// in formulas.rt, the number, place and clash of a refusal in refusals.rt, and a clash's positions in positions.rt.
+// in formulas.rt, the number, place and clash of a refusal in refusals.rt.
 mod formulas;
 mod plans;
-mod positions;
 mod refusals;
 
-pub use positions::counted_positions;
-pub use positions::verdict_positions;
 pub use refusals::Row;
 pub use refusals::number_of;
 pub use refusals::row_of;
@@ -31,7 +28,7 @@ pub struct Plan {
     pub d: u32,
 }
 
-// Two pixels of one pattern in one bank: the pattern's number and the positions of both.
+// Pixels of one pattern in one bank, more than r of them: the pattern's number and the first two positions.
 pub struct Clash {
     pub pattern: usize,
     pub earlier: usize,
@@ -47,7 +44,7 @@ pub struct PixelRecord {
     pub address: u32,
 }
 
-// The refusals in the order of their numbers, 1 to 19. The number in the first five and the last is the place: a byte offset
+// The refusals in the order of their numbers, 1 to 20. The number in the first five and in `Lower` is the place: a byte offset
 // where the call was given a book's bytes, and 0 where it was given a record.
 pub enum Refusal {
     Ends(usize),
@@ -69,9 +66,10 @@ pub enum Refusal {
     NoPattern,
     Ring,
     Lower(usize),
+    Cycles,
 }
 
-// A plan and how many banks it has above the least count.
+// A plan and how many banks it has above the least for its r.
 pub struct Checked {
     pub plan: Plan,
     pub surplus: u32,
@@ -114,14 +112,13 @@ pub enum Outcome {
     Refused(Refusal),
 }
 
-// The check's verdict, and beside it the positions of its clash in nine places, 0 where none is left: document 02, Card 4, has up to
-// nine positions, and today there are two.
+// The check's verdict for r, and beside it the r + 1 positions of its clash in nine places, then 0; without a clash all are 0.
 pub struct CheckAnswer {
     pub verdict: Verdict,
     pub positions: [usize; 9],
 }
 
-// What a fetch counts, and beside it the positions of its clash in the same way.
+// What a fetch or the cycles count, and beside it the positions of the clash in the same way.
 pub struct FetchAnswer {
     pub counted: Counted,
     pub positions: [usize; 9],

@@ -37,6 +37,7 @@ pub fn row_of(r: Refusal) -> Row
         Refusal::NoPattern => Row(17, 0, no),
         Refusal::Ring => Row(18, 0, no),
         Refusal::Lower(i) => Row(19, i as u64, no),
+        Refusal::Cycles => Row(20, 0, no),
     }
 }
 

@@ -13,7 +13,7 @@ use Rattle.scope.specs.Program.{ascii, decimal, planLines, refusedLine}
 use Rattle.scope.specs.declared.Plan.{Plan}
 use Rattle.scope.specs.declared.Refusal.{Refusal}
 use Rattle.scope.specs.declared.Refusal.the-variants.{Ends, Count, Coordinate, Repeat, Extra, Limit, NoPlan, Dependent, Large}
-use Rattle.scope.specs.declared.Refusal.the-variants.{Unsuited, NotPlan, Sides, Memory, Outside, Cell, Output, NoPattern, Ring, Lower}
+use Rattle.scope.specs.declared.Refusal.the-variants.{Unsuited, NotPlan, Sides, Memory, Outside, Cell, Output, NoPattern, Ring, Lower, Cycles}
 use Rattle.text.specs.Texts.{textOf}
 use Rattle.text.proofs.DecimalDigits.{digits-at-most}
 use Rattle.text.proofs.PutLines.{joined}
@@ -74,7 +74,7 @@ plan-lines-at-most p ha hb hd =
     )))
 
 -- A refusal's number has at most two digits, and its line at most 11 bytes.
-number-at-most : (r : Refusal) → numberOf r ≤ 19
+number-at-most : (r : Refusal) → numberOf r ≤ 20
 number-at-most (Ends i) = omega arith
 number-at-most (Count i) = omega arith
 number-at-most (Coordinate i) = omega arith
@@ -94,6 +94,7 @@ number-at-most Output = omega arith
 number-at-most NoPattern = omega arith
 number-at-most Ring = omega arith
 number-at-most (Lower i) = omega arith
+number-at-most Cycles = omega arith
 
 pub refused-line-at-most : (r : Refusal) → length (refusedLine r) ≤ 11
 unfolding ascii

@@ -12,7 +12,7 @@ use Rattle.scope.specs.declared.Plan.{Plan}
 use Rattle.scope.specs.declared.Planned.{Planned}
 use Rattle.scope.specs.declared.Outcome.{Outcome}
 use Rattle.scope.specs.declared.Refusal.{Refusal}
-use Rattle.scope.specs.declared.Clash.{Clash}
+use Rattle.scope.specs.Cycles.{LongClash}
 use Rattle.checks.proofs.Chains.{value-not-refusal, value-injective, refusal-number}
 
 -- what the program writes for an outcome of the reader and an answer of the finder
@@ -28,7 +28,7 @@ written-for-a-plan Outcome.Done (Planned.Refused r) p done e = absurd (value-not
 written-for-a-plan (Outcome.Refused r) answer p done e = absurd (value-not-refusal (sym done))
 
 written-for-a-refusal :
-    (o : Outcome) (answer : Planned) (n i : ℕ) (c : Option Clash) → ofOutcome o ≡ refusal n i c
+    (o : Outcome) (answer : Planned) (n i : ℕ) (c : Option LongClash) → ofOutcome o ≡ refusal n i c
     → written o answer ≡ ascii "refused " ++ decimal n ++ ascii "\n"
 unfolding refusedLine
 written-for-a-refusal Outcome.Done answer n i c e = absurd (value-not-refusal e)
@@ -37,7 +37,7 @@ written-for-a-refusal (Outcome.Refused r) answer n i c e =
 
 -- the text for a book that was read, and for one that was not
 module _ (s : List ℕ) where
-  pub text-of-read : readBook s .outcome ≡ Outcome.Done → planText (find (readBook s .book) 1024) ≡ programText s
+  pub text-of-read : readBook s .outcome ≡ Outcome.Done → planText (find (readBook s .book) 1 1024) ≡ programText s
   unfolding programText
   text-of-read done = rw (done, programText) refl
 
@@ -50,6 +50,6 @@ pub program-writes : ProgramWrites
 unfolding programText planLines
 program-writes =
     record {
-      plan-lines = λ s p done e. written-for-a-plan (readBook s .outcome) (find (readBook s .book) 1024) p done e;
-      refused-line = λ s n i c e. written-for-a-refusal (readBook s .outcome) (find (readBook s .book) 1024) n i c e;
+      plan-lines = λ s p done e. written-for-a-plan (readBook s .outcome) (find (readBook s .book) 1 1024) p done e;
+      refused-line = λ s n i c e. written-for-a-refusal (readBook s .outcome) (find (readBook s .book) 1 1024) n i c e;
     }

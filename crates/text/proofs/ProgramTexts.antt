@@ -6,7 +6,7 @@ use mathlib.Core.Path.{_≡_, refl, sym, _∙_, ap}
 use mathlib.Core.List.{List}
 use lib.ListN.{length, replicate, length-replicate}
 use Rattle.scope.specs.Plans.{patterns}
-use Rattle.scope.specs.Finding.{suitable}
+use Rattle.scope.specs.Cycles.{suitableFor}
 use Rattle.scope.specs.Numbers.{ofPlanned}
 use Rattle.scope.specs.Calls.{readBook, find}
 use Rattle.scope.specs.Program.{planText, programText}
@@ -37,13 +37,13 @@ plan-text-at-most p h =
     let d-most = d-at-most p h in
     omega (arith, plan-lines-at-most p (omega arith) (omega (arith, h .b-below)) (omega arith))
 
-answer-text-at-most : (book : Book) (answer : Planned) → find book 1024 ≡ answer → length (planText answer) ≤ 80
+answer-text-at-most : (book : Book) (answer : Planned) → find book 1 1024 ≡ answer → length (planText answer) ≤ 80
 unfolding planText
 answer-text-at-most book (Planned.Refused r) e = omega (arith, refused-line-at-most r)
 answer-text-at-most book (Planned.Plan p) e =
-    let (legal, searched) = find-value-iff book 1024 p .0 (ap ofPlanned e) in
-    let (least, within) = least-plan-some (suitable (patterns book)) 1024 p searched in
-    plan-text-at-most p (least-is-plan (suitable (patterns book)) p least within)
+    let (legal, searched) = find-value-iff book 1 1024 p .0 (ap ofPlanned e) in
+    let (least, within) = least-plan-some (suitableFor 1 (patterns book)) 1024 p searched in
+    plan-text-at-most p (least-is-plan (suitableFor 1 (patterns book)) p least within)
 
 outcome-text-at-most : (s : List ℕ) (o : Outcome) → readBook s .outcome ≡ o → length (programText s) ≤ 80
 outcome-text-at-most s (Outcome.Refused r) e = rw (← text-of-refused s e) (omega (arith, refused-line-at-most r))

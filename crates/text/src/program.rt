@@ -20,5 +20,5 @@ pub fn program_text(s: &[u8]) -> Text
         return refused_text(r);
     }
     let book = reading.book;
-    planned_text(find(book, 1024))
+    planned_text(find(book, 1, 1024))
 }

@@ -9,12 +9,12 @@ returns : tie.Need-returns
 returns c =
     let l = c .before .before .before .before .before .before in
     let p = l .before .before .before .before .before in
-    plan-kept _ _ _ _ _ _ (p .before .before .find .ensures) (p .planned .given .1) (l .run-list .ensures)
+    plan-kept _ _ _ _ _ _ _ (p .before .before .find .ensures) (p .planned .given .1) (l .run-list .ensures)
 
 returns-2 : tie.Need-returns-2
 returns-2 c =
     let p = c .before in
-    refusal-kept _ _ _ _ _ _ (p .before .before .find .ensures) (p .planned2 .given .1)
+    refusal-kept _ _ _ _ _ _ _ (p .before .before .find .ensures) (p .planned2 .given .1)
 
 pub find-and-run-spec : {M : Type 1} → statement M
 find-and-run-spec =

@@ -3,21 +3,21 @@
 use Prim.Native.Nat.{ℕ, _+_, _*_, _-_, _≤_, _<_}
 use mathlib.Core.Path.{_≡_}
 use mathlib.Core.Logic.{_↔_}
-use mathlib.Core.Option.{Option, none}
+use mathlib.Core.Option.{Option}
 use mathlib.Core.List.{List, [], _∷_, _++_, flatMap, List·Memᴰ}
-use lib.IntN.{ℤ, pos, _-ℤ_}
+use lib.IntN.{pos, _-ℤ_}
 use lib.ListN.{length, getD, take, drop}
 use Rattle.scope.specs.Plans.{Pixel, at, pixelAt, patternAt, pixels, patterns, banks}
 use Rattle.scope.specs.Banks.{overStart}
 use Rattle.scope.specs.Books.{byte, signed, unsigned, bookOf, pixelBytes, patternBytes, bookBytes}
 use Rattle.scope.specs.Numbers.{value, refusal, ofPlanned, ofCounted, ofOutcome, recordTest}
-use Rattle.scope.specs.Calls.{readBook, patternPart, partOutcome, partPlace, writeBook, find, fewest, check, moved, fetch, ringFetch}
+use Rattle.scope.specs.Calls.{readBook, patternPart, partOutcome, partPlace, writeBook, find, fewest, check, moved, fetch, ringFetch, writeCycles}
 use Rattle.scope.specs.Program.{ascii, decimal, programText}
 use Rattle.scope.specs.promises.Meaning.{InRange, Lower, IsPattern, IsBook}
 use Rattle.scope.specs.declared.Plan.{Plan}
 use Rattle.scope.specs.declared.Pattern.{Pattern}
 use Rattle.scope.specs.declared.Book.{Book}
-use Rattle.scope.specs.declared.Clash.{Clash}
+use Rattle.scope.specs.Cycles.{LongClash}
 
 -- "8-bit two's complement": 0 to 127 as they are, 128 to 255 less 256; and back
 pub record TwosComplement : Type 0 where
@@ -90,13 +90,13 @@ pub record PartsAre : Type 0 where
   pub bytes :
       (s : List ℕ) → Bytes s → (n : ℕ) → ofOutcome (partOutcome s n) ≡ value tt
       → patternPart s n ≡ flatMap pixelBytes (pixels (patternAt (readBook s .book) n))
-  pub empty : (s : List ℕ) (n m i : ℕ) (c : Option Clash) → ofOutcome (partOutcome s n) ≡ refusal m i c → patternPart s n ≡ []
+  pub empty : (s : List ℕ) (n m i : ℕ) (c : Option LongClash) → ofOutcome (partOutcome s n) ≡ refusal m i c → patternPart s n ≡ []
   -- "the part of the book where they stand": after the pattern count, the patterns before it and its own pixel count
   pub place :
       (s : List ℕ) (n : ℕ) → ofOutcome (partOutcome s n) ≡ value tt
       → partPlace s n ≡ 1 + length (flatMap patternBytes (take n (patterns (readBook s .book)))) + 1
   -- an empty part is at the start
-  pub place-empty : (s : List ℕ) (n m i : ℕ) (c : Option Clash) → ofOutcome (partOutcome s n) ≡ refusal m i c → partPlace s n ≡ 0
+  pub place-empty : (s : List ℕ) (n m i : ℕ) (c : Option LongClash) → ofOutcome (partOutcome s n) ≡ refusal m i c → partPlace s n ≡ 0
 
 -- two records agree where it counts
 pub record SameUsed (book other : Book) : Type 0 where
@@ -109,16 +109,19 @@ pub record UnusedDontCount : Type 0 where
   pub refused : (book other : Book) → SameUsed book other → recordTest book ≡ recordTest other
   pub same : (book other : Book) → SameUsed book other → patterns book ≡ patterns other
   pub rebuilt : (book : Book) → IsBook book → SameUsed book (bookOf (patterns book))
-  pub finds : (book other : Book) → SameUsed book other → (limit : ℕ) → find book limit ≡ find other limit
-  pub counts : (book other : Book) → SameUsed book other → fewest book ≡ fewest other
-  pub checks : (book other : Book) → SameUsed book other → (x y : Pixel) → check book x y ≡ check other x y
+  pub finds : (book other : Book) → SameUsed book other → (r limit : ℕ) → find book r limit ≡ find other r limit
+  pub counts : (book other : Book) → SameUsed book other → (r : ℕ) → fewest book r ≡ fewest other r
+  pub checks : (book other : Book) → SameUsed book other → (r : ℕ) (x y : Pixel) → check book r x y ≡ check other r x y
   pub writes : (book other : Book) → SameUsed book other → (out : List ℕ) → writeBook book out ≡ writeBook other out
   pub fetches :
-      (book other : Book) → SameUsed book other → (p : Plan) (W H : ℕ) (mem : List ℕ) (n : ℕ) (o : Pixel) (out : List ℕ)
-      → fetch book p W H mem n o out ≡ fetch other p W H mem n o out
+      (book other : Book) → SameUsed book other → (r : ℕ) (p : Plan) (W H : ℕ) (mem : List ℕ) (n : ℕ) (o : Pixel) (out : List ℕ)
+      → fetch book r p W H mem n o out ≡ fetch other r p W H mem n o out
   pub ring-fetches :
-      (book other : Book) → SameUsed book other → (p : Plan) (W H : ℕ) (mem : List ℕ) (n : ℕ) (o : Pixel) (out : List ℕ)
-      → ringFetch book p W H mem n o out ≡ ringFetch other p W H mem n o out
+      (book other : Book) → SameUsed book other → (r : ℕ) (p : Plan) (W H : ℕ) (mem : List ℕ) (n : ℕ) (o : Pixel) (out : List ℕ)
+      → ringFetch book r p W H mem n o out ≡ ringFetch other r p W H mem n o out
+  pub writes-cycles :
+      (book other : Book) → SameUsed book other → (r : ℕ) (p : Plan) (n : ℕ) (out : List ℕ)
+      → writeCycles book r p n out ≡ writeCycles other r p n out
 
 -- "a reader sets them to 0", in arrays of 16 and 64; the 1 is what would be found past an array's end
 pub record ReaderSetsZero : Type 0 where
@@ -149,8 +152,8 @@ pub record DecimalMeans : Type 0 where
 pub record ProgramWrites : Type 0 where
   pub plan-lines :
       (s : List ℕ) (p : Plan) → ofOutcome (readBook s .outcome) ≡ value tt
-      → ofPlanned (find (readBook s .book) 1024) ≡ value p
+      → ofPlanned (find (readBook s .book) 1 1024) ≡ value p
       → programText s ≡ ascii "banks " ++ decimal (banks p) ++ ascii "\nplan " ++ decimal (p .a) ++ ascii " " ++ decimal (p .b) ++ ascii " " ++ decimal (p .d) ++ ascii "\n"
   pub refused-line :
-      (s : List ℕ) (n i : ℕ) (c : Option Clash) → ofOutcome (readBook s .outcome) ≡ refusal n i c
+      (s : List ℕ) (n i : ℕ) (c : Option LongClash) → ofOutcome (readBook s .outcome) ≡ refusal n i c
       → programText s ≡ ascii "refused " ++ decimal n ++ ascii "\n"

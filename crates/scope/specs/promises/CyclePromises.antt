@@ -1,23 +1,22 @@
 -- Document 02, Card 4: what is promised of classes, of plans that suit for r, of cycles and of the clash for r, for each r by one
--- argument, and that r = 1 is what there was before. Statements; Promises.antt has them all.
+-- argument. What the calls have from it: PlanPromises, PicturePromises, Demand; r = 1: OneCyclePromises. Statements; Promises.antt has
+-- them all.
 -- Assumes nothing.
 use Prim.Native.Nat.{ℕ, suc, _*_, _≤_, _<_}
 use mathlib.Core.Path.{_≡_}
 use mathlib.Core.Logic.{_↔_, _⊎_}
 use mathlib.Core.Bool.{true}
-use mathlib.Core.Option.{none, some, Option·map}
+use mathlib.Core.Option.{none, some}
 use mathlib.Core.List.{List, [], _∷_, List·Memᴰ}
 use lib.ListN.{length, getD}
 use Rattle.integers.specs.Division.{ceilDiv}
-use Rattle.scope.specs.Plans.{Pixel, plus, minus, patterns, banks, Combination, along, up, suits, determinantSize}
-use Rattle.scope.specs.Finding.{Before, pixelIn, leastPlan, leastCount, boxWidth, boxHeight, clash}
+use Rattle.scope.specs.Plans.{Pixel, plus, minus, patterns, banks, Combination, along, up, determinantSize}
+use Rattle.scope.specs.Finding.{Before, pixelIn, boxWidth, boxHeight}
 use Rattle.scope.specs.Banks.{bankOf}
 use Rattle.scope.specs.Cycles.{suitsFor, suitsAllFor, leastPlanFor, leastCountFor, cycleOf, cycles, LongClash, clashInFor, clashFor}
 use Rattle.scope.specs.promises.Meaning.{IsPlan, IsBook, Independent}
-use Rattle.scope.specs.promises.PlanPromises.{Parted}
 use Rattle.scope.specs.declared.Plan.{Plan}
 use Rattle.scope.specs.declared.Book.{Book}
-use Rattle.scope.specs.declared.Clash.{Clash}
 
 -- numbers that ascend
 abbrev pub Ascending : List ℕ → Type 0
@@ -128,19 +127,3 @@ pub record LeastInCycles (r : ℕ) (book : Book) : Type 0 where
 
 abbrev pub LeastInCyclesEach : Type 0
 LeastInCyclesEach = (r : ℕ) (book : Book) → LeastInCycles r book
-
--- a clash of two pixels as one of r + 1
-unfoldable pub lengthened : Clash → LongClash
-lengthened c = record { pattern = c .pattern; positions = c .earlier ∷ c .later ∷ [] }
-
--- "At r = 1 everything agrees with the finder as it was.": of a legal book, as no pattern has a pixel twice
-pub record OneCycle (book : Book) : Type 0 where
-  pub uncrowded : (x y : Pixel) → Uncrowded 1 x y (patterns book) ↔ Parted x y (patterns book)
-  pub suiting :
-      (p : Plan) → 1 ≤ p .a → 1 ≤ p .d → (t : List Pixel) → List·Memᴰ t (patterns book) → suitsFor 1 p t ≡ suits p t
-  pub least-plan : (limit : ℕ) → leastPlanFor 1 (patterns book) limit ≡ leastPlan (patterns book) limit
-  pub least-count : leastCountFor 1 (patterns book) ≡ leastCount (patterns book)
-
-pub record OneCycleIsBefore : Type 0 where
-  pub of-book : (book : Book) → IsBook book → OneCycle book
-  pub clashes : (p : Plan) (ts : List (List Pixel)) → clashFor 1 p ts ≡ Option·map lengthened (clash p ts)

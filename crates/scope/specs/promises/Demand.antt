@@ -1,17 +1,19 @@
 -- Demand 3 over a list of calls, as document 01, "Banks and addresses", words it: "any finite list, the empty one too, of
--- stores, clears, loads and plain fetches, under one plan that the finder gave for a book, with that book, one W and one H".
+-- stores, clears, loads and plain fetches, under one plan that the finder gave for a book, with that book, one W and one H". Document
+-- 02, Card 4: "with the finder's r in each fetch".
 -- The calls are those of Calls.antt, which the contracts cite.
 -- Assumes nothing.
 use Prim.Native.Nat.{ℕ, _*_, _≤_, _<_}
 use mathlib.Core.Path.{_≡_}
-use mathlib.Core.Bool.{Bool, true, false, cond}
+use mathlib.Core.Bool.{false, cond}
 use mathlib.Core.Option.{Option, none, some}
 use mathlib.Core.List.{List, [], _∷_, _++_, map, List·Memᴰ}
 use lib.Dec.{eqb}
 use lib.ListN.{length, getD, take, drop, replicate}
-use Rattle.scope.specs.Plans.{Pixel, samePixel, patternAt, banks}
+use Rattle.scope.specs.Plans.{Pixel, samePixel, patternAt, pixels, banks}
 use Rattle.scope.specs.Banks.{bankOf, depthOf, wordOf, wordIn, overStart}
-use Rattle.scope.specs.Numbers.{Answer, value, turnedDown, ofPlanned, ofCounted, ofLoaded, ofOutcome}
+use Rattle.scope.specs.Numbers.{Answer, value, turnedDown, withPositions, ofPlanned, ofLoaded, ofOutcome, ofFetch}
+use Rattle.scope.specs.Cycles.{cycles, clashInFor}
 use Rattle.scope.specs.Search.{stateAfter, repliesOf}
 use Rattle.scope.specs.Calls as Calls
 use Rattle.scope.specs.Calls.{Result, Lent, lent, answered, wordTest, wholeBankTest, fetchTest, moved, find}
@@ -36,6 +38,7 @@ pub data Call : Type 0 where
 
 pub record Setting : Type 0 where
   pub book : Book
+  pub r : ℕ
   pub plan : Plan
   pub W : ℕ
   pub H : ℕ
@@ -56,8 +59,8 @@ unfoldable pub readReply : Setting → List ℕ → Read → Reply
 unfolding Calls.load Calls.fetch
 readReply g mem (load v) = loaded (ofLoaded (Calls.load (g .plan) (g .W) (g .H) mem v))
 readReply g mem (fetch n o out) =
-    fetched (ofCounted (Calls.fetch (g .book) (g .plan) (g .W) (g .H) mem n o out .answer))
-    (Calls.fetch (g .book) (g .plan) (g .W) (g .H) mem n o out .content)
+    fetched (ofFetch (g .r) (Calls.fetch (g .book) (g .r) (g .plan) (g .W) (g .H) mem n o out .answer))
+    (Calls.fetch (g .book) (g .r) (g .plan) (g .W) (g .H) mem n o out .content)
 
 unfoldable pub reply : Setting → List ℕ → Call → Reply
 unfolding writeResult readReply
@@ -85,7 +88,7 @@ unfolding wordTest wholeBankTest fetchTest
 test g words (write (store v x)) = wordTest (g .plan) (g .W) (g .H) words v
 test g words (write (clear k)) = wholeBankTest (g .plan) (g .W) (g .H) words k
 test g words (read (load v)) = wordTest (g .plan) (g .W) (g .H) words v
-test g words (read (fetch n o out)) = fetchTest false (g .book) (g .plan) (g .W) (g .H) words n o (length out)
+test g words (read (fetch n o out)) = fetchTest false (g .book) (g .r) (g .plan) (g .W) (g .H) words n o (length out)
 
 -- the word at pixel v after a call that is not turned down, where it was `old` before: a store there sets it, a clear of
 -- the pixel's bank makes it 0
@@ -129,16 +132,25 @@ pub record LastStoredMeans : Type 0 where
       → lastStored g words (past ++ (write (clear k) ∷ later)) v ≡ 0
   pub never : (g : Setting) (words : ℕ) (v : Pixel) (calls : List Call) → Untouched g words v calls → lastStored g words calls v ≡ 0
 
+-- a fetch of pattern n that is turned down; "10 also carries its clash"
+unfoldable pub refusedFetch : Setting → ℕ → Refusal → Answer ℕ
+unfolding clashInFor pixels patternAt
+refusedFetch g n f =
+    elim (clashInFor (g .r) (g .plan) n (pixels (patternAt (g .book) n))) [
+      | none ↦ turnedDown f
+      | some c ↦ withPositions (c .positions) (turnedDown f)
+    ]
+
 -- What call c is to give after the calls `past`: the refusal that the conditions tell, or what it is for, with the words last stored.
 unfoldable pub replyDue : Setting → ℕ → List Call → Call → Reply
-unfolding answered test lastStored moved overStart patternAt
+unfolding answered test refusedFetch lastStored moved overStart patternAt
 replyDue g words past (write w) = wrote (answered (test g words (write w)) turnedDown (value tt))
 replyDue g words past (read (load v)) =
     loaded (answered (test g words (read (load v))) turnedDown (value (lastStored g words past v)))
 replyDue g words past (read (fetch n o out)) =
     let vs : List Pixel = moved (patternAt (g .book) n) o in
     fetched
-    (answered (test g words (read (fetch n o out))) turnedDown (value (length vs)))
+    (answered (test g words (read (fetch n o out))) (refusedFetch g n) (value (length vs)))
     (answered (test g words (read (fetch n o out))) (λ r. out) (overStart (map (lastStored g words past) vs) out))
 
 -- What a call is given allows it: its pixel inside, its bank below N, or a pattern of the book wholly inside and room for it.
@@ -158,9 +170,19 @@ banksRead g (write w) = []
 banksRead g (read (load v)) = []
 banksRead g (read (fetch n o out)) = map (bankOf (g .plan)) (moved (patternAt (g .book) n) o)
 
--- "that there is at most one from each bank means that these banks are all different"
-abbrev pub AllDifferent : List ℕ → Type 0
-AllDifferent xs = (e l : ℕ) → e < l → l < length xs → getD xs e 0 ≡ getD xs l 0 → ⊥
+-- and the cycles that they come in
+unfoldable pub cyclesRead : Setting → Call → List ℕ
+unfolding cycles pixels patternAt
+cyclesRead g (write w) = []
+cyclesRead g (read (load v)) = []
+cyclesRead g (read (fetch n o out)) = cycles (g .plan) (pixels (patternAt (g .book) n))
+
+-- "A fetch takes at most one word from each bank in each cycle, that is, no two of its words have both bank and cycle in common and each
+-- cycle is below r"
+pub record InCycles (r : ℕ) (ks cs : List ℕ) : Type 0 where
+  pub as-many : length cs ≡ length ks
+  pub apart : (e l : ℕ) → e < l → l < length ks → getD ks e 0 ≡ getD ks l 0 → getD cs e 0 ≡ getD cs l 0 → ⊥
+  pub below : (e : ℕ) → e < length cs → getD cs e 0 < r
 
 -- the N × depth words of the picture
 unfoldable pub pictureWords : Setting → ℕ
@@ -175,8 +197,8 @@ pub record CallHolds (g : Setting) (mem : List ℕ) (past : List Call) (c : Call
   pub taken : IsSide (g .W) → IsSide (g .H) → Allowed g c → test g (length mem) c ≡ none
   -- and no other is taken (which number turns it down: CallsRefuse)
   pub only-legal : test g (length mem) c ≡ none → IsSide (g .W) × IsSide (g .H) × Allowed g c
-  -- the words of a fetch that is not turned down come from banks that are all different
-  pub apart : test g (length mem) c ≡ none → AllDifferent (banksRead g c)
+  -- the words of a fetch that is not turned down: at most one from each bank in each of r cycles
+  pub in-cycles : test g (length mem) c ≡ none → InCycles (g .r) (banksRead g c) (cyclesRead g c)
 
 -- What holds of the whole list.
 pub record ListHolds (g : Setting) (mem : List ℕ) (calls : List Call) : Type 0 where
@@ -197,7 +219,7 @@ pub record ListHolds (g : Setting) (mem : List ℕ) (calls : List Call) : Type 0
 abbrev pub Demand3 : Type 0
 Demand3 =
     (g : Setting) (limit : ℕ) (mem : List ℕ) (calls : List Call)
-    → ofPlanned (find (g .book) limit) ≡ value (g .plan)
+    → ofPlanned (find (g .book) (g .r) limit) ≡ value (g .plan)
     → pictureWords g ≤ length mem
     → take (pictureWords g) mem ≡ replicate (pictureWords g) 0
     → ListHolds g mem calls

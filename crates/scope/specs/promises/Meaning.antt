@@ -4,7 +4,7 @@
 use Prim.Native.Nat.{ℕ, suc, _+_, _*_, _≤_, _<_}
 use mathlib.Core.Path.{_≡_}
 use mathlib.Core.Logic.{_↔_}
-use mathlib.Core.Bool.{Bool, true, false}
+use mathlib.Core.Bool.{true}
 use mathlib.Core.Option.{Option, none, some}
 use mathlib.Core.List.{List, [], _∷_, _++_, List·Memᴰ}
 use lib.IntN.{ℤ, pos, negsuc, _+ℤ_}
@@ -15,7 +15,8 @@ use Rattle.scope.specs.Search.{firstOf}
 use Rattle.scope.specs.Plans.{Pixel, at, lower, minus, pixelAt, patternAt, pixels, patterns, differences, banks, InLattice, latticeTest, suits, suitsAll, determinant, determinantSize, normalForm}
 use Rattle.scope.specs.Banks.{bankOf, addressOf, depthOf, pixelOf, inside}
 use Rattle.scope.specs.Books.{bookBytes}
-use Rattle.scope.specs.Numbers.{value, ofPlanned, ofCounted, ofOutcome, recordTest, limitTest, dependentTest, largeTest, suitsTest, planTest, sidesTest, memoryTest, outsideTest, bankTest, cellTest, outputTest, numberTest, ringTest}
+use Rattle.scope.specs.Cycles.{suitsFor}
+use Rattle.scope.specs.Numbers.{value, ofPlanned, ofCounted, ofOutcome, recordTest, limitTest, cyclesTest, dependentTest, largeTest, suitsTest, planTest, sidesTest, memoryTest, outsideTest, bankTest, cellTest, outputTest, numberTest, ringTest}
 use Rattle.scope.specs.Calls.{recordOutcome, writeBook, normal, bank, depth, address, moved}
 use Rattle.scope.specs.declared.Plan.{Plan}
 use Rattle.scope.specs.declared.Pattern.{Pattern}
@@ -82,6 +83,10 @@ pub record IsBook (book : Book) : Type 0 where
   pub most : book .count ≤ 16
   pub each : (n : ℕ) → n < book .count → IsPattern (patternAt book n)
 
+-- Document 02, Card 4: "r from 1 to 8"
+abbrev pub IsCycles : ℕ → Type 0
+IsCycles r = (1 ≤ r) × (r ≤ 8)
+
 -- "they are independent if their determinant isn't 0"
 abbrev pub Independent : Pixel → Pixel → Type 0
 Independent x y = determinant x y ≡ pos 0 → ⊥
@@ -140,7 +145,7 @@ pub record TestsMean : Type 0 where
   pub dependent-8 : (x y : Pixel) → (dependentTest x y ≡ none) ↔ Independent x y
   pub large-9 : (x y : Pixel) → (largeTest x y ≡ none) ↔ (determinantSize x y ≤ 1024)
   pub suits-10 :
-      (t : Pattern) (p : Plan) (n : ℕ) → IsPattern t → IsPlan p → (suitsTest p n t ≡ none) ↔ (suits p (pixels t) ≡ true)
+      (r : ℕ) (t : Pattern) (p : Plan) (n : ℕ) → IsPlan p → (suitsTest r p n t ≡ none) ↔ (suitsFor r p (pixels t) ≡ true)
   pub plan-11 : (p : Plan) → (planTest p ≡ none) ↔ IsPlan p
   pub sides-12 : (W H : ℕ) → (sidesTest W H ≡ none) ↔ (IsSide W × IsSide H)
   pub memory-13 : (p : Plan) (W H words : ℕ) → (memoryTest p W H words ≡ none) ↔ (banks p * depthOf p W H ≤ words)
@@ -150,6 +155,7 @@ pub record TestsMean : Type 0 where
   pub output-16 : (n room : ℕ) → (outputTest n room ≡ none) ↔ (n ≤ room)
   pub number-17 : (count n : ℕ) → (numberTest count n ≡ none) ↔ (n < count)
   pub ring-18 : (p : Plan) (W H : ℕ) → IsPlan p → (ringTest p W H ≡ none) ↔ RingAllowed p W H
+  pub cycles-20 : (r : ℕ) → (cyclesTest r ≡ none) ↔ IsCycles r
 
 -- A legal call is never refused: the test of a record, the writer, and plans. (The finder and the check: PlanPromises; calls on
 -- a picture: PicturePromises; the reader and a pattern's part: BookPromises, BytesMean and PartsAre.)

@@ -4,24 +4,24 @@
 use Prim.Native.Nat.{ℕ, zero, suc, _+_, _*_, _≤_, _<_}
 use mathlib.Core.Path.{_≡_}
 use mathlib.Core.Logic.{_↔_}
-use mathlib.Core.Bool.{Bool, true, false}
-use mathlib.Core.Option.{Option, none, some}
+use mathlib.Core.Bool.{true}
+use mathlib.Core.Option.{Option, none}
 use mathlib.Core.List.{List, map}
 use lib.IntN.{ℤ, pos, _-ℤ_, _*ℤ_}
 use lib.ListN.{length, getD, drop}
 use Rattle.integers.specs.Division.{IsDivision}
-use Rattle.scope.specs.Plans.{Pixel, at, minus, patternAt, pixels, banks, InLattice, suits}
+use Rattle.scope.specs.Plans.{Pixel, at, minus, patternAt, pixels, banks, InLattice}
 use Rattle.scope.specs.Banks.{bankOf, addressOf, depthOf, wordOf, wrapped}
-use Rattle.scope.specs.Numbers.{value, refusal, ofCounted, ofLoaded, ofLocated, ofOutcome}
-use Rattle.scope.specs.Calls.{Result, Lent, lent, writeBook, locate, store, load, clear, sum, moved, fetch, ringMoved, ringFetch, recordPixel, fillRecords}
-use Rattle.scope.specs.promises.Meaning.{IsPlan, IsSide, Inside, AllInside, IsPicture, IsBook, RingAllowed}
-use Rattle.scope.specs.promises.Demand.{AllDifferent}
+use Rattle.scope.specs.Cycles.{suitsFor, cycleOf, cycles, LongClash}
+use Rattle.scope.specs.Numbers.{value, refusal, ofCounted, ofFetch, ofLoaded, ofLocated, ofOutcome}
+use Rattle.scope.specs.Calls.{Result, Lent, lent, writeBook, locate, store, load, clear, sum, moved, fetch, ringMoved, ringFetch, writeCycles, recordPixel, fillRecords}
+use Rattle.scope.specs.promises.Meaning.{IsPlan, IsSide, Inside, AllInside, IsPicture, IsBook, IsCycles, RingAllowed}
+use Rattle.scope.specs.promises.Demand.{InCycles}
 use Rattle.scope.specs.declared.Plan.{Plan}
 use Rattle.scope.specs.declared.Book.{Book}
 use Rattle.scope.specs.declared.Pattern.{Pattern}
-use Rattle.scope.specs.declared.Clash.{Clash}
 use Rattle.scope.specs.declared.PixelRecord.{PixelRecord}
-use Rattle.scope.specs.declared.Counted.{Counted}
+use Rattle.scope.specs.declared.FetchAnswer.{FetchAnswer}
 use Rattle.scope.specs.declared.Outcome.{Outcome}
 
 -- C is n/d rounded up: the least m with n ≤ m × d
@@ -108,21 +108,41 @@ unfoldable pub totalBelow : ℕ → (ℕ → ℕ) → ℕ
 totalBelow zero f = 0
 totalBelow (suc n) f = totalBelow n f + f n
 
--- "words in the book's pixel order, the rest of the output unchanged": entry e is the word at the pixel vs[e]
-pub record FetchedAll (p : Plan) (W H : ℕ) (mem : List ℕ) (vs : List Pixel) (out : List ℕ) (r : Result Counted (List ℕ)) : Type 0 where
-  pub count : ofCounted (r .answer) ≡ value (length vs)
-  pub words : (e : ℕ) → e < length vs → getD (r .content) e 0 ≡ wordAt p W H mem (getD vs e (at (pos 0) (pos 0)))
-  pub rest : drop (length vs) (r .content) ≡ drop (length vs) out
-  pub as-long : length (r .content) ≡ length out
-  -- "that there is at most one from each bank means that these banks are all different"
-  pub apart : AllDifferent (map (bankOf p) vs)
+-- "words in the book's pixel order, the rest of the output unchanged": entry e is the word at the pixel vs[e]; the pattern is t
+pub record FetchedAll
+    (r : ℕ) (p : Plan) (W H : ℕ) (mem : List ℕ) (t : Pattern) (vs : List Pixel) (out : List ℕ) (x : Result FetchAnswer (List ℕ))
+    : Type 0
+  where
+    pub count : ofFetch r (x .answer) ≡ value (length vs)
+    pub words : (e : ℕ) → e < length vs → getD (x .content) e 0 ≡ wordAt p W H mem (getD vs e (at (pos 0) (pos 0)))
+    pub rest : drop (length vs) (x .content) ≡ drop (length vs) out
+    pub as-long : length (x .content) ≡ length out
+    -- "A fetch takes at most one word from each bank in each cycle"
+    pub in-cycles : InCycles r (map (bankOf p) vs) (cycles p (pixels t))
 
--- a fetch, plain or ring, but for its position and its output: the plan suits its own pattern
-pub record LegalFetch (book : Book) (p : Plan) (W H words n : ℕ) : Type 0 where
+-- a fetch for r, plain or ring, but for its position and its output: the plan suits its own pattern for r
+pub record LegalFetch (book : Book) (r : ℕ) (p : Plan) (W H words n : ℕ) : Type 0 where
   pub legal-book : IsBook book
+  pub legal-cycles : IsCycles r
   pub picture : IsPicture p W H words
   pub number : n < book .count
-  pub suiting : suits p (pixels (patternAt book n)) ≡ true
+  pub suiting : suitsFor r p (pixels (patternAt book n)) ≡ true
+
+-- the cycles of a pattern for r, but for the output
+pub record LegalCycles (book : Book) (r : ℕ) (p : Plan) (n : ℕ) : Type 0 where
+  pub legal-book : IsBook book
+  pub legal-cycles : IsCycles r
+  pub plan : IsPlan p
+  pub number : n < book .count
+  pub suiting : suitsFor r p (pixels (patternAt book n)) ≡ true
+
+-- "writes the cycles in pixel order, one byte each, at the start of a lent output, the rest unchanged"
+pub record WrittenCycles (r : ℕ) (p : Plan) (t : Pattern) (out : List ℕ) (x : Result FetchAnswer (List ℕ)) : Type 0 where
+  pub count : ofFetch r (x .answer) ≡ value (t .used)
+  pub bytes : (e : ℕ) → e < t .used → getD (x .content) e 0 ≡ cycleOf p (pixels t) e
+  pub below : (e : ℕ) → e < t .used → getD (x .content) e 0 < r
+  pub rest : drop (t .used) (x .content) ≡ drop (t .used) out
+  pub as-long : length (x .content) ≡ length out
 
 -- "every record's bank and address are filled in"
 abbrev pub noRecord : PixelRecord
@@ -152,15 +172,18 @@ pub record PictureCalls : Type 0 where
       (p : Plan) (W H : ℕ) (mem : List ℕ) (k n : ℕ) → ((i : ℕ) → getD mem i 0 < 65536)
       → ofCounted (sum p W H mem k) ≡ value n → n < 0x1_0000_0000_0000_0000
   pub fetches :
-      (book : Book) (p : Plan) (W H : ℕ) (mem : List ℕ) (n : ℕ) (o : Pixel) (out : List ℕ)
-      → LegalFetch book p W H (length mem) n → AllInside W H (moved (patternAt book n) o)
+      (book : Book) (r : ℕ) (p : Plan) (W H : ℕ) (mem : List ℕ) (n : ℕ) (o : Pixel) (out : List ℕ)
+      → LegalFetch book r p W H (length mem) n → AllInside W H (moved (patternAt book n) o)
       → patternAt book n .used ≤ length out
-      → FetchedAll p W H mem (moved (patternAt book n) o) out (fetch book p W H mem n o out)
+      → FetchedAll r p W H mem (patternAt book n) (moved (patternAt book n) o) out (fetch book r p W H mem n o out)
   pub ring-fetches :
-      (book : Book) (p : Plan) (W H : ℕ) (mem : List ℕ) (n : ℕ) (o : Pixel) (out : List ℕ)
-      → LegalFetch book p W H (length mem) n → RingAllowed p W H
+      (book : Book) (r : ℕ) (p : Plan) (W H : ℕ) (mem : List ℕ) (n : ℕ) (o : Pixel) (out : List ℕ)
+      → LegalFetch book r p W H (length mem) n → RingAllowed p W H
       → patternAt book n .used ≤ length out
-      → FetchedAll p W H mem (ringMoved W H (patternAt book n) o) out (ringFetch book p W H mem n o out)
+      → FetchedAll r p W H mem (patternAt book n) (ringMoved W H (patternAt book n) o) out (ringFetch book r p W H mem n o out)
+  pub writes-cycles :
+      (book : Book) (r : ℕ) (p : Plan) (n : ℕ) (out : List ℕ) → LegalCycles book r p n → patternAt book n .used ≤ length out
+      → WrittenCycles r p (patternAt book n) out (writeCycles book r p n out)
   pub fills :
       (p : Plan) (W H : ℕ) (rs : List PixelRecord) → IsPlan p → IsSide W → IsSide H
       → AllInside W H (map recordPixel rs) → FilledAll p W H rs (fillRecords p W H rs)
@@ -168,24 +191,28 @@ pub record PictureCalls : Type 0 where
 -- "buffers and lists stay unchanged" on a refusal, n, i and c being its number, place and clash
 pub record RefusalsChangeNothing : Type 0 where
   pub writes :
-      (book : Book) (out : List ℕ) (n i : ℕ) (c : Option Clash)
+      (book : Book) (out : List ℕ) (n i : ℕ) (c : Option LongClash)
       → ofCounted (writeBook book out .answer) ≡ refusal n i c → writeBook book out .content ≡ out
   pub stores :
-      (p : Plan) (W H : ℕ) (mem : List ℕ) (v : Pixel) (x n i : ℕ) (c : Option Clash)
+      (p : Plan) (W H : ℕ) (mem : List ℕ) (v : Pixel) (x n i : ℕ) (c : Option LongClash)
       → ofOutcome (store p W H (lent mem) v x .answer) ≡ refusal n i c → store p W H (lent mem) v x .content ≡ lent mem
   pub clears :
-      (p : Plan) (W H : ℕ) (mem : List ℕ) (k n i : ℕ) (c : Option Clash)
+      (p : Plan) (W H : ℕ) (mem : List ℕ) (k n i : ℕ) (c : Option LongClash)
       → ofOutcome (clear p W H (lent mem) k .answer) ≡ refusal n i c → clear p W H (lent mem) k .content ≡ lent mem
   pub fetches :
-      (book : Book) (p : Plan) (W H : ℕ) (mem : List ℕ) (m : ℕ) (o : Pixel) (out : List ℕ) (n i : ℕ) (c : Option Clash)
-      → ofCounted (fetch book p W H mem m o out .answer) ≡ refusal n i c
-      → fetch book p W H mem m o out .content ≡ out
+      (book : Book) (r : ℕ) (p : Plan) (W H : ℕ) (mem : List ℕ) (m : ℕ) (o : Pixel) (out : List ℕ) (n i : ℕ) (c : Option LongClash)
+      → ofFetch r (fetch book r p W H mem m o out .answer) ≡ refusal n i c
+      → fetch book r p W H mem m o out .content ≡ out
   pub ring-fetches :
-      (book : Book) (p : Plan) (W H : ℕ) (mem : List ℕ) (m : ℕ) (o : Pixel) (out : List ℕ) (n i : ℕ) (c : Option Clash)
-      → ofCounted (ringFetch book p W H mem m o out .answer) ≡ refusal n i c
-      → ringFetch book p W H mem m o out .content ≡ out
+      (book : Book) (r : ℕ) (p : Plan) (W H : ℕ) (mem : List ℕ) (m : ℕ) (o : Pixel) (out : List ℕ) (n i : ℕ) (c : Option LongClash)
+      → ofFetch r (ringFetch book r p W H mem m o out .answer) ≡ refusal n i c
+      → ringFetch book r p W H mem m o out .content ≡ out
+  pub writes-cycles :
+      (book : Book) (r : ℕ) (p : Plan) (m : ℕ) (out : List ℕ) (n i : ℕ) (c : Option LongClash)
+      → ofFetch r (writeCycles book r p m out .answer) ≡ refusal n i c
+      → writeCycles book r p m out .content ≡ out
   pub fills :
-      (p : Plan) (W H : ℕ) (rs : List PixelRecord) (n i : ℕ) (c : Option Clash)
+      (p : Plan) (W H : ℕ) (rs : List PixelRecord) (n i : ℕ) (c : Option LongClash)
       → ofOutcome (fillRecords p W H rs .answer) ≡ refusal n i c → fillRecords p W H rs .content ≡ rs
 
 -- Document 000, Theorem 2.6, for both sides: where W and H are multiples of N, wrapping keeps the bank, and lands inside

@@ -5,9 +5,10 @@ use Rattle.integers.specs.Gcd.{EuclidsRule, GcdIsGreatest}
 use Rattle.scope.specs.promises.Meaning.{PatternsAre, LatticeMeans, SuitsMeans, LowerMeans, InsideMeans, ChainIsFirst, TestsMean, LegalCallsAnswer}
 use Rattle.scope.specs.promises.Demand.{LastStoredMeans, Demand3}
 use Rattle.scope.specs.promises.PlanPromises.{NormalFormIsOnly, FinderIsLeast, FinderNone, FinderDecides, FinderOrder, BoxIsGreatest, FinderStaysWithin, LimitIsEnough, CountIsLeast, SurplusIsExcess, ClashIsFirst, CheckDecides}
-use Rattle.scope.specs.promises.CyclePromises.{SuitsForMeans, CyclesPart, LongClashes, LeastInCyclesEach, OneCycleIsBefore}
+use Rattle.scope.specs.promises.CyclePromises.{SuitsForMeans, CyclesPart, LongClashes, LeastInCyclesEach}
 use Rattle.scope.specs.promises.PicturePromises.{FormulasAre, BanksAreClasses, PixelsHaveWords, ReverseMap, PictureCalls, RefusalsChangeNothing, RingKeepsBanks}
 use Rattle.scope.specs.promises.RefusalPromises.{CallsRefuse, RecordRefuses, ReaderRefuses}
+use Rattle.scope.specs.promises.OneCyclePromises.{OneCycleIsBefore, KeptAtOne}
 use Rattle.scope.specs.promises.BookPromises.{TwosComplement, BytesMean, ReadAfterWrite, WriteAfterRead, PixelsAscend, PartsAre, UnusedDontCount, ReaderSetsZero, DecimalMeans, ProgramWrites}
 
 pub record Promises : Type 0 where
@@ -50,6 +51,7 @@ pub record Promises : Type 0 where
   pub long-clashes : LongClashes
   pub least-in-cycles : LeastInCyclesEach
   pub one-cycle-is-before : OneCycleIsBefore
+  pub kept-at-one : KeptAtOne
   -- banks, addresses and the calls on a picture
   pub formulas-are : FormulasAre
   pub banks-are-classes : BanksAreClasses

@@ -3,22 +3,22 @@
 -- Assumes nothing.
 use Prim.Native.Nat.{ℕ, suc, _*_, _≤_, _<_}
 use mathlib.Core.Path.{_≡_}
-use mathlib.Core.Bool.{true, false}
+use mathlib.Core.Bool.{false}
 use mathlib.Core.Option.{Option, none, some}
 use mathlib.Core.List.{List, [], _∷_, _++_, map, flatMap, List·Memᴰ}
 use lib.IntN.{pos}
 use lib.ListN.{length, getD}
-use Rattle.scope.specs.Plans.{Pixel, at, pixelAt, patternAt, pixels, banks, suits, determinantSize}
+use Rattle.scope.specs.Plans.{Pixel, at, pixelAt, patternAt, pixels, banks, determinantSize}
 use Rattle.scope.specs.Banks.{depthOf}
+use Rattle.scope.specs.Cycles.{suitsFor, LongClash}
 use Rattle.scope.specs.Books.{signed, patternOf, bookOf, pixelBytes, patternBytes, bookBytes}
-use Rattle.scope.specs.Numbers.{Answer, value, refusal, turnedDown, ofPlanned, ofCounted, ofLoaded, ofLocated, ofOutcome, ofVerdict, recordTest}
-use Rattle.scope.specs.Calls.{readBook, partOutcome, recordOutcome, writeBook, normal, find, fewest, check, bank, depth, address, locate, store, load, clear, sum, lent, moved, fetch, ringFetch, recordPixel, fillRecords}
-use Rattle.scope.specs.promises.Meaning.{IsPlan, IsSide, Inside, AllInside, IsPicture, InRange, Lower, PixelLegal, IsPattern, IsBook, Independent, RingAllowed}
-use Rattle.scope.specs.promises.PicturePromises.{LegalFetch}
+use Rattle.scope.specs.Numbers.{Answer, value, refusal, turnedDown, ofPlanned, ofCounted, ofLoaded, ofLocated, ofOutcome, ofCheck, ofFetch, recordTest}
+use Rattle.scope.specs.Calls.{readBook, partOutcome, recordOutcome, writeBook, normal, find, fewest, check, bank, depth, address, locate, store, load, clear, sum, lent, moved, fetch, ringFetch, writeCycles, recordPixel, fillRecords}
+use Rattle.scope.specs.promises.Meaning.{IsPlan, IsSide, Inside, AllInside, IsPicture, InRange, Lower, PixelLegal, IsPattern, IsBook, IsCycles, Independent, RingAllowed}
+use Rattle.scope.specs.promises.PicturePromises.{LegalFetch, LegalCycles}
 use Rattle.scope.specs.declared.Plan.{Plan}
 use Rattle.scope.specs.declared.Pattern.{Pattern}
 use Rattle.scope.specs.declared.Book.{Book}
-use Rattle.scope.specs.declared.Clash.{Clash}
 use Rattle.scope.specs.declared.Refusal.{Refusal}
 use Rattle.scope.specs.declared.PixelRecord.{PixelRecord}
 
@@ -42,29 +42,51 @@ pub record BankRefused {A : Type 0} (p : Plan) (W H words k : ℕ) (r : Answer A
   pub first : PictureRefused p W H words r
   pub bank-15 : IsPicture p W H words → banks p ≤ k → r ≡ refusal 15 0 none
 
--- 2, 3, 4, 19, 11, 12, 13, 17, then 10: both fetches
-pub record FetchRefused (book : Book) (p : Plan) (W H words n : ℕ) (r : Answer ℕ) : Type 0 where
-  pub book-2-3-4-19 : (f : Refusal) → recordTest book ≡ some f → r ≡ turnedDown f
-  pub first : IsBook book → PictureRefused p W H words r
-  pub number-17 : IsBook book → IsPicture p W H words → book .count ≤ n → r ≡ refusal 17 0 none
+-- 2, 3, 4, 19, then 20: the calls that take a book and r
+pub record BookRefused {A : Type 0} (book : Book) (r : ℕ) (x : Answer A) : Type 0 where
+  pub book-2-3-4-19 : (f : Refusal) → recordTest book ≡ some f → x ≡ turnedDown f
+  pub cycles-20 : IsBook book → (IsCycles r → ⊥) → x ≡ refusal 20 0 none
+
+-- 2, 3, 4, 19, 20, 11, 12, 13, 17, then 10: both fetches
+pub record FetchRefused (book : Book) (r : ℕ) (p : Plan) (W H words n : ℕ) (x : Answer ℕ) : Type 0 where
+  pub first : BookRefused book r x
+  pub picture : IsBook book → IsCycles r → PictureRefused p W H words x
+  pub number-17 : IsBook book → IsCycles r → IsPicture p W H words → book .count ≤ n → x ≡ refusal 17 0 none
   pub suits-10 :
-      IsBook book → IsPicture p W H words → n < book .count → suits p (pixels (patternAt book n)) ≡ false
-      → (c : Clash) × (r ≡ refusal 10 0 (some c))
+      IsBook book → IsCycles r → IsPicture p W H words → n < book .count → suitsFor r p (pixels (patternAt book n)) ≡ false
+      → (c : LongClash) × (x ≡ refusal 10 0 (some c))
+
+-- 2, 3, 4, 19, 20, 11, 17, then 10: the cycles
+pub record CyclesRefused (book : Book) (r : ℕ) (p : Plan) (n : ℕ) (x : Answer ℕ) : Type 0 where
+  pub first : BookRefused book r x
+  pub plan-11 : IsBook book → IsCycles r → (IsPlan p → ⊥) → x ≡ refusal 11 0 none
+  pub number-17 : IsBook book → IsCycles r → IsPlan p → book .count ≤ n → x ≡ refusal 17 0 none
+  pub suits-10 :
+      IsBook book → IsCycles r → IsPlan p → n < book .count → suitsFor r p (pixels (patternAt book n)) ≡ false
+      → (c : LongClash) × (x ≡ refusal 10 0 (some c))
 
 -- "A call applies those checks that concern it in this order". (7: FinderNone; the check's 10: CheckDecides, ClashIsFirst; the reverse
 -- map's 15: ReverseMap; the order within a record and within bytes: below.)
 pub record CallsRefuse : Type 0 where
   pub normal-8 : (x y : Pixel) → (Independent x y → ⊥) → ofPlanned (normal x y) ≡ refusal 8 0 none
   pub normal-9 : (x y : Pixel) → 1024 < determinantSize x y → ofPlanned (normal x y) ≡ refusal 9 0 none
-  pub find-2-3-4-19 : (book : Book) (limit : ℕ) (f : Refusal) → recordTest book ≡ some f → ofPlanned (find book limit) ≡ turnedDown f
+  pub find-2-3-4-19 :
+      (book : Book) (r limit : ℕ) (f : Refusal) → recordTest book ≡ some f → ofPlanned (find book r limit) ≡ turnedDown f
   pub find-6 :
-      (book : Book) (limit : ℕ) → IsBook book → ((1 ≤ limit) × (limit ≤ 1024) → ⊥)
-      → ofPlanned (find book limit) ≡ refusal 6 0 none
-  pub count-2-3-4-19 : (book : Book) (f : Refusal) → recordTest book ≡ some f → ofCounted (fewest book) ≡ turnedDown f
-  pub check-2-3-4-19 : (book : Book) (x y : Pixel) (f : Refusal) → recordTest book ≡ some f → ofVerdict (check book x y) ≡ turnedDown f
-  pub check-8 : (book : Book) (x y : Pixel) → IsBook book → (Independent x y → ⊥) → ofVerdict (check book x y) ≡ refusal 8 0 none
+      (book : Book) (r limit : ℕ) → IsBook book → ((1 ≤ limit) × (limit ≤ 1024) → ⊥)
+      → ofPlanned (find book r limit) ≡ refusal 6 0 none
+  -- Card 4: "20, r outside 1 to 8, just after 6"
+  pub find-20 :
+      (book : Book) (r limit : ℕ) → IsBook book → 1 ≤ limit → limit ≤ 1024 → (IsCycles r → ⊥)
+      → ofPlanned (find book r limit) ≡ refusal 20 0 none
+  pub counts : (book : Book) (r : ℕ) → BookRefused book r (ofCounted (fewest book r))
+  pub checks : (book : Book) (r : ℕ) (x y : Pixel) → BookRefused book r (ofCheck r (check book r x y))
+  pub check-8 :
+      (book : Book) (r : ℕ) (x y : Pixel) → IsBook book → IsCycles r → (Independent x y → ⊥)
+      → ofCheck r (check book r x y) ≡ refusal 8 0 none
   pub check-9 :
-      (book : Book) (x y : Pixel) → IsBook book → 1024 < determinantSize x y → ofVerdict (check book x y) ≡ refusal 9 0 none
+      (book : Book) (r : ℕ) (x y : Pixel) → IsBook book → IsCycles r → 1024 < determinantSize x y
+      → ofCheck r (check book r x y) ≡ refusal 9 0 none
   -- "A call given a book record tests 2, 3, 4", and 19: that test by itself
   pub record-2-3-4-19 : (book : Book) (f : Refusal) → recordTest book ≡ some f → ofOutcome (recordOutcome book) ≡ turnedDown f
   pub write-2-3-4-19 :
@@ -88,29 +110,34 @@ pub record CallsRefuse : Type 0 where
       (p : Plan) (W H : ℕ) (mem : List ℕ) (k : ℕ) → BankRefused p W H (length mem) k (ofOutcome (clear p W H (lent mem) k .answer))
   pub sums : (p : Plan) (W H : ℕ) (mem : List ℕ) (k : ℕ) → BankRefused p W H (length mem) k (ofCounted (sum p W H mem k))
   pub fetches :
-      (book : Book) (p : Plan) (W H : ℕ) (mem : List ℕ) (n : ℕ) (o : Pixel) (out : List ℕ)
-      → FetchRefused book p W H (length mem) n (ofCounted (fetch book p W H mem n o out .answer))
+      (book : Book) (r : ℕ) (p : Plan) (W H : ℕ) (mem : List ℕ) (n : ℕ) (o : Pixel) (out : List ℕ)
+      → FetchRefused book r p W H (length mem) n (ofFetch r (fetch book r p W H mem n o out .answer))
   pub fetch-14 :
-      (book : Book) (p : Plan) (W H : ℕ) (mem : List ℕ) (n : ℕ) (o : Pixel) (out : List ℕ)
-      → LegalFetch book p W H (length mem) n → (AllInside W H (moved (patternAt book n) o) → ⊥)
-      → ofCounted (fetch book p W H mem n o out .answer) ≡ refusal 14 0 none
+      (book : Book) (r : ℕ) (p : Plan) (W H : ℕ) (mem : List ℕ) (n : ℕ) (o : Pixel) (out : List ℕ)
+      → LegalFetch book r p W H (length mem) n → (AllInside W H (moved (patternAt book n) o) → ⊥)
+      → ofFetch r (fetch book r p W H mem n o out .answer) ≡ refusal 14 0 none
   pub fetch-16 :
-      (book : Book) (p : Plan) (W H : ℕ) (mem : List ℕ) (n : ℕ) (o : Pixel) (out : List ℕ)
-      → LegalFetch book p W H (length mem) n → AllInside W H (moved (patternAt book n) o) → length out < patternAt book n .used
-      → ofCounted (fetch book p W H mem n o out .answer) ≡ refusal 16 0 none
+      (book : Book) (r : ℕ) (p : Plan) (W H : ℕ) (mem : List ℕ) (n : ℕ) (o : Pixel) (out : List ℕ)
+      → LegalFetch book r p W H (length mem) n → AllInside W H (moved (patternAt book n) o) → length out < patternAt book n .used
+      → ofFetch r (fetch book r p W H mem n o out .answer) ≡ refusal 16 0 none
   pub ring-fetches :
-      (book : Book) (p : Plan) (W H : ℕ) (mem : List ℕ) (n : ℕ) (o : Pixel) (out : List ℕ)
-      → FetchRefused book p W H (length mem) n (ofCounted (ringFetch book p W H mem n o out .answer))
+      (book : Book) (r : ℕ) (p : Plan) (W H : ℕ) (mem : List ℕ) (n : ℕ) (o : Pixel) (out : List ℕ)
+      → FetchRefused book r p W H (length mem) n (ofFetch r (ringFetch book r p W H mem n o out .answer))
   -- "It is allowed exactly if W and H are both multiples of N" (PictureCalls.ring-fetches is the other half)
   pub ring-18 :
-      (book : Book) (p : Plan) (W H : ℕ) (mem : List ℕ) (n : ℕ) (o : Pixel) (out : List ℕ)
-      → LegalFetch book p W H (length mem) n → (RingAllowed p W H → ⊥)
-      → ofCounted (ringFetch book p W H mem n o out .answer) ≡ refusal 18 0 none
+      (book : Book) (r : ℕ) (p : Plan) (W H : ℕ) (mem : List ℕ) (n : ℕ) (o : Pixel) (out : List ℕ)
+      → LegalFetch book r p W H (length mem) n → (RingAllowed p W H → ⊥)
+      → ofFetch r (ringFetch book r p W H mem n o out .answer) ≡ refusal 18 0 none
   pub ring-16 :
-      (book : Book) (p : Plan) (W H : ℕ) (mem : List ℕ) (n : ℕ) (o : Pixel) (out : List ℕ)
-      → LegalFetch book p W H (length mem) n → RingAllowed p W H
+      (book : Book) (r : ℕ) (p : Plan) (W H : ℕ) (mem : List ℕ) (n : ℕ) (o : Pixel) (out : List ℕ)
+      → LegalFetch book r p W H (length mem) n → RingAllowed p W H
       → length out < patternAt book n .used
-      → ofCounted (ringFetch book p W H mem n o out .answer) ≡ refusal 16 0 none
+      → ofFetch r (ringFetch book r p W H mem n o out .answer) ≡ refusal 16 0 none
+  pub writes-cycles :
+      (book : Book) (r : ℕ) (p : Plan) (n : ℕ) (out : List ℕ) → CyclesRefused book r p n (ofFetch r (writeCycles book r p n out .answer))
+  pub write-cycles-16 :
+      (book : Book) (r : ℕ) (p : Plan) (n : ℕ) (out : List ℕ) → LegalCycles book r p n → length out < patternAt book n .used
+      → ofFetch r (writeCycles book r p n out .answer) ≡ refusal 16 0 none
   pub fills : (p : Plan) (W H : ℕ) (rs : List PixelRecord) → PlanRefused p W H (ofOutcome (fillRecords p W H rs .answer))
   pub fill-14 :
       (p : Plan) (W H : ℕ) (rs : List PixelRecord) → IsPlan p → IsSide W → IsSide H
@@ -210,10 +237,10 @@ pub record ReaderRefuses : Type 0 where
   pub extra-5 :
       (s rest : List ℕ) → readAnswer s ≡ value tt → 1 ≤ length rest → readAnswer (s ++ rest) ≡ refusal 5 (length s) none
   -- the record of a refused book is that of no pattern
-  pub record-of-none : (s : List ℕ) (n i : ℕ) (c : Option Clash) → readAnswer s ≡ refusal n i c → readBook s .book ≡ bookOf []
+  pub record-of-none : (s : List ℕ) (n i : ℕ) (c : Option LongClash) → readAnswer s ≡ refusal n i c → readBook s .book ≡ bookOf []
   -- a pattern's part: "a second call with the same input gives the number and place"
   pub part-book :
-      (s : List ℕ) (k n i : ℕ) (c : Option Clash) → readAnswer s ≡ refusal n i c
+      (s : List ℕ) (k n i : ℕ) (c : Option LongClash) → readAnswer s ≡ refusal n i c
       → ofOutcome (partOutcome s k) ≡ refusal n i c
   pub part-17 :
       (s : List ℕ) (k : ℕ) → readAnswer s ≡ value tt → readBook s .book .count ≤ k

@@ -14,7 +14,6 @@ use Rattle.scope.specs.Numbers.{value}
 use Rattle.scope.specs.Calls.{readBook, patternPart, partPlace, recordOutcome, partOutcome, writeBook, normal, find, fewest, check, bank, depth, address, locate}
 use Rattle.scope.specs.Program.{ascii, decimal, programText}
 use Rattle.scope.specs.values.Rows.{Row, Hold, row, is, refused, clashes, planned, counted, located, done, neg, px, one, two, gap, threeAndThree, cross, fivePixels, finds, reads, writes, checks, caseOf}
-use Rattle.scope.specs.declared.Plan.{Plan}
 
 -- The book of two patterns of three pixels.
 book33 : List ℕ
@@ -44,11 +43,11 @@ counts-hold = refl
 leastCounts : List Row
 unfolding row is refused counted fewest bookOf gap cross px
 leastCounts =
-    row (counted (fewest (bookOf gap))) (is (4 ∷ []))
-    ∷ row (counted (fewest (bookOf cross))) (is (5 ∷ []))
-    ∷ row (counted (fewest (bookOf []))) (refused 2 0)
-    ∷ row (counted (fewest (bookOf ((px 16 0 ∷ []) ∷ [])))) (refused 3 0)
-    ∷ row (counted (fewest (bookOf ((px 0 0 ∷ px 0 0 ∷ []) ∷ [])))) (refused 4 0)
+    row (counted (fewest (bookOf gap) 1)) (is (4 ∷ []))
+    ∷ row (counted (fewest (bookOf cross) 1)) (is (5 ∷ []))
+    ∷ row (counted (fewest (bookOf []) 1)) (refused 2 0)
+    ∷ row (counted (fewest (bookOf ((px 16 0 ∷ []) ∷ [])) 1)) (refused 3 0)
+    ∷ row (counted (fewest (bookOf ((px 0 0 ∷ px 0 0 ∷ []) ∷ [])) 1)) (refused 4 0)
     ∷ []
 
 leastCounts-hold : Hold leastCounts
@@ -60,7 +59,6 @@ leastCounts-hold = refl
 -- (4, 2, 1), (2, 1, 2)
 -- (6, 1, 1), (6, 2, 1), (3, 1, 2), (3, 2, 2)
 -- (6, 2, 1), (6, 4, 1), (3, 1, 2), (3, 2, 2)
--- (9, 3, 1), (9, 6, 1), (3, 0, 3), (3, 1, 3), (3, 2, 3), for the 3 by 3 block
 ties : List Row
 unfolding row is finds px
 ties =
@@ -68,12 +66,20 @@ ties =
     ∷ row (finds (map (λ v. px 0 0 ∷ v ∷ []) (px 3 0 ∷ px 0 1 ∷ px 2 2 ∷ [])) 1024) (is (2 ∷ 1 ∷ 2 ∷ []))
     ∷ row (finds ((px 3 0 ∷ px 0 1 ∷ px 2 1 ∷ px 0 2 ∷ []) ∷ []) 1024) (is (6 ∷ 1 ∷ 1 ∷ []))
     ∷ row (finds ((px 0 0 ∷ px 1 1 ∷ px 3 1 ∷ px 0 2 ∷ []) ∷ []) 1024) (is (3 ∷ 1 ∷ 2 ∷ []))
-    ∷ row (finds (gather 0 9 (λ i. px (i % 3) (i / 3)) ∷ []) 1024) (is (3 ∷ 0 ∷ 3 ∷ []))
     ∷ []
 
 ties-hold : Hold ties
 unfolding ties
 ties-hold = refl
+
+-- and for the 3 by 3 block (9, 3, 1), (9, 6, 1), (3, 0, 3), (3, 1, 3), (3, 2, 3)
+tiesOfBlock : List Row
+unfolding row is finds gather px
+tiesOfBlock = row (finds (gather 0 9 (λ i. px (i % 3) (i / 3)) ∷ []) 1024) (is (3 ∷ 0 ∷ 3 ∷ [])) ∷ []
+
+tiesOfBlock-hold : Hold tiesOfBlock
+unfolding tiesOfBlock
+tiesOfBlock-hold = refl
 
 -- Coordinates -17, -16, 15, 16, and a repeat, in a record.
 coordinates : List Row
@@ -138,7 +144,7 @@ bookOrders-hold = refl
 parts : List Row
 unfolding row is refused planned find readBook done patternPart partPlace recordOutcome partOutcome book33 patternAt px bookOf
 parts =
-    row (planned (find (readBook book33 .book) 1024)) (is (3 ∷ 1 ∷ 1 ∷ []))
+    row (planned (find (readBook book33 .book) 1 1024)) (is (3 ∷ 1 ∷ 1 ∷ []))
     ∷ row (is (patternPart book33 1)) (is (0 ∷ 0 ∷ 0 ∷ 1 ∷ 0 ∷ 2 ∷ []))
     ∷ row (is (patternPart book33 2)) (is [])
     ∷ row (is (partPlace book33 0 ∷ partPlace book33 1 ∷ partPlace book33 2 ∷ [])) (is (2 ∷ 9 ∷ 0 ∷ []))
@@ -170,14 +176,12 @@ writing-hold : Hold writing
 unfolding writing
 writing-hold = refl
 
--- The program. Nine patterns (0,0), (i,0), i from 1 to 9, need 10 banks. The last two rows are document 01's "banks 5",
--- "plan 5 2 1" and "refused 1", each letter in ASCII.
+-- The program. The last two rows are document 01's "banks 5", "plan 5 2 1" and "refused 1", each letter in ASCII.
 programs : List Row
-unfolding row is programText ascii fivePixels gather flatMap decimal
+unfolding row is programText ascii fivePixels flatMap decimal
 programs =
     row (is (programText fivePixels)) (is (ascii "banks 5\nplan 5 2 1\n"))
     ∷ row (is (programText [])) (is (ascii "refused 1\n"))
-    ∷ row (is (programText (9 ∷ flatMap (λ i. 2 ∷ 0 ∷ 0 ∷ i ∷ 0 ∷ []) (gather 1 9 λ i. i)))) (is (ascii "banks 10\nplan 10 0 1\n"))
     ∷ row (is (programText (6 ∷ flatMap (λ v. 2 ∷ 0 ∷ 0 ∷ v) ((0 ∷ 1 ∷ []) ∷ (1 ∷ 1 ∷ []) ∷ (2 ∷ 1 ∷ []) ∷ (0xff ∷ 1 ∷ []) ∷ (1 ∷ 2 ∷ []) ∷ (1 ∷ 0 ∷ []) ∷ [])))) (is (ascii "banks 4\nplan 2 0 2\n"))
     ∷ row (is (programText (1 ∷ 1 ∷ 0x10 ∷ 0 ∷ []))) (is (ascii "refused 3\n"))
     ∷ row (is (decimal 1024 ++ decimal 0)) (is (ascii "10240"))
@@ -188,6 +192,15 @@ programs =
 programs-hold : Hold programs
 unfolding programs
 programs-hold = refl
+
+-- Nine patterns (0,0), (i,0), i from 1 to 9, need 10 banks.
+tenBanks : List Row
+unfolding row is programText ascii gather flatMap
+tenBanks = row (is (programText (9 ∷ flatMap (λ i. 2 ∷ 0 ∷ 0 ∷ i ∷ 0 ∷ []) (gather 1 9 λ i. i)))) (is (ascii "banks 10\nplan 10 0 1\n")) ∷ []
+
+tenBanks-hold : Hold tenBanks
+unfolding tenBanks
+tenBanks-hold = refl
 
 -- The sides w and h of the box that bounds N.
 boxes : List Row
@@ -256,7 +269,7 @@ layout-hold = refl
 -- A surplus, and clashes; the verdict's three cases.
 caseOfTwo : Pixel → Pixel → ℕ
 unfolding caseOf check bookOf two
-caseOfTwo x y = caseOf (check (bookOf (two ∷ [])) x y)
+caseOfTwo x y = caseOf (check (bookOf (two ∷ [])) 1 x y .verdict)
 
 verdicts : List Row
 unfolding row is clashes checks caseOfTwo one two px

@@ -2,7 +2,7 @@
 -- book has one pattern, (0, 0) and (1, 0); the finder's plan for it is 2, 0, 1.
 -- Assumes nothing.
 use Prim.Native.Nat.{ℕ}
-use mathlib.Core.Path.{_≡_, refl, sym, _∙_, ap}
+use mathlib.Core.Path.{_≡_, refl, _∙_, ap}
 use mathlib.Core.Option.{none}
 use mathlib.Core.List.{List, [], _∷_, _++_}
 use native.Mathlib.Omega.{arith}
@@ -14,12 +14,12 @@ use Rattle.scope.specs.Books.{bookOf}
 use Rattle.scope.specs.Numbers.{value}
 use Rattle.scope.specs.Calls.{find}
 use Rattle.scope.specs.promises.Meaning.{Inside}
-use Rattle.scope.specs.promises.Demand.{Call, write, read, store, clear, load, fetch, fetched, Setting, reply, run, test, replyDue, lastStored, banksRead, pictureWords, CallHolds, ListHolds, Demand3}
+use Rattle.scope.specs.promises.Demand.{Call, write, read, store, clear, load, fetch, fetched, Setting, reply, run, test, replyDue, lastStored, banksRead, cyclesRead, pictureWords, CallHolds, ListHolds, Demand3}
 
 -- a picture of W by H
 unfoldable pub sized : ℕ → ℕ → Setting
 unfolding bookOf plan at
-sized W H = record { book = bookOf ((at (pos 0) (pos 0) ∷ at (pos 1) (pos 0) ∷ []) ∷ []); plan = plan 2 0 1; W = W; H = H }
+sized W H = record { book = bookOf ((at (pos 0) (pos 0) ∷ at (pos 1) (pos 0) ∷ []) ∷ []); r = 1; plan = plan 2 0 1; W = W; H = H }
 
 -- a memory of one word more than a picture of 2 by 2 has, one of exactly the words of a picture of 1 by 1, and one for no word
 abbrev pub longer : List ℕ
@@ -105,8 +105,8 @@ module _ (demand-3 : Demand3) where
   fetch-taken = refl
 
   two-banks : bankOf (plan 2 0 1) (at (pos 0) (pos 1)) ≡ bankOf (plan 2 0 1) (at (pos 1) (pos 1)) → ⊥
-  unfolding sized last banksRead
-  two-banks same = after-stores .apart fetch-taken 0 1 (omega arith) (omega arith) same
+  unfolding sized last banksRead cyclesRead
+  two-banks same = after-stores .in-cycles fetch-taken .apart 0 1 (omega arith) (omega arith) same refl
 
   corner : Inside 2 2 (at (pos 1) (pos 1))
   unfolding at

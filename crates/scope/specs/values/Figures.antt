@@ -1,16 +1,15 @@
 -- Document 01, "Figures to agree with": the starred figures and the examples of the table of refusals, row by row, the figures
--- that document 02 changes or adds, and the one theorem that checks the definitions on them by computation. BookEdges.antt and
--- PictureEdges.antt have more rows.
+-- that document 02 changes or adds, those of its Card 4 worked out by hand, and the one theorem that checks the definitions on them
+-- by computation. The other files of this folder have more rows.
 -- Card 1: "The 2 by 2 square of pixels moves from 4, 2, 1 to 2, 0, 2; the other figures in document 01 are unaffected."
 -- Assumes nothing.
-use Prim.Native.Nat.{ℕ}
 use mathlib.Core.Path.{refl}
 use mathlib.Core.List.{List, [], _∷_, _++_}
 use lib.IntN.{pos}
 use Rattle.scope.specs.Plans.{at, plan}
 use Rattle.scope.specs.Calls.{readBook, normal, find, bank, depth, address, locate, load}
 use Rattle.scope.specs.Program.{ascii, programText}
-use Rattle.scope.specs.values.Rows.{Row, Hold, row, is, refused, clashes, planned, counted, loaded, located, neg, px, one, two, three, threeAndThree, gap, square, cross, fivePixels, sixPairs, finds, reads, checks, fetches, rings}
+use Rattle.scope.specs.values.Rows.{Row, Hold, row, is, refused, clashes, crowds, planned, counted, loaded, located, neg, px, one, two, three, threeAndThree, gap, square, cross, fivePixels, sixPairs, finds, findsFor, reads, checks, checksFor, fetches, rings, cyclesAnswer, cyclesLeft}
 
 starred : List Row
 unfolding row is refused finds planned counted located normal bank depth address locate plan one three threeAndThree gap square cross sixPairs px at neg
@@ -62,13 +61,44 @@ card3 : List Row
 unfolding row is refused reads planned find readBook programText ascii fivePixels
 card3 =
     row (is (programText fivePixels)) (is (ascii "banks 5\nplan 5 2 1\n"))
-    ∷ row (planned (find (readBook fivePixels .book) 1024)) (is (5 ∷ 2 ∷ 1 ∷ []))
+    ∷ row (planned (find (readBook fivePixels .book) 1 1024)) (is (5 ∷ 2 ∷ 1 ∷ []))
     ∷ row (reads (1 ∷ 5 ∷ 0 ∷ 0 ∷ 0xff ∷ 0 ∷ 1 ∷ 0 ∷ 0 ∷ 0xff ∷ 0 ∷ 1 ∷ [])) (refused 19 4)
     ∷ []
 
+-- Document 02, Card 4, at r above 1 and at the edges of r. By hand:
+-- Three in a row are one class under 1, 0, 1, and two and one under 2, 0, 1.
+-- The cross has classes of 2, 2 and 1 under 3, 1, 1, by i - j modulo 3; 3, 0, 1 puts three in column 0, 1, 0, 3 three in row 0. Under
+-- 2, 0, 1 it has three even columns and two odd ones.
+-- The square has two pixels to a column, and four in all.
+-- Of the two patterns 2, 0, 1 puts the upright one into one class and 1, 0, 2 the level one; 2, 1, 1 has two and one of each.
+-- Plan 5, 2, 1 has the cross's least count at r = 1, and 5 - 3 and 5 - 2 banks too many at r = 2 and 3.
+-- Under 3, 1, 1 the cross has the banks 1, 2, 0, 1, 2: the last two come a second time.
+card4 : List Row
+unfolding row is refused crowds findsFor checksFor cyclesAnswer cyclesLeft plan px at neg three threeAndThree gap square cross
+card4 =
+    row (findsFor 3 three 1024) (is (1 ∷ 0 ∷ 1 ∷ []))
+    ∷ row (findsFor 2 three 1024) (is (2 ∷ 0 ∷ 1 ∷ []))
+    ∷ row (findsFor 2 cross 1024) (is (3 ∷ 1 ∷ 1 ∷ []))
+    ∷ row (findsFor 3 cross 1024) (is (2 ∷ 0 ∷ 1 ∷ []))
+    ∷ row (findsFor 2 square 1024) (is (2 ∷ 0 ∷ 1 ∷ []))
+    ∷ row (findsFor 4 square 1024) (is (1 ∷ 0 ∷ 1 ∷ []))
+    ∷ row (findsFor 2 threeAndThree 1024) (is (2 ∷ 1 ∷ 1 ∷ []))
+    ∷ row (findsFor 0 three 4) (refused 20 0)
+    ∷ row (findsFor 1 three 1024) (is (3 ∷ 0 ∷ 1 ∷ []))
+    ∷ row (findsFor 8 three 1024) (is (1 ∷ 0 ∷ 1 ∷ []))
+    ∷ row (findsFor 9 three 4) (refused 20 0)
+    ∷ row (findsFor 2 three 1) (refused 7 0)
+    ∷ row (checksFor 2 three (px 1 0) (px 0 1)) (crowds 0 (0 ∷ 1 ∷ 2 ∷ []))
+    ∷ row (checksFor 1 cross (px 5 0) (px 2 1)) (is (5 ∷ 2 ∷ 1 ∷ 0 ∷ []))
+    ∷ row (checksFor 2 cross (px 5 0) (px 2 1)) (is (5 ∷ 2 ∷ 1 ∷ 2 ∷ []))
+    ∷ row (checksFor 3 cross (px 5 0) (px 2 1)) (is (5 ∷ 2 ∷ 1 ∷ 3 ∷ []))
+    ∷ row (cyclesAnswer 2 cross (plan 3 1 1) 0 (7 ∷ 7 ∷ 7 ∷ 7 ∷ 7 ∷ 7 ∷ [])) (is (5 ∷ []))
+    ∷ row (cyclesLeft 2 cross (plan 3 1 1) 0 (7 ∷ 7 ∷ 7 ∷ 7 ∷ 7 ∷ 7 ∷ [])) (is (0 ∷ 0 ∷ 0 ∷ 1 ∷ 1 ∷ 7 ∷ []))
+    ∷ []
+
 figures : List Row
-unfolding starred examples card3
-figures = starred ++ examples ++ card3
+unfolding starred examples card3 card4
+figures = starred ++ examples ++ card3 ++ card4
 
 figures-hold : Hold figures
 unfolding figures

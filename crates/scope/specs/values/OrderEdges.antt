@@ -56,7 +56,7 @@ ascendingCalls : List Row
 unfolding row is refused counted done finds fewest checks writes recordOutcome patternPart partOutcome partPlace programText ascii down bookOf px
 ascendingCalls =
     row (finds (down ∷ []) 0) (refused 19 0)
-    ∷ row (counted (fewest (bookOf (down ∷ [])))) (refused 19 0)
+    ∷ row (counted (fewest (bookOf (down ∷ [])) 1)) (refused 19 0)
     ∷ row (checks (down ∷ []) (px 2 1) (px 4 2)) (refused 19 0)
     ∷ row (checks (down ∷ []) (px 32 0) (px 0 33)) (refused 19 0)
     ∷ row (writes (down ∷ []) []) (refused 19 0)

@@ -5,38 +5,33 @@ use Prim.Native.Nat.{ℕ}
 use mathlib.Core.Path.{refl}
 use mathlib.Core.List.{List, [], _∷_, _++_, map, flatMap}
 use lib.IntN.{ℤ, pos}
-use Rattle.scope.specs.Search.{gather}
 use Rattle.scope.specs.Plans.{Pixel, at, plan}
 use Rattle.scope.specs.Books.{bookOf}
-use Rattle.scope.specs.Numbers.{Answer, value, refusal, ofCounted, ofVerdict, positionsIn}
+use Rattle.scope.specs.Numbers.{Answer}
 use Rattle.scope.specs.Calls.{check, bank, depth, address, locate, lent, store, load, clear, sum, fetch, ringFetch, fillRecords}
 use Rattle.scope.specs.code.Words.{word}
 use Rattle.scope.specs.promises.Demand as Demand
-use Rattle.scope.specs.values.Rows.{Row, Hold, row, is, refused, clashes, counted, loaded, located, done, records, neg, px, one, two, down, gap, finds, checks}
+use Rattle.scope.specs.values.Rows.{Row, Hold, row, is, refused, clashes, counted, fetchedBy, loaded, located, done, records, neg, px, one, two, down, gap, finds, checks, upTo, fetchedFor, fetchAnswerFor, ringFetchedFor, ringAnswerFor, replied}
 use Rattle.scope.specs.declared.Plan.{Plan}
 use Rattle.scope.specs.declared.Book.{Book}
 use Rattle.scope.specs.declared.PixelRecord.{PixelRecord}
 
--- Plan 2, 0, 1 on 2 by 2 has depth 2: (0,0), (0,1), (1,0), (1,1) are the words 0, 1, 2, 3. The memory holds 1, 2, 3, ..
-upTo : ℕ → List ℕ
-unfolding gather
-upTo n = gather 1 n λ i. i
-
+-- Plan 2, 0, 1 on 2 by 2 has depth 2: (0,0), (0,1), (1,0), (1,1) are the words 0, 1, 2, 3. The memory holds 1, 2, 3, ..; r is 1.
 fetched : List (List Pixel) → Plan → ℕ → ℕ → ℕ → ℕ → Pixel → List ℕ → Answer (List ℤ)
-unfolding is fetch bookOf upTo
-fetched ts p W H words n o out = is (fetch (bookOf ts) p W H (upTo words) n o out .content)
+unfolding fetchedFor
+fetched = fetchedFor 1
 
 fetchAnswer : List (List Pixel) → Plan → ℕ → ℕ → ℕ → ℕ → Pixel → List ℕ → Answer (List ℤ)
-unfolding counted fetch bookOf upTo
-fetchAnswer ts p W H words n o out = counted (fetch (bookOf ts) p W H (upTo words) n o out .answer)
+unfolding fetchAnswerFor
+fetchAnswer = fetchAnswerFor 1
 
 ringFetched : List (List Pixel) → Plan → ℕ → ℕ → ℕ → ℕ → Pixel → List ℕ → Answer (List ℤ)
-unfolding is ringFetch bookOf upTo
-ringFetched ts p W H words n o out = is (ringFetch (bookOf ts) p W H (upTo words) n o out .content)
+unfolding ringFetchedFor
+ringFetched = ringFetchedFor 1
 
 ringAnswer : List (List Pixel) → Plan → ℕ → ℕ → ℕ → ℕ → Pixel → List ℕ → Answer (List ℤ)
-unfolding counted ringFetch bookOf upTo
-ringAnswer ts p W H words n o out = counted (ringFetch (bookOf ts) p W H (upTo words) n o out .answer)
+unfolding ringAnswerFor
+ringAnswer = ringAnswerFor 1
 
 -- a book of one pattern whose record has a second one, unused
 unusedTwo : Book
@@ -49,12 +44,12 @@ recordAt i j = record { column = pos i; row = pos j; bank = 3; address = 9 }
 -- two pixels in a row, whose plan of least N is 2, 0, 1, on 2 by 2
 setting : Demand.Setting
 unfolding bookOf two plan
-setting = record { book = bookOf (two ∷ []); plan = plan 2 0 1; W = 2; H = 2 }
+setting = record { book = bookOf (two ∷ []); r = 1; plan = plan 2 0 1; W = 2; H = 2 }
 
 -- the same with its pixels in the other order, by which only a fetch is turned down
 falling : Demand.Setting
 unfolding bookOf down plan
-falling = record { book = bookOf (down ∷ []); plan = plan 2 0 1; W = 2; H = 2 }
+falling = record { book = bookOf (down ∷ []); r = 1; plan = plan 2 0 1; W = 2; H = 2 }
 
 calls : List Demand.Call
 unfolding px
@@ -66,17 +61,6 @@ calls =
 reads : List Demand.Call
 unfolding px
 reads = Demand.read (Demand.load (px 0 1)) ∷ Demand.read (Demand.fetch 0 (px 0 1) (3 ∷ 3 ∷ 3 ∷ [])) ∷ []
-
--- an answer in numbers: 0 and its values, or the refusal's number; and a reply, a fetch's with its output
-numbers : {A : Type 0} → (A → List ℕ) → Answer A → List ℕ
-numbers f (value x) = 0 ∷ f x
-numbers f (refusal n i c) = n ∷ []
-
-replied : Demand.Reply → List ℕ
-unfolding numbers
-replied (Demand.wrote x) = numbers (λ u. []) x
-replied (Demand.loaded x) = numbers (λ n. n ∷ []) x
-replied (Demand.fetched x out) = numbers (λ n. n ∷ out) x
 
 -- The word of a pixel; store, load, clear and sum.
 storing : List Row
@@ -136,18 +120,18 @@ ringFetching-hold : Hold ringFetching
 unfolding ringFetching
 ringFetching-hold = refl
 
--- The positions beside an answer, in nine places: those of a clash, then 0; of a value and of another refusal 0. Under plan 2, 0, 1
+-- The nine places beside an answer: the positions of a clash, then 0; of a value and of another refusal 0. Under plan 2, 0, 1
 -- the second and the third pixel of `gap` have one bank.
 clashPositions : List Row
 unfolding row is plan two gap px bookOf upTo check fetch ringFetch
 clashPositions =
-    row (is (positionsIn (ofVerdict (check (bookOf gap) (px 2 0) (px 0 1))))) (is (1 ∷ 2 ∷ 0 ∷ 0 ∷ 0 ∷ 0 ∷ 0 ∷ 0 ∷ 0 ∷ []))
-    ∷ row (is (positionsIn (ofVerdict (check (bookOf (two ∷ [])) (px 2 0) (px 0 1))))) (is (0 ∷ 0 ∷ 0 ∷ 0 ∷ 0 ∷ 0 ∷ 0 ∷ 0 ∷ 0 ∷ []))
-    ∷ row (is (positionsIn (ofVerdict (check (bookOf gap) (px 2 0) (px 2 0))))) (is (0 ∷ 0 ∷ 0 ∷ 0 ∷ 0 ∷ 0 ∷ 0 ∷ 0 ∷ 0 ∷ []))
-    ∷ row (is (positionsIn (ofCounted (fetch (bookOf gap) (plan 2 0 1) 4 1 (upTo 4) 0 (px 0 0) [] .answer)))) (is (1 ∷ 2 ∷ 0 ∷ 0 ∷ 0 ∷ 0 ∷ 0 ∷ 0 ∷ 0 ∷ []))
-    ∷ row (is (positionsIn (ofCounted (fetch (bookOf (two ∷ [])) (plan 2 0 1) 2 2 (upTo 4) 0 (px 0 1) (8 ∷ 8 ∷ []) .answer)))) (is (0 ∷ 0 ∷ 0 ∷ 0 ∷ 0 ∷ 0 ∷ 0 ∷ 0 ∷ 0 ∷ []))
-    ∷ row (is (positionsIn (ofCounted (fetch (bookOf (two ∷ [])) (plan 2 0 1) 2 2 (upTo 4) 0 (px 1 1) [] .answer)))) (is (0 ∷ 0 ∷ 0 ∷ 0 ∷ 0 ∷ 0 ∷ 0 ∷ 0 ∷ 0 ∷ []))
-    ∷ row (is (positionsIn (ofCounted (ringFetch (bookOf gap) (plan 2 0 1) 4 2 (upTo 8) 0 (px 0 0) [] .answer)))) (is (1 ∷ 2 ∷ 0 ∷ 0 ∷ 0 ∷ 0 ∷ 0 ∷ 0 ∷ 0 ∷ []))
+    row (is (check (bookOf gap) 1 (px 2 0) (px 0 1) .positions)) (is (1 ∷ 2 ∷ 0 ∷ 0 ∷ 0 ∷ 0 ∷ 0 ∷ 0 ∷ 0 ∷ []))
+    ∷ row (is (check (bookOf (two ∷ [])) 1 (px 2 0) (px 0 1) .positions)) (is (0 ∷ 0 ∷ 0 ∷ 0 ∷ 0 ∷ 0 ∷ 0 ∷ 0 ∷ 0 ∷ []))
+    ∷ row (is (check (bookOf gap) 1 (px 2 0) (px 2 0) .positions)) (is (0 ∷ 0 ∷ 0 ∷ 0 ∷ 0 ∷ 0 ∷ 0 ∷ 0 ∷ 0 ∷ []))
+    ∷ row (is (fetch (bookOf gap) 1 (plan 2 0 1) 4 1 (upTo 4) 0 (px 0 0) [] .answer .positions)) (is (1 ∷ 2 ∷ 0 ∷ 0 ∷ 0 ∷ 0 ∷ 0 ∷ 0 ∷ 0 ∷ []))
+    ∷ row (is (fetch (bookOf (two ∷ [])) 1 (plan 2 0 1) 2 2 (upTo 4) 0 (px 0 1) (8 ∷ 8 ∷ []) .answer .positions)) (is (0 ∷ 0 ∷ 0 ∷ 0 ∷ 0 ∷ 0 ∷ 0 ∷ 0 ∷ 0 ∷ []))
+    ∷ row (is (fetch (bookOf (two ∷ [])) 1 (plan 2 0 1) 2 2 (upTo 4) 0 (px 1 1) [] .answer .positions)) (is (0 ∷ 0 ∷ 0 ∷ 0 ∷ 0 ∷ 0 ∷ 0 ∷ 0 ∷ 0 ∷ []))
+    ∷ row (is (ringFetch (bookOf gap) 1 (plan 2 0 1) 4 2 (upTo 8) 0 (px 0 0) [] .answer .positions)) (is (1 ∷ 2 ∷ 0 ∷ 0 ∷ 0 ∷ 0 ∷ 0 ∷ 0 ∷ 0 ∷ []))
     ∷ []
 
 clashPositions-hold : Hold clashPositions
@@ -175,7 +159,7 @@ lists =
     row (is (Demand.run setting (0 ∷ 0 ∷ 0 ∷ 0 ∷ 4 ∷ []) calls)) (is (0 ∷ 8 ∷ 0 ∷ 9 ∷ 4 ∷ []))
     ∷ row (is (flatMap replied (Demand.replies setting (0 ∷ 0 ∷ 0 ∷ 0 ∷ 4 ∷ []) (calls ++ reads)))) (is (0 ∷ 0 ∷ 14 ∷ 15 ∷ 0 ∷ 16 ∷ 0 ∷ 0 ∷ 0 ∷ 8 ∷ 0 ∷ 2 ∷ 8 ∷ 9 ∷ 3 ∷ []))
     ∷ row (is (map (Demand.lastStored setting 5 calls) (px 1 0 ∷ px 0 1 ∷ px 1 1 ∷ px 2 0 ∷ []))) (is (0 ∷ 8 ∷ 9 ∷ 0 ∷ []))
-    ∷ row (is (flatMap replied (Demand.replies falling (0 ∷ 0 ∷ 0 ∷ 0 ∷ []) reads))) (is (0 ∷ 0 ∷ 19 ∷ []))
+    ∷ row (is (flatMap replied (Demand.replies falling (0 ∷ 0 ∷ 0 ∷ 0 ∷ []) reads))) (is (0 ∷ 0 ∷ 19 ∷ 3 ∷ 3 ∷ 3 ∷ []))
     ∷ []
 
 lists-hold : Hold lists
@@ -215,7 +199,7 @@ orders-hold = refl
 
 -- The same for a fetch.
 fetchOrders : List Row
-unfolding row refused clashes plan one two down px fetchAnswer fetch unusedTwo counted
+unfolding row refused clashes plan one two down px fetchAnswer fetch unusedTwo fetchedBy
 fetchOrders =
     row (fetchAnswer [] (plan 0 0 1) 0 0 0 0 (px 0 0) []) (refused 2 0)
     ∷ row (fetchAnswer (down ∷ []) (plan 0 0 1) 0 0 0 0 (px 0 0) []) (refused 19 0)
@@ -227,7 +211,7 @@ fetchOrders =
     ∷ row (fetchAnswer (two ∷ []) (plan 1 1 1) 2 2 4 0 (px 9 9) []) (refused 11 0)
     ∷ row (fetchAnswer (two ∷ []) (plan 1 0 1) 0 1 0 0 (px 0 0) []) (refused 12 0)
     ∷ row (fetchAnswer (two ∷ []) (plan 1 0 1) 2 2 3 0 (px 9 9) []) (refused 13 0)
-    ∷ row (counted (fetch unusedTwo (plan 1 0 1) 2 2 (upTo 4) 1 (px 9 9) [] .answer)) (refused 17 0)
+    ∷ row (fetchedBy 1 (fetch unusedTwo 1 (plan 1 0 1) 2 2 (upTo 4) 1 (px 9 9) [] .answer)) (refused 17 0)
     ∷ []
 
 fetchOrders-hold : Hold fetchOrders
@@ -236,7 +220,7 @@ fetchOrders-hold = refl
 
 -- And for a ring fetch.
 ringOrders : List Row
-unfolding row refused clashes plan one two down px ringAnswer ringFetch unusedTwo counted
+unfolding row refused clashes plan one two down px ringAnswer ringFetch unusedTwo fetchedBy
 ringOrders =
     row (ringAnswer [] (plan 0 0 1) 0 0 0 0 (px 0 0) []) (refused 2 0)
     ∷ row (ringAnswer (down ∷ []) (plan 0 0 1) 0 0 0 0 (px 0 0) []) (refused 19 0)
@@ -250,8 +234,8 @@ ringOrders =
     ∷ row (ringAnswer (one ∷ []) (plan 2 0 1) 4097 1 0 0 (px 0 0) []) (refused 12 0)
     ∷ row (ringAnswer (two ∷ []) (plan 1 0 1) 2 2 3 0 (px 0 0) []) (refused 13 0)
     ∷ row (ringAnswer (one ∷ []) (plan 2 0 1) 3 2 0 0 (px 0 0) []) (refused 13 0)
-    ∷ row (counted (ringFetch unusedTwo (plan 1 0 1) 2 2 (upTo 4) 1 (px 0 0) [] .answer)) (refused 17 0)
-    ∷ row (counted (ringFetch unusedTwo (plan 2 0 1) 3 2 (upTo 9) 1 (px 0 0) [] .answer)) (refused 17 0)
+    ∷ row (fetchedBy 1 (ringFetch unusedTwo 1 (plan 1 0 1) 2 2 (upTo 4) 1 (px 0 0) [] .answer)) (refused 17 0)
+    ∷ row (fetchedBy 1 (ringFetch unusedTwo 1 (plan 2 0 1) 3 2 (upTo 9) 1 (px 0 0) [] .answer)) (refused 17 0)
     ∷ []
 
 ringOrders-hold : Hold ringOrders

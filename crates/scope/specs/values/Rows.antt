@@ -6,11 +6,13 @@ use mathlib.Core.Option.{Option, none, some}
 use mathlib.Core.List.{List, [], _∷_, _++_, map, flatMap}
 use lib.IntN.{ℤ, pos, negℤ}
 use lib.ListN.{replicate}
+use Rattle.scope.specs.Search.{gather}
 use Rattle.scope.specs.Plans.{Pixel, at, plan}
 use Rattle.scope.specs.Cycles.{LongClash}
 use Rattle.scope.specs.Books.{bookOf}
-use Rattle.scope.specs.Numbers.{Answer, value, refusal, ofPlanned, ofCounted, ofLoaded, ofLocated, ofOutcome, ofVerdict}
-use Rattle.scope.specs.Calls.{readBook, writeBook, find, check, fetch, ringFetch}
+use Rattle.scope.specs.Numbers.{Answer, value, refusal, ofPlanned, ofCounted, ofLoaded, ofLocated, ofOutcome, ofCheck, ofFetch}
+use Rattle.scope.specs.Calls.{readBook, writeBook, find, check, fetch, ringFetch, writeCycles}
+use Rattle.scope.specs.promises.Demand as Demand
 use Rattle.scope.specs.declared.Plan.{Plan}
 use Rattle.scope.specs.declared.PixelRecord.{PixelRecord}
 use Rattle.scope.specs.declared.Planned.{Planned}
@@ -19,6 +21,8 @@ use Rattle.scope.specs.declared.Loaded.{Loaded}
 use Rattle.scope.specs.declared.Located.{Located}
 use Rattle.scope.specs.declared.Outcome.{Outcome}
 use Rattle.scope.specs.declared.Verdict.{Verdict}
+use Rattle.scope.specs.declared.CheckAnswer.{CheckAnswer}
+use Rattle.scope.specs.declared.FetchAnswer.{FetchAnswer}
 
 -- What a call gives, and what it should give: the values in a list, or the refusal.
 pub record Row : Type 0 where
@@ -40,7 +44,11 @@ unfoldable pub refused : ℕ → ℕ → Answer (List ℤ)
 refused n i = refusal n i none
 
 unfoldable pub clashes : ℕ → ℕ → ℕ → Answer (List ℤ)
-clashes n e l = refusal 10 0 (some (record { pattern = n; earlier = e; later = l }))
+clashes n e l = refusal 10 0 (some (record { pattern = n; positions = e ∷ l ∷ [] }))
+
+-- and with a longer one
+unfoldable pub crowds : ℕ → List ℕ → Answer (List ℤ)
+crowds n es = refusal 10 0 (some (record { pattern = n; positions = es }))
 
 -- answers as such values
 unfoldable pub values : {A : Type 0} → (A → List ℤ) → Answer A → Answer (List ℤ)
@@ -67,9 +75,14 @@ unfoldable pub done : Outcome → Answer (List ℤ)
 unfolding values
 done r = values (λ u. []) (ofOutcome r)
 
-unfoldable pub verdict : Verdict → Answer (List ℤ)
+-- of a check for r, and of a fetch or the cycles for r
+unfoldable pub checked : ℕ → CheckAnswer → Answer (List ℤ)
 unfolding values
-verdict r = values (λ c. pos (c .plan .a) ∷ pos (c .plan .b) ∷ pos (c .plan .d) ∷ pos (c .surplus) ∷ []) (ofVerdict r)
+checked r a = values (λ c. pos (c .plan .a) ∷ pos (c .plan .b) ∷ pos (c .plan .d) ∷ pos (c .surplus) ∷ []) (ofCheck r a)
+
+unfoldable pub fetchedBy : ℕ → FetchAnswer → Answer (List ℤ)
+unfolding values
+fetchedBy r a = values (λ n. pos n ∷ []) (ofFetch r a)
 
 -- a plan that a search gives, and a clash of r + 1 positions, behind its pattern's number; no number where there is none
 unfoldable pub searched : Option Plan → Answer (List ℤ)
@@ -141,9 +154,14 @@ unfoldable pub sixPairs : List (List Pixel)
 unfolding px at neg
 sixPairs = map (λ v. px 0 0 ∷ v ∷ []) (px 0 1 ∷ px 1 1 ∷ px 2 1 ∷ at (neg 1) (pos 1) ∷ px 1 2 ∷ px 1 0 ∷ [])
 
-unfoldable pub finds : List (List Pixel) → ℕ → Answer (List ℤ)
+-- the finder for r, and for r = 1
+unfoldable pub findsFor : ℕ → List (List Pixel) → ℕ → Answer (List ℤ)
 unfolding planned find bookOf
-finds ts limit = planned (find (bookOf ts) limit)
+findsFor r ts limit = planned (find (bookOf ts) r limit)
+
+unfoldable pub finds : List (List Pixel) → ℕ → Answer (List ℤ)
+unfolding findsFor
+finds = findsFor 1
 
 unfoldable pub writes : List (List Pixel) → List ℕ → Answer (List ℤ)
 unfolding counted writeBook bookOf
@@ -153,15 +171,63 @@ unfoldable pub reads : List ℕ → Answer (List ℤ)
 unfolding done readBook
 reads s = done (readBook s .outcome)
 
-unfoldable pub checks : List (List Pixel) → Pixel → Pixel → Answer (List ℤ)
-unfolding verdict check bookOf
-checks ts x y = verdict (check (bookOf ts) x y)
+-- the check for r, and for r = 1
+unfoldable pub checksFor : ℕ → List (List Pixel) → Pixel → Pixel → Answer (List ℤ)
+unfolding checked check bookOf
+checksFor r ts x y = checked r (check (bookOf ts) r x y)
 
--- a plain and a ring fetch of pattern n, moved to (0, 0), under plan 5, 2, 1 with 50 words
+unfoldable pub checks : List (List Pixel) → Pixel → Pixel → Answer (List ℤ)
+unfolding checksFor
+checks = checksFor 1
+
+-- a plain and a ring fetch for r = 1 of pattern n, moved to (0, 0), under plan 5, 2, 1 with 50 words
 unfoldable pub fetches : List (List Pixel) → ℕ → ℕ → ℕ → List ℕ → Answer (List ℤ)
-unfolding counted fetch bookOf plan px
-fetches ts W H n out = counted (fetch (bookOf ts) (plan 5 2 1) W H (replicate 50 0) n (px 0 0) out .answer)
+unfolding fetchedBy fetch bookOf plan px
+fetches ts W H n out = fetchedBy 1 (fetch (bookOf ts) 1 (plan 5 2 1) W H (replicate 50 0) n (px 0 0) out .answer)
 
 unfoldable pub rings : List (List Pixel) → ℕ → ℕ → ℕ → List ℕ → Answer (List ℤ)
-unfolding counted ringFetch bookOf plan px
-rings ts W H n out = counted (ringFetch (bookOf ts) (plan 5 2 1) W H (replicate 50 0) n (px 0 0) out .answer)
+unfolding fetchedBy ringFetch bookOf plan px
+rings ts W H n out = fetchedBy 1 (ringFetch (bookOf ts) 1 (plan 5 2 1) W H (replicate 50 0) n (px 0 0) out .answer)
+
+-- the cycles of pattern n for r: what the call answers, and what it leaves in the output
+unfoldable pub cyclesAnswer : ℕ → List (List Pixel) → Plan → ℕ → List ℕ → Answer (List ℤ)
+unfolding fetchedBy writeCycles bookOf
+cyclesAnswer r ts p n out = fetchedBy r (writeCycles (bookOf ts) r p n out .answer)
+
+unfoldable pub cyclesLeft : ℕ → List (List Pixel) → Plan → ℕ → List ℕ → Answer (List ℤ)
+unfolding is writeCycles bookOf
+cyclesLeft r ts p n out = is (writeCycles (bookOf ts) r p n out .content)
+
+-- a memory of the words 1, 2, 3, .., and with it a plain and a ring fetch for r: what it answers, and what it leaves in the output
+unfoldable pub upTo : ℕ → List ℕ
+unfolding gather
+upTo n = gather 1 n λ i. i
+
+unfoldable pub fetchAnswerFor : ℕ → List (List Pixel) → Plan → ℕ → ℕ → ℕ → ℕ → Pixel → List ℕ → Answer (List ℤ)
+unfolding fetchedBy fetch bookOf upTo
+fetchAnswerFor r ts p W H words n o out = fetchedBy r (fetch (bookOf ts) r p W H (upTo words) n o out .answer)
+
+unfoldable pub fetchedFor : ℕ → List (List Pixel) → Plan → ℕ → ℕ → ℕ → ℕ → Pixel → List ℕ → Answer (List ℤ)
+unfolding is fetch bookOf upTo
+fetchedFor r ts p W H words n o out = is (fetch (bookOf ts) r p W H (upTo words) n o out .content)
+
+unfoldable pub ringAnswerFor : ℕ → List (List Pixel) → Plan → ℕ → ℕ → ℕ → ℕ → Pixel → List ℕ → Answer (List ℤ)
+unfolding fetchedBy ringFetch bookOf upTo
+ringAnswerFor r ts p W H words n o out = fetchedBy r (ringFetch (bookOf ts) r p W H (upTo words) n o out .answer)
+
+unfoldable pub ringFetchedFor : ℕ → List (List Pixel) → Plan → ℕ → ℕ → ℕ → ℕ → Pixel → List ℕ → Answer (List ℤ)
+unfolding is ringFetch bookOf upTo
+ringFetchedFor r ts p W H words n o out = is (ringFetch (bookOf ts) r p W H (upTo words) n o out .content)
+
+-- an answer in numbers: 0 and its values, or the refusal's number, and of a clash its pattern and positions; and a reply of demand
+-- 3's list, a fetch's with its output
+unfoldable pub numbers : {A : Type 0} → (A → List ℕ) → Answer A → List ℕ
+numbers f (value x) = 0 ∷ f x
+numbers f (refusal n i none) = n ∷ []
+numbers f (refusal n i (some c)) = n ∷ c .pattern ∷ c .positions
+
+unfoldable pub replied : Demand.Reply → List ℕ
+unfolding numbers
+replied (Demand.wrote x) = numbers (λ u. []) x
+replied (Demand.loaded x) = numbers (λ n. n ∷ []) x
+replied (Demand.fetched x out) = numbers (λ n. n ∷ []) x ++ out

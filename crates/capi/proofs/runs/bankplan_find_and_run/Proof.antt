@@ -9,7 +9,7 @@ returns : tie.Need-returns
 returns c =
     let r = c .before .before .before .before .before .before .before .before in
     let b = r .before .before .before .before in
-    found-told _ _ _ _ _ _ (b .book-of .ensures) (r .find-and-run .ensures) (c .tell-found .ensures)
+    found-told _ _ _ _ _ _ _ (b .book-of .ensures) (r .find-and-run .ensures) (c .tell-found .ensures)
 
 pub bankplan-find-and-run-spec : {M : Type 1} → statement M
 bankplan-find-and-run-spec =

@@ -9,6 +9,7 @@ use lib.Dec.{eqb}
 use lib.ListN.{set}
 use borrow.Author.Tests.{eq-eqb, ne-eqb}
 use borrow.Author.Needs.{needs}
+use Rattle.scope.specs.Cycles.{LongClash, lengthened}
 use Rattle.scope.specs.declared.Clash.{Clash}
 use Rattle.scope.specs.code.RefusalRows.{clashIf}
 use Rattle.pictures.specs.Lists.{clashNumbers}
@@ -18,8 +19,8 @@ use Rattle.capi.proofs.told.tell_refusal.Tie as tie
 
 -- the row's place stands at 0, and what was put from 1 on is the clash that its number asks for
 row-told :
-    {s : ℕ × ℕ × Option Clash} {n i : ℕ} (k : Clash) (xs : List ℕ) {b : Bool} → s ≡ (n, i, clashIf n k) → eqb n 10 ≡ b
-    → (n ≡ s .0) × (putFrom 1 (clashNumbers (cond b (some k) none)) (set xs 0 i) ≡ putFrom 0 (s .1 ∷ clashNumbers (s .2)) xs)
+    {s : ℕ × ℕ × Option LongClash} {n i : ℕ} (k : Clash) (xs : List ℕ) {b : Bool} → s ≡ (n, i, clashIf n k) → eqb n 10 ≡ b
+    → (n ≡ s .0) × (putFrom 1 (clashNumbers (cond b (some (lengthened k)) none)) (set xs 0 i) ≡ putFrom 0 (s .1 ∷ clashNumbers (s .2)) xs)
 row-told k xs e q = (ap (λ t. t .0) (sym e), rw (← q) (sym (ap (λ t. putFrom 0 (t .1 ∷ clashNumbers (t .2)) xs) e)))
 
 returns : tie.Need-returns

@@ -4,24 +4,25 @@
 use Prim.Native.Nat.{ℕ, _-_, _≤_, _<_}
 use native.Mathlib.Omega.{arith}
 use mathlib.Core.Path.{_≡_, sym, _∙_, ap}
-use mathlib.Core.Option.{none}
+use mathlib.Core.Option.{Option, none, Option·map}
 use borrow.Author.Needs.{needs}
 use borrow.Author.Count.{below-none, below-more}
-use Rattle.scope.specs.Plans.{patternAt, pixels}
+use Rattle.scope.specs.Plans.{patternAt}
+use Rattle.scope.specs.Cycles.{LongClash, shortened}
 use Rattle.scope.specs.promises.Meaning.{IsBook}
 use Rattle.checks.proofs.BookTests.{book-legal-iff}
-use Rattle.finder.proofs.ClashSearch.{patternClash}
+use Rattle.finder.proofs.Verdicts.{patternClash, clash-at, clash-nowhere}
 use Rattle.finder.specs.Clashing.{metAt}
-use Rattle.finder.proofs.MetAnswers.{met-for-one, at-found, nowhere-found}
-use Rattle.finder.proofs.Verdicts.{clash-at, clash-nowhere}
+use Rattle.finder.specs.declared.clash.Met.{Met}
+use Rattle.finder.proofs.MetAnswers.{at-clash, nowhere-clash}
 use Rattle.finder.proofs.checking.first_clash.Statement.{statement}
 use Rattle.finder.proofs.checking.first_clash.Tie as tie
 
 abbrev Inv-loop : tie.InvT-loop
-Inv-loop p book count n₀ n = (n ≤ count) × ((m : ℕ) → m < n → patternClash p book m ≡ none)
+Inv-loop p r book count n₀ n = (n ≤ count) × ((m : ℕ) → m < n → patternClash r p book m ≡ none)
 
 abbrev μ-loop : tie.MeasureT-loop
-μ-loop p book count n₀ n = count - n
+μ-loop p r book count n₀ n = count - n
 
 loop-holds : tie.Need-loop-holds Inv-loop μ-loop
 loop-holds c = (omega arith, below-none _)
@@ -39,7 +40,7 @@ element-copy-out-t c = omega (arith, legal (c .before) .most)
 clash-in-requires : tie.Need-clash-in-requires Inv-loop μ-loop
 unfolding patternAt
 clash-in-requires c κs =
-    let l = c .before .before in (l .before .pre .0, legal l .each (l .loop .n) (c .before .loop-test .taken) .most, omega arith)
+    let l = c .before .before in (l .before .pre .0, legal l .each (l .loop .n) (c .before .loop-test .taken) .most, omega (arith, l .before .pre .2))
 
 -- in a turn, where it is known what was met in the n-th pattern
 module _ (c : tie.After-clash-in Inv-loop μ-loop) where
@@ -49,17 +50,22 @@ module _ (c : tie.After-clash-in Inv-loop μ-loop) where
   abbrev n : ℕ
   n = head .loop .n
 
-  pattern-answer : c .clash-in .result ≡ metAt (patternClash (head .before .args .p) (head .before .args .t2) n)
+  abbrev here : Option LongClash
+  here = patternClash (head .before .args .r) (head .before .args .p) (head .before .args .t2) n
+
+  pattern-answer : c .clash-in .result ≡ metAt (Option·map shortened here)
   unfolding patternAt
-  pattern-answer = met-for-one (head .before .args .p) n (pixels (patternAt (head .before .args .t2) n)) (c .clash-in .ensures)
+  pattern-answer = c .clash-in .ensures
 
 returns : tie.Need-returns Inv-loop μ-loop
 unfolding metAt
 returns c =
     let k = c .before .before in
-    let here = c .enum-told .given .1 in
-    let below = k .before .before .loop-test .taken in
-    here ∙ ap metAt (sym (clash-at _ _ (n k) _ below (head k .loop .inv .1) (at-found _ (pattern-answer k) here)))
+    let told = c .enum-told .given .1 in
+    let (l, found, is) = at-clash (here k) (pattern-answer k) told in
+    told ∙ ap Met.At is
+    ∙ ap (λ (o : Option LongClash). metAt (Option·map shortened o))
+    (sym (clash-at _ _ _ (n k) l (k .before .before .loop-test .taken) (head k .loop .inv .1) found))
 
 add-n : tie.Need-add-n Inv-loop μ-loop
 add-n c = record { fits = omega (arith, legal (head (c .before .before)) .most) }
@@ -67,12 +73,13 @@ add-n c = record { fits = omega (arith, legal (head (c .before .before)) .most) 
 loop-again : tie.Need-loop-again Inv-loop μ-loop
 loop-again c =
     let k = c .before .before in
-    (omega arith, below-more _ _ (head k .loop .inv .1) (nowhere-found _ (pattern-answer k) (c .enum-told2 .given .1)))
+    (omega arith, below-more _ _ (head k .loop .inv .1) (nowhere-clash (here k) (pattern-answer k) (c .enum-told2 .given .1)))
 
 returns-2 : tie.Need-returns-2 Inv-loop μ-loop
 unfolding metAt
 returns-2 c =
-    ap metAt (sym (clash-nowhere _ _ (λ n h. c .before .loop .inv .1 n (omega (arith, c .loop-test .left)))))
+    ap (λ (o : Option LongClash). metAt (Option·map shortened o))
+    (sym (clash-nowhere _ _ _ (λ n h. c .before .loop .inv .1 n (omega (arith, c .loop-test .left)))))
 
 pub first-clash-spec : {M : Type 1} → statement M
 first-clash-spec =

@@ -10,12 +10,12 @@ use Rattle.finder.proofs.finding.least_count.Tie as tie
 returns : tie.Need-returns
 returns c =
     let l = c .before .before in
-    ap Counted.Number (c .banks .ensures) ∙ sym (fewest-by-plan _ _ (sym (l .before .before .find .ensures) ∙ l .least .given .1))
+    ap Counted.Number (c .banks .ensures) ∙ sym (fewest-by-plan _ _ _ (sym (l .before .before .find .ensures) ∙ l .least .given .1))
 
 returns-2 : tie.Need-returns-2
 returns-2 c =
     let l = c .before in
-    sym (fewest-by-refusal _ _ (sym (l .before .before .find .ensures) ∙ l .least2 .given .1))
+    sym (fewest-by-refusal _ _ _ (sym (l .before .before .find .ensures) ∙ l .least2 .given .1))
 
 pub least-count-spec : {M : Type 1} → statement M
 least-count-spec =

@@ -1,9 +1,6 @@
 -- `pictures::fetching::fetch` meets its contract.
 -- Assumes nothing.
-use mathlib.Core.Path.{_∙_, ap}
 use borrow.Author.Needs.{needs}
-use Rattle.scope.specs.Numbers.{positionsIn, ofCounted}
-use Rattle.scope.specs.declared.Counted.{Counted}
 use Rattle.scope.proofs.PlanFacts.{pixel-handed}
 use Rattle.pictures.proofs.Starts.{is-fetch}
 use Rattle.pictures.proofs.fetching.fetch.Statement.{statement}
@@ -11,11 +8,9 @@ use Rattle.pictures.proofs.fetching.fetch.Tie as tie
 
 returns : tie.Need-returns
 returns c =
-    let e = c .before .before .before in
+    let e = c .before .before in
     let f = e .before .before .before .before .fits in
-    let (answer, content) = is-fetch _ _ _ _ _ _ _ _ (pixel-handed (f .i) (f .j)) (e .either-fetch .ensures) in
-    let (counted, positions) = c .with-positions .ensures in
-    (counted ∙ answer, content, positions ∙ ap (λ (x : Counted). positionsIn (ofCounted x)) answer)
+    is-fetch _ _ _ _ _ _ _ _ _ (pixel-handed (f .i) (f .j)) (e .either-fetch .ensures)
 
 pub fetch-spec : {M : Type 1} → statement M
-fetch-spec = tie.close (tie.spec (λ c κs. search needs) (λ c κs. search needs) (λ c. search needs) returns)
+fetch-spec = tie.close (tie.spec (λ c κs. search needs) (λ c. search needs) returns)

@@ -1,8 +1,7 @@
 -- `pictures::lists::make_call` meets its contract: each kind of call, and what the code does for it.
 -- Assumes nothing.
-use Prim.Native.Nat.{ℕ, _%_}
 use native.Mathlib.Omega.{arith}
-use mathlib.Core.Path.{_≡_, sym, _∙_, ap, ap₂}
+use mathlib.Core.Path.{_≡_, _∙_, ap₂}
 use mir.Syntax.{w16}
 use mir.Val.{toZ, ofZ}
 use borrow.Author.Needs.{needs}
@@ -17,7 +16,7 @@ returns : tie.Need-returns
 returns c =
     let d = c .before .before .before in
     λ book start entry.
-    clear-made _ _ _ _ _ _ _ _ _ _ (d .before .before .if1 .taken) (d .clear .ensures) (c .outcome-row .ensures)
+    clear-made _ _ _ _ _ _ _ _ _ _ _ (d .before .before .if1 .taken) (d .clear .ensures) (c .outcome-row .ensures)
 
 -- the pixel of the numbers
 module _ (c : tie.After-coordinate2) where
@@ -35,23 +34,23 @@ returns-2 c =
     let d = c .before .before .before in
     let k = d .before .before in
     λ book start entry.
-    store-made _ _ _ _ _ _ _ _ _ _ (pixel-is (k .before)) (k .if2 .taken) (d .store .ensures) (c .outcome-row2 .ensures)
+    store-made _ _ _ _ _ _ _ _ _ _ _ (pixel-is (k .before)) (k .if2 .taken) (d .store .ensures) (c .outcome-row2 .ensures)
 
 returns-3 : tie.Need-returns-3
 returns-3 c =
     let d = c .before in
     let k = d .before .before in
     λ book start entry.
-    load-made _ _ _ _ _ _ _ _ _ _ (pixel-is (k .before .before)) (k .if3 .taken) (d .load .ensures) (c .loaded-row .ensures)
+    load-made _ _ _ _ _ _ _ _ _ _ _ (pixel-is (k .before .before)) (k .if3 .taken) (d .load .ensures) (c .loaded-row .ensures)
 
 returns-4 : tie.Need-returns-4
 returns-4 c =
     let f = c .before .before .before in
-    let k = f .before .before .before in
+    let k = f .before .before .before .before in
     let x = k .before .before in
     λ book start entry.
-    fetch-made _ _ _ _ _ _ _ _ _ _ (pixel-is x) (k .before .if2 .left) (x .before .before .if1 .left) (k .if3 .left)
-    start entry (f .fetch-rest .ensures) (c .counted-row .ensures)
+    fetch-made _ _ _ _ _ _ _ _ _ _ _ (pixel-is x) (k .before .if2 .left) (x .before .before .if1 .left) (k .if3 .left)
+    start entry (f .fetch-rest .ensures) (c .fetched-row .ensures)
 
 pub make-call-spec : {M : Type 1} → statement M
 make-call-spec =
@@ -64,6 +63,6 @@ make-call-spec =
     returns-2
     (λ c κs. search needs) (λ c κs. search needs) (λ c. search needs)
     returns-3
-    (λ c κs. begun (c .before .before .before .before) .pre)
+    (λ c κs. begun (c .before .before .before .before .before) .pre .0)
     (λ c κs. search needs) (λ c. search needs) (λ c. search needs)
     returns-4)

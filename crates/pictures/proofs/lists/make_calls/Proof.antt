@@ -6,24 +6,23 @@ use mathlib.Core.Path.{_≡_, sym, _∙_, ap, subst}
 use lib.ListN.{length, getD, drop, length-drop, length-take}
 use borrow.Author.Needs.{needs}
 use Rattle.scope.specs.Plans.{patternAt}
-use Rattle.scope.specs.Calls.{fetchStart}
-use Rattle.scope.specs.declared.Outcome.{Outcome}
 use Rattle.book.proofs.Scanning.{entry-number-below}
-use Rattle.pictures.specs.Fetching.{foundBy, entryFor}
-use Rattle.pictures.specs.Lists.{setting, roomAt}
-use Rattle.pictures.proofs.Starts.{entry-is, started}
-use Rattle.pictures.proofs.ReplyRows.{length-reply}
+use Rattle.pictures.specs.Fetching.{entryFor}
+use Rattle.pictures.specs.Lists.{setting, roomAt, BegunAt, noStart}
+use Rattle.pictures.proofs.Starts.{found-by, entry-is, started}
+use Rattle.pictures.proofs.Positions.{positions-long}
+use Rattle.pictures.proofs.ReplyRows.{row-long}
 use Rattle.pictures.proofs.ListFaults.{room-at}
-use Rattle.pictures.proofs.ListTurns.{Going, going-start, going-end, room-end, going-on, begun-on, start-known}
+use Rattle.pictures.proofs.ListTurns.{Going, going-start, going-end, room-end, going-on, start-known}
 use Rattle.pictures.proofs.lists.make_calls.Statement.{statement}
 use Rattle.pictures.proofs.lists.make_calls.Tie as tie
 
 abbrev Inv-loop : tie.InvT-loop
-Inv-loop p w h mem₀ numbers outs₀ rows₀ book starts left₀ k₀ q₀ at₀ mem outs rows left k q at =
-    Going (setting book p w h) numbers mem₀ outs₀ rows₀ left k q at mem outs rows
+Inv-loop r p w h mem₀ numbers outs₀ rows₀ book starts left₀ k₀ q₀ at₀ mem outs rows left k q at =
+    Going (setting book r p w h) numbers mem₀ outs₀ rows₀ left k q at mem outs rows
 
 abbrev μ-loop : tie.MeasureT-loop
-μ-loop p w h mem₀ numbers outs₀ rows₀ book starts left₀ k₀ q₀ at₀ mem outs rows left k q at = left
+μ-loop r p w h mem₀ numbers outs₀ rows₀ book starts left₀ k₀ q₀ at₀ mem outs rows left k q at = left
 
 loop-holds : tie.Need-loop-holds Inv-loop μ-loop
 loop-holds c = let s = c .before .before .before .before in going-start _ _ _ _ _ (s .pre .1) (s .pre .2)
@@ -49,19 +48,18 @@ module _ (c : tie.After-start-number Inv-loop μ-loop) where
   numbers-there = omega (arith, turn .loop .inv .numbers-left, inside .loop-test .taken)
 
   numbers-small : length (began .args .numbers .now) * 8 < 2 ^ 63
-  numbers-small = began .good .1 .1 .1 .1 .1 .1 .0 .1
+  numbers-small = began .good .1 .1 .1 .1 .1 .1 .1 .0 .1
 
   row-there : turn .loop .q + 12 ≤ length (turn .loop .rows)
   row-there = omega (arith, turn .loop .inv .row-room, inside .loop-test .taken)
 
   rows-small : length (turn .loop .rows) * 8 < 2 ^ 63
-  rows-small = omega (arith, turn .loop .inv .rows-long, began .good .1 .1 .1 .1 .1 .1 .1 .1 .0 .1)
+  rows-small = omega (arith, turn .loop .inv .rows-long, began .good .1 .1 .1 .1 .1 .1 .1 .1 .1 .0 .1)
 
-  start-found :
+  begun :
       let u = began .args in
-      foundBy (getD (u .t2) (c .start-number .result) Outcome.Done)
-      ≡ fetchStart (u .t1) (u .p) (u .w) (u .h) (length (turn .loop .mem)) number
-  start-found = start-known _ _ _ _ _ _ _ (begun-on (turn .loop .inv .mem-long) (began .pre .0)) (c .start-number .ensures)
+      BegunAt (u .t1) (u .r) (u .p) (u .w) (u .h) (length (turn .loop .mem)) number (getD (u .t2) (c .start-number .result) noStart)
+  begun = start-known _ _ _ _ _ _ _ (turn .loop .inv .mem-long) (began .pre .0) (c .start-number .ensures)
 
 -- where the record that stands for its pattern is known
 module _ (c : tie.After-entry-number Inv-loop μ-loop) where
@@ -92,9 +90,12 @@ make-call-requires : tie.Need-make-call-requires Inv-loop μ-loop
 unfolding patternAt
 make-call-requires c κs =
     let e = entered (c .before .before .before .before) in
-    λ found.
-    let shown = started _ _ _ _ _ _ (sym (start-found (numbered e)) ∙ found) in
-    (shown .picture, rw (own-entry e) (shown .most))
+    let s = begun (numbered e) in (
+      λ found.
+          let shown = started _ _ _ _ _ _ _ (sym (found-by _ (s .outcome-is)) ∙ found) in
+          (shown .picture, rw (own-entry e) (shown .most)),
+      ap length (s .positions-are) ∙ positions-long _ _ _ _ _ _ _,
+    )
 
 -- the call was made
 abbrev roomed : tie.After-make-call Inv-loop μ-loop → tie.After-room-of Inv-loop μ-loop
@@ -105,8 +106,8 @@ unfolding patternAt
 put-row-requires c κs =
     let m = c .before .before .before .before .before in
     let e = entered (roomed m) in
-    let made = m .make-call .ensures _ (start-found (numbered e)) (own-entry e) in
-    (ap length (made .row-is) ∙ length-reply _, simp (length-take, length-drop) (omega (arith, row-there (numbered e))))
+    let made = m .make-call .ensures _ (begun (numbered e)) (own-entry e) in
+    (row-long made, simp (length-take, length-drop) (omega (arith, row-there (numbered e))))
 
 -- and its reply put
 abbrev replied : tie.After-slice-known6 Inv-loop μ-loop → tie.After-make-call Inv-loop μ-loop
@@ -120,9 +121,9 @@ loop-again c =
     let e = entered r in
     let s = numbered e in
     going-on _ _ _ _ _ (turn s .loop .inv) (inside s .loop-test .taken) (r .room-of .ensures)
-    (m .make-call .kept .1 .1 .1 .1 .1 .0)
-    (m .make-call .ensures _ (start-found s) (own-entry e))
-    (m .make-call .kept .1 .1 .1 .1 .1 .1 .1 .1 .1 .1 .0)
+    (m .make-call .kept .1 .1 .1 .1 .1 .1 .0)
+    (m .make-call .ensures _ (begun s) (own-entry e))
+    (m .make-call .kept .1 .1 .1 .1 .1 .1 .1 .1 .1 .1 .1 .0)
     (c .before .before .put-row .ensures)
 
 pub make-calls-spec : {M : Type 1} → statement M

@@ -1,6 +1,6 @@
 -- `pictures::lists::run_list` meets its contract: a list that is wrong changes nothing, and the calls of another are made.
 -- Assumes nothing.
-use mathlib.Core.Path.{_≡_, sym, _∙_}
+use mathlib.Core.Path.{sym, _∙_}
 use lib.ListN.{length}
 use borrow.Author.Needs.{needs}
 use Rattle.pictures.proofs.ListFaults.{Passes, made-passes, not-made-tag, not-made-fault}
@@ -19,7 +19,7 @@ module _ (c : tie.After-enum-told) where
 make-calls-requires : tie.Need-make-calls-requires
 make-calls-requires c κs =
     let s = c .before .before .before in
-    (record { found = s .starts-of .ensures }, passes (s .before) .calls, passes (s .before) .replies)
+    (s .starts-of .ensures, passes (s .before) .calls, passes (s .before) .replies)
 
 returns : tie.Need-returns
 returns c =

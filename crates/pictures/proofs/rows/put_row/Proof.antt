@@ -1,15 +1,15 @@
 -- `pictures::rows::put_row` meets its contract. The loop's invariant: the first e numbers were put.
 -- Assumes nothing.
-use Prim.Native.Nat.{ℕ, _+_, _-_, _≤_, _<_}
+use Prim.Native.Nat.{ℕ, _-_, _≤_}
 use native.Mathlib.Omega.{arith}
-use native.Mathlib.Numerals.{add-one}
-use mathlib.Core.Path.{_≡_, refl, sym, _∙_, ap}
-use mathlib.Core.List.{List, [], _∷_, _++_}
-use lib.ListN.{length, getD, take, set}
-use lib.Seq.{take-suc, take-all, length-take-le}
+use mathlib.Core.Path.{_≡_, refl, _∙_, ap}
+use mathlib.Core.List.{List, []}
+use lib.ListN.{length, take}
+use lib.Seq.{take-all}
 use borrow.Author.Needs.{needs}
 use Rattle.scope.specs.Banks.{overStart}
-use Rattle.checks.proofs.Outputs.{Put, one-more-put}
+use Rattle.checks.proofs.Outputs.{Put}
+use Rattle.pictures.proofs.Stretches.{entry-put}
 use Rattle.pictures.proofs.rows.put_row.Statement.{statement}
 use Rattle.pictures.proofs.rows.put_row.Tie as tie
 
@@ -18,14 +18,6 @@ Inv-loop out₀ row e₀ out e = (e ≤ 12) × Put (take e row) out₀ out
 
 abbrev μ-loop : tie.MeasureT-loop
 μ-loop out₀ row e₀ out e = 12 - e
-
--- one more number of the row
-next-put :
-    (row : List ℕ) {before out : List ℕ} (e : ℕ) → e < length row → length row ≤ length before → Put (take e row) before out
-    → Put (take (e + 1) row) before (set out e (getD row e 0))
-next-put row e h room put =
-    let longer : take (e + 1) row ≡ take e row ++ (getD row e 0 ∷ []) = rw (add-one e) (take-suc row e 0 h) in
-    rw longer (one-more-put put e (getD row e 0) (sym (length-take-le e row (omega arith))) (omega arith))
 
 all-put :
     (row : List ℕ) {before out : List ℕ} (e : ℕ) → e ≡ 12 → length row ≡ 12 → Put (take e row) before out
@@ -44,7 +36,7 @@ loop-again : tie.Need-loop-again Inv-loop μ-loop
 loop-again c =
     let l = c .before .loop in
     let given = c .before .before .pre in
-    (omega arith, next-put _ (l .e) (omega (arith, given .0)) (omega (arith, given .0, given .1)) (l .inv .1))
+    (omega arith, entry-put [] _ (l .e) (l .e) (omega arith) (omega (arith, given .0)) (omega (arith, given .1)) (l .inv .1))
 
 same-length : tie.Need-same-length Inv-loop μ-loop
 same-length c = c .before .loop .inv .1 .same-length
