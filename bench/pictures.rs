@@ -6,7 +6,7 @@ use std::hint::black_box;
 use crate::bankplan::raw::{bankplan_bank, bankplan_clear, bankplan_fetch, bankplan_load};
 use crate::bankplan::raw::{bankplan_ring_fetch, bankplan_store, bankplan_sum};
 use crate::bankplan::{Book as Record, Plan};
-use crate::{seconds, time, words};
+use crate::{block, record, seconds, time, words};
 
 /// A picture under a plan, with its memory.
 pub struct Picture {
@@ -101,6 +101,18 @@ pub fn positions(w: u32, h: u32) -> Vec<(i16, i16)> {
     (0..1000u32).map(|k| ((16 + k * 7919 % (w - 32)) as i16, (16 + k * 104_729 % (h - 32)) as i16)).collect()
 }
 
+/// Positions all over a ring, and up to a turn off on either side.
+pub fn around(w: u32, h: u32) -> Vec<(i16, i16)> {
+    let at = |k: u32, side: u32| (k % (3 * side)) as i16 - side as i16;
+    (0..1000).map(|k| (at(k * 7919, w), at(k * 104_729, h))).collect()
+}
+
+/// The greatest sides of a ring within these.
+pub fn ring_sides(p: &Plan, w: u32, h: u32) -> (u32, u32) {
+    let wide = w - w % p.a;
+    (wide, (1..=h).rev().find(|&high| words::is_ring(p, wide, high)).expect("N rows are a ring's"))
+}
+
 // Numbers that no call can guess from those before.
 fn mixed(k: u32) -> u32 {
     let x = (k ^ k >> 16).wrapping_mul(0x85eb_ca6b);
@@ -159,6 +171,39 @@ fn same_fetches(pic: &Picture, r: &Record, at: &[(i16, i16)]) {
     }
 }
 
+// Both allow a ring fetch of the same sides: every plan with up to 12 banks, all sides up to 24.
+fn same_rings() {
+    let one = record(&[block(1, 1)]);
+    let plans = (1..=12).flat_map(|n| (1..=n).filter(move |d| n % d == 0).map(move |d| (n / d, d)));
+    for (a, b, d) in plans.flat_map(|(a, d)| (0..a).map(move |b| (a, b, d))) {
+        for (w, h) in (1..=24).flat_map(|w| (1..=24).map(move |h| (w, h))) {
+            let (pic, mut x, mut y) = (Picture::new(Plan { a, b, d }, w, h), [7], [7]);
+            let (got, wanted) = (pic.fetch(true, &one, 0, (-1, -1), &mut x), pic.unverified_fetch(true, &one, 0, (-1, -1), &mut y));
+            assert_eq!((got, x), (wanted, y), "plan {a}, {b}, {d}, sides {w}, {h}");
+        }
+    }
+}
+
+/// The sides of turntables: the card's, and large ones. They are not both multiples of N.
+pub const TURNTABLES: [(u32, u32); 2] = [(12, 6), (4086, 4090)];
+
+/// The pattern of 6 by 2 pixels and its plan, under which these sides are a ring's.
+pub fn turntable() -> (Record, Plan) {
+    (record(&[block(6, 2)]), Plan { a: 6, b: 0, d: 2 })
+}
+
+fn turntables(timed: bool) {
+    let (r, p) = turntable();
+    for (w, h) in TURNTABLES {
+        let (pic, at) = (Picture::new(p, w, h), around(w, h));
+        same_fetches(&pic, &r, &at);
+        assert_eq!(pic.fetch(true, &r, 0, (0, 0), &mut [0; 12]), (0, 12));
+        if timed {
+            fetch_row(&format!("ring fetch, 6 by 2 block, turntable of {w} by {h}"), &pic, true, &r, &at);
+        }
+    }
+}
+
 /// The answers of both, compared; then the table.
 pub fn pictures(books: &[(&str, &Record, Plan)], timed: bool) {
     let (w, h) = (1920, 1080);
@@ -193,6 +238,8 @@ pub fn pictures(books: &[(&str, &Record, Plan)], timed: bool) {
             }
         }
     }
+    same_rings();
+    turntables(timed);
 }
 
 fn words_table(pic: &Picture, at: &[(i16, i16)]) {

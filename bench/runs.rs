@@ -6,7 +6,7 @@ use std::hint::black_box;
 
 use crate::bankplan::raw::bankplan_run_list;
 use crate::bankplan::{Book as Record, Plan};
-use crate::pictures::{positions, Picture};
+use crate::pictures::{around, positions, ring_sides, turntable, Picture, TURNTABLES};
 use crate::words::Tested;
 use crate::{seconds, time};
 
@@ -61,7 +61,7 @@ impl List<'_> {
     fn lent(&self) -> Lent {
         let p = &self.p;
         let words = p.a * p.d * self.w.div_ceil(p.a) * self.h.div_ceil(p.d);
-        let room: u64 = self.numbers.chunks(5).map(|c| if c[0] == 3 { c[4] } else { 0 }).sum();
+        let room: u64 = self.numbers.chunks(5).map(|c| if c[0] < 3 { 0 } else { c[4] }).sum();
         Lent {
             mem: (0..words).map(|k| (k * 40503 % 65521) as u16).collect(),
             outs: vec![7; room as usize],
@@ -73,10 +73,10 @@ impl List<'_> {
 /// 255 for numbers that are no calls', 16 for outputs or replies that are too short.
 fn list_fault(numbers: &[u64], mut room: u64, replies: usize) -> u64 {
     for c in numbers.chunks_exact(5) {
-        if c[0] > 3 || c[1] > 65535 || c[2] > 65535 || c[0] == 0 && c[3] > 65535 {
+        if c[0] > 4 || c[1] > 65535 || c[2] > 65535 || c[0] == 0 && c[3] > 65535 {
             return 255;
         }
-        if c[0] == 3 {
+        if c[0] >= 3 {
             match room.checked_sub(c[4]) {
                 Some(left) => room = left,
                 None => return 16,
@@ -121,7 +121,8 @@ pub fn run_list(
             _ => {
                 let (own, rest) = outs.split_at_mut(c[4] as usize);
                 outs = rest;
-                pic.fetch(mem, c[3] as usize, (i, j), own).map(|n| n as u64)
+                let fetch = if c[0] == 3 { Tested::fetch } else { Tested::ring_fetch };
+                fetch(&pic, mem, c[3] as usize, (i, j), own).map(|n| n as u64)
             }
         };
         match told {
@@ -138,55 +139,103 @@ pub fn run_list(
     0
 }
 
-fn fetches(at: &[(i16, i16)], patterns: usize, room: u64) -> Vec<u64> {
-    let call = |(k, o): (usize, &(i16, i16))| [3, o.0 as u16 as u64, o.1 as u16 as u64, (k % patterns) as u64, room];
+fn fetches(ring: bool, at: &[(i16, i16)], patterns: usize, room: u64) -> Vec<u64> {
+    let kind = if ring { 4 } else { 3 };
+    let call = |(k, o): (usize, &(i16, i16))| [kind, o.0 as u16 as u64, o.1 as u16 as u64, (k % patterns) as u64, room];
     at.iter().enumerate().flat_map(call).collect()
 }
 
-/// Stores, clears, loads and fetches in turn, some of them refused.
+/// Stores, clears, loads and fetches of both kinds in turn, some of them refused.
 fn mixed(at: &[(i16, i16)]) -> Vec<u64> {
     let call = |(k, o): (usize, &(i16, i16))| {
         let (k, i, j) = (k as u64, o.0 as u16 as u64, o.1 as u16 as u64);
-        match k % 8 {
+        match k % 10 {
             0..=2 => [0, i, j, k, 0],
             3 => [2, i, j, 0, 0],
             4 => [1, 0, 0, k % 40, 0],
             5 => [2, j, 65535, 0, 0],
             6 => [3, i, j, k % 5, 64],
-            _ => [3, i, j, 0, 8],
+            7 => [3, i, j, 0, 8],
+            8 => [4, 65535 - i, j, k % 5, 64],
+            _ => [4, i, 65535 - j, 0, 8],
         }
     };
     at.iter().enumerate().flat_map(call).collect()
 }
 
-/// The answers of both, compared; then rows of the table: a call in a list, and for fetches as a single call too.
-pub fn lists(books: &[(&str, &Record, Plan)], timed: bool) {
-    let (w, h) = (1920, 1080);
-    let at = positions(w, h);
-    if timed {
-        println!();
-        println!("| a fetch in a list of 1,000 | proved | unverified | ratio | proved, as single calls |");
-        println!("|---|---|---|---|---|");
+/// The lists of one row: a book under a plan in a picture, the positions, and whether its fetches are ring fetches.
+struct Row<'a> {
+    name: String,
+    r: &'a Record,
+    p: Plan,
+    sides: (u32, u32),
+    ring: bool,
+    at: Vec<(i16, i16)>,
+}
+
+impl Row<'_> {
+    fn list(&self, numbers: Vec<u64>) -> List<'_> {
+        List { r: self.r, p: self.p, w: self.sides.0, h: self.sides.1, numbers }
     }
-    for (name, r, p) in books {
-        let list = |numbers| List { r, p: *p, w, h, numbers };
-        for l in [list(mixed(&at)), list(fetches(&at, r.count, 64)), list(fetches(&at, 17, 9)), list(vec![0; 7])] {
+
+    // The list that is timed: the patterns in turn.
+    fn timed(&self) -> List<'_> {
+        self.list(fetches(self.ring, &self.at, self.r.count, self.r.used[0] as u64))
+    }
+
+    fn same(&self) {
+        let l = self.timed();
+        let mut lent = l.lent();
+        l.proved(&mut lent);
+        assert!(lent.replies.chunks(12).all(|reply| reply[0] == 0), "{}: not served", self.name);
+        let numbers = [
+            mixed(&self.at),
+            fetches(self.ring, &self.at, self.r.count, 64),
+            fetches(self.ring, &self.at, 17, 9),
+            vec![0; 7],
+            [vec![5; 5], fetches(self.ring, &self.at, 1, 9)].concat(),
+        ];
+        for l in numbers.map(|numbers| self.list(numbers)) {
             let (mut x, mut y) = (l.lent(), l.lent());
-            assert_eq!(l.proved(&mut x), l.unverified(&mut y), "{name}");
-            assert_eq!(x, y, "{name}");
+            assert_eq!(l.proved(&mut x), l.unverified(&mut y), "{}", self.name);
+            assert_eq!(x, y, "{}", self.name);
         }
-        if timed {
-            let l = list(fetches(&at, r.count, r.used[0] as u64));
-            let (x, y) = (RefCell::new(l.lent()), RefCell::new(l.lent()));
-            let (pic, out) = (Picture::new(*p, w, h), RefCell::new([0; 64]));
-            let single = |n: usize, o| pic.fetch(false, r, n, o, &mut *out.borrow_mut()).1;
-            let [proved, unproved, singly] = seconds([
-                &|| black_box(&l).proved(&mut x.borrow_mut()),
-                &|| black_box(&l).unverified(&mut y.borrow_mut()),
-                &|| at.iter().enumerate().map(|(k, o)| single(k % r.count, black_box(*o))).fold(0, u64::wrapping_add),
-            ])
-            .map(|s| s / at.len() as f64);
-            println!("| {name} | {} | {} | {:.2} | {} |", time(proved), time(unproved), proved / unproved, time(singly));
-        }
+    }
+
+    fn time(&self) {
+        let (Row { r, at, ring, .. }, l) = (self, self.timed());
+        let (x, y) = (RefCell::new(l.lent()), RefCell::new(l.lent()));
+        let (pic, out) = (Picture::new(self.p, l.w, l.h), RefCell::new([0; 64]));
+        let single = |n: usize, o| pic.fetch(*ring, r, n, o, &mut *out.borrow_mut()).1;
+        let [proved, unproved, singly] = seconds([
+            &|| black_box(&l).proved(&mut x.borrow_mut()),
+            &|| black_box(&l).unverified(&mut y.borrow_mut()),
+            &|| at.iter().enumerate().map(|(k, o)| single(k % r.count, black_box(*o))).fold(0, u64::wrapping_add),
+        ])
+        .map(|s| s / at.len() as f64);
+        let ratio = proved / unproved;
+        println!("| {} | {} | {} | {ratio:.2} | {} |", self.name, time(proved), time(unproved), time(singly));
+    }
+}
+
+/// The answers of both, compared; then rows of the table: a fetch in a list, and as a single call too.
+pub fn lists(books: &[(&str, &Record, Plan)], timed: bool) {
+    let full = (1920, 1080);
+    let (block, p) = turntable();
+    let mut rows = Vec::new();
+    for &(name, r, p) in books {
+        let sides = ring_sides(&p, full.0, full.1);
+        rows.push(Row { name: format!("fetch, {name}"), r, p, sides: full, ring: false, at: positions(full.0, full.1) });
+        rows.push(Row { name: format!("ring fetch, {name}"), r, p, sides, ring: true, at: around(sides.0, sides.1) });
+    }
+    for (w, h) in TURNTABLES {
+        let name = format!("ring fetch, 6 by 2 block, turntable of {w} by {h}");
+        rows.push(Row { name, r: &block, p, sides: (w, h), ring: true, at: around(w, h) });
+    }
+    rows.iter().for_each(Row::same);
+    if timed {
+        println!("\n| in a list of 1,000 | proved | unverified | ratio | proved, as single calls |");
+        println!("|---|---|---|---|---|");
+        rows.iter().for_each(Row::time);
     }
 }

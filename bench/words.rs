@@ -125,13 +125,18 @@ pub fn fetch(
     Ok(book.used[n])
 }
 
+/// Whether a ring fetch is allowed under a plan.
+pub fn is_ring(p: &Plan, w: u32, h: u32) -> bool {
+    w % p.a == 0 && h % p.d == 0 && p.b * (h / p.d) % p.a == 0
+}
+
 #[rustfmt::skip]
 #[inline(never)]
 pub fn ring_fetch(
     book: &Record, r: u32, p: &Plan, w: u32, h: u32, mem: &[u16], n: usize, o: (i16, i16), out: &mut [u16],
 ) -> Result<usize, u64> {
     let l = start(book, r, p, w, h, mem.len(), n)?;
-    if w % (p.a * p.d) != 0 || h % (p.a * p.d) != 0 {
+    if !is_ring(p, w, h) {
         return Err(18);
     }
     if out.len() < book.used[n] {
@@ -153,6 +158,7 @@ pub struct Tested<'a> {
     w: u32,
     h: u32,
     layout: Result<Layout, u64>,
+    ring: bool,
     starts: [Result<(), Refused>; 16],
 }
 
@@ -166,7 +172,8 @@ impl<'a> Tested<'a> {
             (Err(number), _) => Err((number, None)),
         };
         let starts = std::array::from_fn(start);
-        Tested { r, p, w, h, layout, starts }
+        let ring = layout.is_ok() && is_ring(p, w, h);
+        Tested { r, p, w, h, layout, ring, starts }
     }
 
     fn layout(&self) -> Result<&Layout, Refused> {
@@ -200,13 +207,17 @@ impl<'a> Tested<'a> {
         Ok(())
     }
 
-    pub fn fetch(&self, mem: &[u16], n: usize, o: (i16, i16), out: &mut [u16]) -> Result<usize, Refused> {
+    fn start(&self, n: usize) -> Result<&Layout, Refused> {
         // past the record's entries a number is not in the book, whatever the entry's tests found
         self.starts[n.min(15)].or_else(|r| if n < 16 || r.0 != 10 { Err(r) } else { Ok(()) })?;
         if n >= self.r.count {
             return Err((17, None));
         }
-        let l = self.layout()?;
+        self.layout()
+    }
+
+    pub fn fetch(&self, mem: &[u16], n: usize, o: (i16, i16), out: &mut [u16]) -> Result<usize, Refused> {
+        let l = self.start(n)?;
         if !moved(self.r, n, o).all(|(i, j)| inside(self.w, self.h, i, j)) {
             return Err((14, None));
         }
@@ -215,6 +226,21 @@ impl<'a> Tested<'a> {
         }
         for (x, (i, j)) in out.iter_mut().zip(moved(self.r, n, o)) {
             *x = mem[place(self.p, l, i, j)];
+        }
+        Ok(self.r.used[n])
+    }
+
+    pub fn ring_fetch(&self, mem: &[u16], n: usize, o: (i16, i16), out: &mut [u16]) -> Result<usize, Refused> {
+        let l = self.start(n)?;
+        if !self.ring {
+            return Err((18, None));
+        }
+        if out.len() < self.r.used[n] {
+            return Err((16, None));
+        }
+        let (w, h) = (self.w as i32, self.h as i32);
+        for (x, (i, j)) in out.iter_mut().zip(moved(self.r, n, o)) {
+            *x = mem[place(self.p, l, i.rem_euclid(w), j.rem_euclid(h))];
         }
         Ok(self.r.used[n])
     }

@@ -8,7 +8,7 @@ use std::fmt;
 use std::mem::{offset_of, size_of};
 
 /// The version of this file, and of the library that is built from the same tree.
-pub const VERSION: &str = "0.5.0";
+pub const VERSION: &str = "0.6.0";
 
 /// The banks of a plan, the finder's limit and a determinant's size, at most.
 pub const MAX_BANKS: u32 = 1024;
@@ -217,6 +217,8 @@ pub enum Call {
     Load { pixel: (i16, i16) },
     /// The words of a pattern moved to a position, for an output of so many words.
     Fetch { pattern: usize, at: (i16, i16), room: usize },
+    /// The same with columns modulo the width and rows modulo the height.
+    RingFetch { pattern: usize, at: (i16, i16), room: usize },
 }
 
 /// What a call of a list gave.
@@ -226,7 +228,7 @@ pub enum Reply {
     Done,
     /// The word that a load gave.
     Word(u16),
-    /// The words that a fetch gave, in the book's pixel order.
+    /// The words that a fetch or a ring fetch gave, in the book's pixel order.
     Words(Vec<u16>),
     /// The call was turned down, and changed nothing.
     Refused(Refused),
@@ -253,6 +255,7 @@ pub const KIND_STORE: u64 = 0;
 pub const KIND_CLEAR: u64 = 1;
 pub const KIND_LOAD: u64 = 2;
 pub const KIND_FETCH: u64 = 3;
+pub const KIND_RING_FETCH: u64 = 4;
 
 /// A call turned down: document 01's number, 1 to 18, or 19 or 20 of document 02; the place, a byte offset for 1 to 5 and 19 where
 /// the call was given bytes, else 0; and the clash of 10.
@@ -263,7 +266,7 @@ pub struct Refused {
     pub clash: Option<Clash>,
 }
 
-/// The conditions from 1 to 20: document 01's, and the last two of Cards 3 and 4 in document 02.
+/// The conditions from 1 to 20: document 01's, and the last three of Cards 5, 3 and 4 in document 02.
 pub const CONDITIONS: [&str; 20] = [
     "book ends early",
     "pattern count not 1-16 or pixel count not 1-64",
@@ -282,7 +285,7 @@ pub const CONDITIONS: [&str; 20] = [
     "bank ≥ N, address ≥ depth, or their pixel outside",
     "output too short",
     "pattern number not in the book",
-    "ring sides not multiples of N",
+    "(W, 0) or (0, H) not in the lattice",
     "pixel lower than the one before it, by row, then column",
     "r outside 1 to 8",
 ];
@@ -520,7 +523,8 @@ impl Picture {
         told(call).map(|r| r[0] as usize)
     }
 
-    /// The same with columns modulo the width and rows modulo the height. Refused by 2, 3, 4, 19, 20, 11, 12, 13, 17, 10, 18, 16.
+    /// The same with columns modulo the width and rows modulo the height. Refused by 2, 3, 4, 19, 20, 11, 12, 13, 17, 10, 18, 16. It
+    /// is allowed, and not refused by 18, exactly if a divides the width, d divides the height, and a divides b × (height/d).
     pub fn ring_fetch(
         self,
         book: &Book,
@@ -558,20 +562,21 @@ impl Call {
             Call::Clear { bank } => [KIND_CLEAR, 0, 0, bank, 0],
             Call::Load { pixel: (i, j) } => [KIND_LOAD, bits(i), bits(j), 0, 0],
             Call::Fetch { pattern, at: (i, j), room } => [KIND_FETCH, bits(i), bits(j), pattern as u64, room as u64],
+            Call::RingFetch { pattern, at: (i, j), room } => [KIND_RING_FETCH, bits(i), bits(j), pattern as u64, room as u64],
         }
     }
 
     /// The words of outputs that the call takes up.
     pub fn room(self) -> usize {
-        if let Call::Fetch { room, .. } = self { room } else { 0 }
+        if let Call::Fetch { room, .. } | Call::RingFetch { room, .. } = self { room } else { 0 }
     }
 
     // The same call with no more room than a fetch can use, a word to each pixel: every reply is the same.
-    fn within_reach(self) -> Call {
-        match self {
-            Call::Fetch { pattern, at, room } => Call::Fetch { pattern, at, room: room.min(MAX_PIXELS) },
-            call => call,
+    fn within_reach(mut self) -> Call {
+        if let Call::Fetch { room, .. } | Call::RingFetch { room, .. } = &mut self {
+            *room = MAX_PIXELS.min(*room);
         }
+        self
     }
 }
 
@@ -588,7 +593,7 @@ impl Reply {
             _ if at(0) != 0 => Reply::Refused(refused(at(0), numbers.get(1..).unwrap_or_default())),
             Call::Store { .. } | Call::Clear { .. } => Reply::Done,
             Call::Load { .. } => Reply::Word(at(1) as u16),
-            Call::Fetch { .. } => Reply::Words(out.iter().copied().take(at(1) as usize).collect()),
+            Call::Fetch { .. } | Call::RingFetch { .. } => Reply::Words(out.iter().copied().take(at(1) as usize).collect()),
         }
     }
 }

@@ -1,12 +1,13 @@
 /*
  * A camera's buffer, from C: a filter of five pixels in a cross, the plan with the fewest banks for it, a picture of 7 by 4 under
- * that plan, what shuffled books, suppliers and wrong positions get, a list of calls made at once, and the same filter read in two
- * cycles. camera.rs does the same in Rust.
+ * that plan, what shuffled books, suppliers and wrong positions get, a list of calls made at once, the same filter read in two
+ * cycles, and a turntable, whose pixels are fetched around its edges. camera.rs does the same in Rust.
  *
  *   cc -std=c11 -o target/camera-c examples/camera.c target/staticlib/libcapi.a
  */
 #include <stdio.h>
 #include <stdlib.h>
+#include <string.h>
 
 #include "../include/bankplan.h"
 
@@ -30,17 +31,18 @@ static uint64_t said_for(uint32_t r, const char *call, uint64_t number, const ui
     return number;
 }
 
-/* The replies of four calls for r = 1; the words are those of the fetch. */
-static void show(const uint64_t *numbers, const uint64_t *replies, const uint16_t *words) {
-    for (int k = 0; k < 4; k++) {
+/* The replies of some calls for r = 1; the words are those of the fetch. */
+static void show(int calls, const uint64_t *numbers, const uint64_t *replies, const uint16_t *words) {
+    for (int k = 0; k < calls; k++) {
         const uint64_t *reply = replies + k * BANKPLAN_REPLY_NUMBERS;
         uint64_t kind = numbers[k * BANKPLAN_CALL_NUMBERS];
+        int fetch = kind == BANKPLAN_KIND_FETCH || kind == BANKPLAN_KIND_RING_FETCH;
         if (said_for(1, "list", reply[0], reply + 1) != 0)
             continue;
-        printf(kind == BANKPLAN_KIND_LOAD ? "list: word" : kind == BANKPLAN_KIND_FETCH ? "list: words" : "list: done");
+        printf(kind == BANKPLAN_KIND_LOAD ? "list: word" : fetch ? "list: words" : "list: done");
         if (kind == BANKPLAN_KIND_LOAD)
             printf(" %02d", (int)reply[1]);
-        for (uint64_t e = 0; kind == BANKPLAN_KIND_FETCH && e < reply[1]; e++)
+        for (uint64_t e = 0; fetch && e < reply[1]; e++)
             printf(" %02d", words[e]);
         printf("\n");
     }
@@ -61,6 +63,33 @@ static int two_cycles(const int8_t columns[1024], const int8_t rows[1024], const
         if (said("bank", bankplan_bank(a, b, d, columns[e], rows[e], answer)) == 0)
             printf("cycles: (%d, %d) from bank %d in cycle %d\n", columns[e], rows[e], (int)answer[0], cycles[e]);
     said_for(2, "check in two cycles", bankplan_check(columns, rows, used, count, 2, 2, 0, 0, 1, answer), answer);
+    return 0;
+}
+
+/* A turntable's picture of 12 by 6 closes to a ring both ways. Its filter is 6 by 2 pixels, and the plan for it is 6, 0, 2. A list
+   stores a word at each pixel, then fetches around the corner. */
+static int turntable(void) {
+    enum { WIDE = 12, HIGH = 6, STORES = WIDE * HIGH, CALLS = STORES + 1 };
+    static const uint8_t bytes[] = {1, 12, 0, 0, 1, 0, 2, 0, 3, 0, 4, 0, 5, 0, 0, 1, 1, 1, 2, 1, 3, 1, 4, 1, 5, 1};
+    static int8_t columns[1024], rows[1024];
+    static size_t used[16];
+    static uint64_t numbers[CALLS][BANKPLAN_CALL_NUMBERS], replies[CALLS][BANKPLAN_REPLY_NUMBERS];
+    uint16_t mem[WIDE * HIGH] = {0}, words[12];
+    uint64_t answer[12];
+    if (said("read", bankplan_read_book(bytes, sizeof bytes, columns, rows, used, answer)) != 0)
+        return 1;
+    for (uint64_t k = 0; k < STORES; k++) {
+        uint64_t i = k % WIDE, j = k / WIDE, store[] = {BANKPLAN_KIND_STORE, i, j, 100 * j + i, 0};
+        memcpy(numbers[k], store, sizeof store);
+    }
+    static const uint64_t fetch[] = {BANKPLAN_KIND_RING_FETCH, 9, 5, 0, 12}; /* pattern 0 at (9, 5) */
+    memcpy(numbers[STORES], fetch, sizeof fetch);
+    if (said("turntable", bankplan_find_and_run(columns, rows, used, 1, 1, 1024, WIDE, HIGH, mem, STORES, numbers[0],
+                                                CALLS * BANKPLAN_CALL_NUMBERS, words, 12, replies[0],
+                                                CALLS * BANKPLAN_REPLY_NUMBERS, answer)) != 0)
+        return 1;
+    printf("turntable: plan %d %d %d\n", (int)answer[0], (int)answer[1], (int)answer[2]);
+    show(1, fetch, replies[STORES], words);
     return 0;
 }
 
@@ -133,6 +162,11 @@ int main(void) {
              bankplan_fetch(columns, rows, used, count, 1, a, b, d, WIDTH, HEIGHT, mem, length, 0, 0, 0, words, 64, answer),
              answer);
 
+    /* a ring fetch goes around the edges, but not with these sides: 5 does not divide 7 */
+    said_for(1, "ring fetch at the corner",
+             bankplan_ring_fetch(columns, rows, used, count, 1, a, b, d, WIDTH, HEIGHT, mem, length, 0, 0, 0, words, 64, answer),
+             answer);
+
     /* the sum of bank 0, before and after it is cleared */
     for (int round = 0; round < 2; round++) {
         if (said("sum", bankplan_sum(a, b, d, WIDTH, HEIGHT, mem, length, 0, answer)) == 0)
@@ -152,7 +186,7 @@ int main(void) {
              bankplan_run_list(columns, rows, used, count, 1, a, b, d, WIDTH, HEIGHT, mem, length, numbers,
                                4 * BANKPLAN_CALL_NUMBERS, words, 5, replies, 4 * BANKPLAN_REPLY_NUMBERS, answer)) != 0)
         return 1;
-    show(numbers, replies, words);
+    show(4, numbers, replies, words);
 
     /* the finder too, and the same list on a memory of 0 */
     for (size_t k = 0; k < length; k++)
@@ -162,7 +196,7 @@ int main(void) {
                                    4 * BANKPLAN_CALL_NUMBERS, words, 5, replies, 4 * BANKPLAN_REPLY_NUMBERS, answer)) != 0)
         return 1;
     printf("list under plan %d %d %d\n", (int)answer[0], (int)answer[1], (int)answer[2]);
-    show(numbers, replies, words);
+    show(4, numbers, replies, words);
     free(mem);
-    return two_cycles(columns, rows, used, count);
+    return two_cycles(columns, rows, used, count) || turntable();
 }

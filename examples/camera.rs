@@ -1,6 +1,6 @@
 //! A camera's buffer, from Rust: a filter of five pixels in a cross, the plan with the fewest banks for it, a picture of 7 by 4
-//! under that plan, what shuffled books, suppliers and wrong positions get, a list of calls made at once, and the same filter read
-//! in two cycles. camera.c does the same in C.
+//! under that plan, what shuffled books, suppliers and wrong positions get, a list of calls made at once, the same filter read in
+//! two cycles, and a turntable, whose pixels are fetched around its edges. camera.c does the same in C.
 //!
 //!     rustc --edition 2021 -O --crate-type rlib --out-dir target -L native=target/staticlib -l static=capi bindings/bankplan.rs
 //!     rustc --edition 2021 -O --out-dir target --extern bankplan=target/libbankplan.rlib examples/camera.rs
@@ -52,6 +52,19 @@ fn two_cycles(book: &Book) -> Result<(), Refused> {
     if let Err(refused) = book.check(2, (2, 0), (0, 1)) {
         say("check in two cycles", refused);
     }
+    Ok(())
+}
+
+// A turntable's picture of 12 by 6 closes to a ring both ways. Its filter is 6 by 2 pixels, and the plan for it is 6, 0, 2. A list
+// stores a word at each pixel, then fetches around the corner.
+fn turntable() -> Result<(), Box<dyn Error>> {
+    let filter: Vec<(i8, i8)> = (0..12).map(|k| (k % 6, k / 6)).collect();
+    let store = |(i, j)| Call::Store { pixel: (i, j), word: (100 * j + i) as u16 };
+    let mut calls: Vec<Call> = (0..72).map(|k| store((k % 12, k / 12))).collect();
+    calls.push(Call::RingFetch { pattern: 0, at: (9, 5), room: 12 });
+    let (plan, mut replies) = Book::new(&[filter])?.find_and_run(1, 1024, (12, 6), &mut [0; 72], &calls)?;
+    println!("turntable: plan {} {} {}", plan.a, plan.b, plan.d);
+    show(replies.split_off(72));
     Ok(())
 }
 
@@ -111,6 +124,11 @@ fn main() -> Result<(), Box<dyn Error>> {
         say("fetch at the corner", refused);
     }
 
+    // a ring fetch goes around the edges, but not with these sides: 5 does not divide 7
+    if let Err(refused) = picture.ring_fetch(&book, 1, &mem, 0, (0, 0), &mut words) {
+        say("ring fetch at the corner", refused);
+    }
+
     // the sum of bank 0, before and after it is cleared
     for _ in 0..2 {
         println!("bank 0: sum {}", picture.sum(&mem, 0)?);
@@ -132,5 +150,5 @@ fn main() -> Result<(), Box<dyn Error>> {
     println!("list under plan {} {} {}", plan.a, plan.b, plan.d);
     show(replies);
     two_cycles(&book)?;
-    Ok(())
+    turntable()
 }

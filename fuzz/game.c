@@ -49,12 +49,23 @@ void choose_plan(struct game *g, struct feed *f, unsigned how) {
 void choose_sides(struct game *g, struct feed *f, unsigned how) {
     g->w = 1 + byte(f) % 80;
     g->h = 1 + byte(f) % 80;
-    if (how & 4 && is_plan(g->p)) { // sides of a ring
-        g->w = g->p.a * g->p.d * (1 + g->w % 2);
-        g->h = g->p.a * g->p.d * (1 + g->h % 2);
+    if (how & 4 && is_plan(g->p)) { // sides of a ring, or such that only the slant is in its way
+        g->w = g->p.a * (1 + g->w % 4);
+        g->h = g->p.d * (how & 64 ? g->p.a : 1) * (1 + g->h % 8);
     }
     if (how & 8) g->w = (uint32_t)number(f);
     if (how & 16) g->h = (uint32_t)number(f);
+}
+
+// Whether a step of w columns and one of h rows keep the bank of every pixel of a period, a columns by d rows. The banks alone
+// decide, no divisor is asked for.
+static bool steps_keep_banks(struct plan p, uint32_t w, uint32_t h) {
+    for (uint32_t j = 0; j < p.d; j++)
+        for (uint32_t i = 0; i < p.a; i++) {
+            uint32_t bank = plain_bank(p, i, j);
+            if (plain_bank(p, i + w, j) != bank || plain_bank(p, i, j + h) != bank) return false;
+        }
+    return true;
 }
 
 // The memory: as many words as the picture needs, and some more or one less.
@@ -65,6 +76,7 @@ void choose_memory(struct game *g, struct feed *f) {
     if (!g->refused) {
         g->banks = g->p.a * g->p.d;
         g->depth = up(g->w, g->p.a) * up(g->h, g->p.d);
+        g->ring = steps_keep_banks(g->p, g->w, g->h);
     }
     uint64_t needed = g->banks * g->depth;
     g->words = needed > MOST ? MOST : more == 255 && needed ? needed - 1 : needed + more % 4;
@@ -84,8 +96,13 @@ unsigned fetch_number(const struct game *g, size_t n, int i, int j, size_t room,
     if (g->refused) return g->refused;
     if (n >= g->r.count) return 17;
     if (plain_clash(&g->r, n, g->cycles, g->p, clash)) return 10;
-    if (ring && (g->w % g->banks || g->h % g->banks)) return 18;
+    if (ring && !g->ring) return 18;
     for (size_t m = 0; !ring && m < g->r.used[n]; m++)
         if (!inside(g, i + g->r.columns[64 * n + m], j + g->r.rows[64 * n + m])) return 14;
     return room < g->r.used[n] ? 16 : 0;
+}
+
+uint16_t fetched_word(const struct game *g, size_t n, size_t m, int i, int j, bool ring) {
+    int x = i + g->r.columns[64 * n + m], y = j + g->r.rows[64 * n + m];
+    return ring ? *pixel(g, (int)floor_mod(x, g->w), (int)floor_mod(y, g->h)) : *pixel(g, x, y);
 }

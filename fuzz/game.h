@@ -16,6 +16,7 @@ struct game {
     uint32_t w, h;
     uint64_t banks, depth; // 0 where there are none
     unsigned refused;      // 11, 12, 13 or 0
+    bool ring;             // whether a ring fetch is allowed
     uint16_t *memory;
     size_t words;
     uint16_t *shadow; // the word last stored at each pixel
@@ -38,6 +39,8 @@ uint64_t plain_address(const struct game *g, int i, int j);
 unsigned outcome(const struct game *g, unsigned condition, bool holds);
 // That of a fetch, in document 01's order, with 20 behind the book; of a clash, where.
 unsigned fetch_number(const struct game *g, size_t n, int i, int j, size_t room, bool ring, size_t clash[CLASH_LENGTH]);
+// The word last stored at pixel m of pattern n, moved to (i, j); of a ring fetch at the wrapped one.
+uint16_t fetched_word(const struct game *g, size_t n, size_t m, int i, int j, bool ring);
 
 // runs.c: some calls made as one list
 void run(struct game *g, struct feed *f);

@@ -98,11 +98,7 @@ static void fetch(const struct game *g, struct feed *f, bool ring) {
         used = g->r.used[n];
         MUST(t.number == 0 && t.values == 1 && t.row[0] == used);
     }
-    for (size_t m = 0; m < used; m++) {
-        int x = i + g->r.columns[64 * n + m], y = j + g->r.rows[64 * n + m];
-        if (ring) x = (int)floor_mod(x, g->w), y = (int)floor_mod(y, g->h);
-        MUST(out[m] == *pixel(g, x, y));
-    }
+    for (size_t m = 0; m < used; m++) MUST(out[m] == fetched_word(g, n, m, i, j, ring));
     for (size_t m = used; m < room; m++) MUST(out[m] == PAST);
     give_back(out, room * sizeof *out);
 }

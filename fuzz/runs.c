@@ -20,16 +20,26 @@ static uint64_t edge(struct feed *f) {
     return x < 15 ? edges[x] : number(f);
 }
 
-// A call's numbers; now and then one of them is at an edge.
+// The words of outputs that a call takes up: those of a fetch, plain or around the ring.
+static uint64_t room_of(const uint64_t *call) {
+    return call[0] == BANKPLAN_KIND_FETCH || call[0] == BANKPLAN_KIND_RING_FETCH ? call[4] : 0;
+}
+
+// A call's numbers; now and then one of them is at an edge. The highest bit of a fetch's room is for a ring fetch.
 static uint64_t draw_call(struct feed *f, uint64_t *call) {
     unsigned how = byte(f);
     call[0] = how & 3;
     call[1] = (uint16_t)coordinate(f);
     call[2] = (uint16_t)coordinate(f);
     call[3] = call[0] == BANKPLAN_KIND_STORE ? two(f) : number(f);
-    call[4] = call[0] == BANKPLAN_KIND_FETCH ? byte(f) % 67 : UINT64_MAX;
+    call[4] = UINT64_MAX;
+    if (call[0] == BANKPLAN_KIND_FETCH) {
+        unsigned room = byte(f);
+        if (room & 128) call[0] = BANKPLAN_KIND_RING_FETCH;
+        call[4] = (room & 127) % 67;
+    }
     if ((how >> 2 & 7) == 7) call[(how >> 5) % 5] = edge(f);
-    return call[0] == BANKPLAN_KIND_FETCH ? call[4] : 0;
+    return room_of(call);
 }
 
 // The room is what the fetches need, where that is little; then some more or less, for outputs and replies.
@@ -60,11 +70,10 @@ static unsigned plain_fault(const struct list *x, uint64_t *place) {
     for (; x->length - at >= BANKPLAN_CALL_NUMBERS; at += BANKPLAN_CALL_NUMBERS) {
         const uint64_t *call = x->numbers + at;
         *place = at;
-        if (call[0] > 3 || call[1] > 65535 || call[2] > 65535 || (call[0] == 0 && call[3] > 65535)) return BANKPLAN_NOT_CALLS;
+        if (call[0] > 4 || call[1] > 65535 || call[2] > 65535 || (call[0] == 0 && call[3] > 65535)) return BANKPLAN_NOT_CALLS;
         *place = 0;
-        if (call[0] != BANKPLAN_KIND_FETCH) continue;
-        if (call[4] > room) return BANKPLAN_OUTPUT;
-        room -= call[4];
+        if (room_of(call) > room) return BANKPLAN_OUTPUT;
+        room -= room_of(call);
     }
     *place = x->length > at ? at : 0;
     if (x->length > at) return BANKPLAN_NOT_CALLS;
@@ -81,23 +90,22 @@ static void clear_pixels(struct game *g, uint64_t bank) {
 static size_t plain_call(struct game *g, const uint64_t *call, uint64_t reply[BANKPLAN_REPLY_NUMBERS], uint16_t words[64]) {
     int i = (int16_t)(uint16_t)call[1], j = (int16_t)(uint16_t)call[2];
     size_t n = call[3], clash[CLASH_LENGTH];
-    bool outside = !inside(g, i, j);
+    bool outside = !inside(g, i, j), ring = call[0] == BANKPLAN_KIND_RING_FETCH;
     memset(reply, 0, BANKPLAN_REPLY_NUMBERS * sizeof *reply);
     if (call[0] == BANKPLAN_KIND_CLEAR) {
         reply[0] = outcome(g, 15, n >= g->banks);
         if (!reply[0]) clear_pixels(g, n);
-    } else if (call[0] != BANKPLAN_KIND_FETCH) {
+    } else if (call[0] < BANKPLAN_KIND_FETCH) {
         reply[0] = outcome(g, 14, outside);
         if (!reply[0] && call[0] == BANKPLAN_KIND_STORE) *pixel(g, i, j) = (uint16_t)n;
         if (!reply[0] && call[0] == BANKPLAN_KIND_LOAD) reply[1] = *pixel(g, i, j);
     } else {
-        reply[0] = fetch_number(g, n, i, j, call[4], false, clash);
+        reply[0] = fetch_number(g, n, i, j, call[4], ring, clash);
         if (reply[0] == 10) reply[2] = n;
         for (uint32_t m = 0; reply[0] == 10 && m <= g->cycles; m++) reply[3 + m] = clash[m];
         if (reply[0]) return 0;
         reply[1] = g->r.used[n];
-        for (size_t m = 0; m < reply[1]; m++)
-            words[m] = *pixel(g, i + g->r.columns[64 * n + m], j + g->r.rows[64 * n + m]);
+        for (size_t m = 0; m < reply[1]; m++) words[m] = fetched_word(g, n, m, i, j, ring);
         return reply[1];
     }
     return 0;
@@ -110,7 +118,7 @@ static void must_be_made(struct game *g, const struct list *x) {
         const uint64_t *call = x->numbers + k * BANKPLAN_CALL_NUMBERS;
         uint64_t reply[BANKPLAN_REPLY_NUMBERS];
         uint16_t words[64];
-        size_t count = plain_call(g, call, reply, words), room = call[0] == BANKPLAN_KIND_FETCH ? call[4] : 0;
+        size_t count = plain_call(g, call, reply, words), room = room_of(call);
         MUST(memcmp(x->replies + k * BANKPLAN_REPLY_NUMBERS, reply, sizeof reply) == 0);
         for (size_t m = 0; m < room; m++) MUST(x->outs[at + m] == (m < count ? words[m] : PAST));
         at += room;

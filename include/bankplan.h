@@ -22,7 +22,8 @@
  * book order" is the pattern count first, then for each pattern its pixel count, then for each of its pixels the column, the
  * row, whether it stood there before (4), and whether it is lower than the pixel just before it (19).
  *
- * What things are. A plan is a, b, d; it has N = a * d banks. A picture has width w and height h. A pixel is (i, j), column and
+ * What things are. A plan is a, b, d; it has N = a * d banks. Its lattice is all whole-number combinations of (a, 0) and (b, d):
+ * two pixels share a bank exactly if their difference is in it. A picture has width w and height h. A pixel is (i, j), column and
  * row.
  *
  * A camera may take r cycles for a pattern, r from 1 to 8. A plan suits a pattern for r if no bank has more than r of its pixels.
@@ -64,9 +65,9 @@ extern "C" {
 
 /* The version of this header, and of the library that is built from the same tree. */
 #define BANKPLAN_VERSION_MAJOR 0
-#define BANKPLAN_VERSION_MINOR 5
+#define BANKPLAN_VERSION_MINOR 6
 #define BANKPLAN_VERSION_PATCH 0
-#define BANKPLAN_VERSION "0.5.0"
+#define BANKPLAN_VERSION "0.6.0"
 
 /* The limits of documents 01 and 02, and how long the arrays are that go with them. */
 enum bankplan_limit {
@@ -83,7 +84,7 @@ enum bankplan_limit {
 };
 
 /* Why a call was turned down: each refusal's name, number and text. The number and the text are those of document 01, and of
-   Cards 3 and 4 of document 02 for 19 and 20. Two texts hold signs that are not ASCII, × and ≥; they are UTF-8. */
+   Cards 5, 3 and 4 of document 02 for 18, 19 and 20. Two texts hold signs that are not ASCII, × and ≥; they are UTF-8. */
 #define BANKPLAN_REFUSALS(X)                                                         \
     X(BANKPLAN_ENDS, 1, "book ends early")                                           \
     X(BANKPLAN_COUNT, 2, "pattern count not 1-16 or pixel count not 1-64")           \
@@ -102,7 +103,7 @@ enum bankplan_limit {
     X(BANKPLAN_CELL, 15, "bank ≥ N, address ≥ depth, or their pixel outside")        \
     X(BANKPLAN_OUTPUT, 16, "output too short")                                       \
     X(BANKPLAN_NO_PATTERN, 17, "pattern number not in the book")                     \
-    X(BANKPLAN_RING, 18, "ring sides not multiples of N")                            \
+    X(BANKPLAN_RING, 18, "(W, 0) or (0, H) not in the lattice")                      \
     X(BANKPLAN_LOWER, 19, "pixel lower than the one before it, by row, then column") \
     X(BANKPLAN_CYCLES, 20, "r outside 1 to 8")
 
@@ -212,7 +213,9 @@ uint64_t bankplan_fetch(const int8_t columns[1024], const int8_t rows[1024], con
                         size_t n, int16_t i, int16_t j, uint16_t *out, size_t out_length, uint64_t answer[12]);
 
 /* Does the same with columns modulo w and rows modulo h. Refused by 2, 3, 4, 19 in book order, 20, 11, 12, 13, 17, by 10 with
-   the clash, 18, 16. Tells the count of words. Lent: as for a fetch. */
+   the clash, 18, 16. Tells the count of words. Lent: as for a fetch.
+   It is allowed, and 18 is not told, exactly if a divides w, d divides h, and a divides b * (h / d). Then (w, 0) and (0, h) are in
+   the plan's lattice: a step of w columns or of h rows leads to the same bank. So w = 12 and h = 6 will do for the plan 6, 0, 2. */
 uint64_t bankplan_ring_fetch(const int8_t columns[1024], const int8_t rows[1024], const size_t used[16], size_t count,
                              uint32_t r, uint32_t a, uint32_t b, uint32_t d, uint32_t w, uint32_t h, const uint16_t *mem,
                              size_t mem_length, size_t n, int16_t i, int16_t j, uint16_t *out, size_t out_length,
@@ -221,11 +224,11 @@ uint64_t bankplan_ring_fetch(const int8_t columns[1024], const int8_t rows[1024]
 /* ---- lists of calls */
 
 /*
- * Two functions carry out a list of stores, clears, loads and fetches, each call on the memory as the one before left it. The
- * list is numbers, five to a call:
+ * Two functions carry out a list of stores, clears, loads, fetches and ring fetches, each call on the memory as the one before
+ * left it. The list is numbers, five to a call:
  *
- *   number       store    clear         load     fetch
- *   0: kind      0        1             2        3
+ *   number       store    clear         load     fetch, ring fetch
+ *   0: kind      0        1             2        3, 4
  *   1: column    column   below 65536   column   column of the position
  *   2: row       row      below 65536   row      row of the position
  *   3: what      word     bank          any      pattern number
@@ -233,7 +236,7 @@ uint64_t bankplan_ring_fetch(const int8_t columns[1024], const int8_t rows[1024]
  *
  * A column or a row is 16 bits in two's complement, in a number below 65536: (uint16_t)-1 is 65535, which is -1. A word is below
  * 65536 too. Banks, pattern numbers and rooms may be any numbers. "Any" is not looked at; a clear's column and row must only be
- * below 65536.
+ * below 65536. What is said of fetches below holds for ring fetches too.
  *
  * The fetches' outputs stand in `outs`, in the list's order: the first fetch has the first `room` words, the next one the words
  * behind them, and so on. Each puts its words at the start of its own; the rest of outs stays.
@@ -256,7 +259,8 @@ enum bankplan_kind {
     BANKPLAN_KIND_STORE = 0,
     BANKPLAN_KIND_CLEAR = 1,
     BANKPLAN_KIND_LOAD = 2,
-    BANKPLAN_KIND_FETCH = 3
+    BANKPLAN_KIND_FETCH = 3,
+    BANKPLAN_KIND_RING_FETCH = 4
 };
 
 /* How many numbers a call and a reply have; and what a function returns for numbers that are no list of calls. Document 01 has
@@ -283,7 +287,8 @@ uint64_t bankplan_run_list(const int8_t columns[1024], const int8_t rows[1024], 
    3, 4, 19 in book order, 6, 20, 7 where there is no plan; then 255 and 16 as above. Tells a, b, d.
    The memory is to have N * depth words under the plan that is found, or each call is refused by 13; (w + limit) * (h + limit)
    words are always enough. If these N * depth words are 0, each word that is fetched or loaded is the one last stored at its
-   pixel, or 0 where there is none since the last clear of its bank (demand 3 of document 01).
+   pixel, or 0 where there is none since the last clear of its bank (demand 3 of document 01). The pixels of a ring fetch are the
+   wrapped ones.
    Lent: as above; where there is no plan or the list was not carried out all of it stays. */
 uint64_t bankplan_find_and_run(const int8_t columns[1024], const int8_t rows[1024], const size_t used[16], size_t count,
                                uint32_t r, uint32_t limit, uint32_t w, uint32_t h, uint16_t *mem, size_t mem_length,

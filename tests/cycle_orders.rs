@@ -61,7 +61,7 @@ fn finds(t: &mut Tally) {
             if first != 255 && first != 16 {
                 t.same(what, library::find(&book, own, limit).number, first);
             }
-            let numbers = [if broken.contains(&255) { 4 } else { 2 }, 0, 0, 0, 0];
+            let numbers = [if broken.contains(&255) { 5 } else { 2 }, 0, 0, 0, 0];
             let (mut mem, mut outs, mut replies) = (guard(400), guard(4), [7; 12]);
             let places = 12 - usize::from(broken.contains(&16));
             let got = library::find_and_run(&book, own, limit, 7, 4, &mut mem, &numbers, &mut outs, &mut replies[..places]);
@@ -134,29 +134,30 @@ fn edges() -> Tally {
 
 // A list whose fetch is refused for its r, and whose other calls are made; the finder refuses the whole list.
 fn list_of(t: &mut Tally, book: &Record, r: u32, p: Plan, number: u64) {
-    let calls = [[0, 3, 2, 8, 0], [3, 3, 2, 0, 5], [2, 3, 2, 0, 0], [3, 3, 2, 9, 5]];
+    let calls = [[0, 3, 2, 8, 0], [3, 3, 2, 0, 5], [2, 3, 2, 0, 0], [3, 3, 2, 9, 5], [4, 3, 2, 0, 5], [4, 3, 2, 9, 5]];
     let numbers = calls.concat();
     // a memory that is long enough for every plan of the cross
     let lent = Lent { plan: p, w: 7, h: 4, words: 64 };
-    let case = Case { record: book, r, lent, numbers: &numbers, outs: 10, replies: 48 };
+    let case = Case { record: book, r, lent, numbers: &numbers, outs: 20, replies: 72 };
     let (got, left) = case.ask(t);
     t.same(|| format!("a list, {r}"), got, told(0, &[]));
-    let first: Vec<u64> = left.replies[..48].iter().copied().step_by(12).collect();
-    t.same(|| format!("replies, {r}"), first, vec![0, number, 0, if number == 20 { 20 } else { 17 }]);
-    let found = case.ask_finder(t, 1024);
+    let first: Vec<u64> = left.replies[..72].iter().copied().step_by(12).collect();
+    let or_20 = |other: u64| if number == 20 { 20 } else { other };
+    t.same(|| format!("replies, {r}"), first, vec![0, number, 0, or_20(17), or_20(18), or_20(17)]);
+    let found = case.ask_finder(t, 1024).0;
     t.same(|| format!("find_and_run, {r}"), found.number, number);
     // before 20 comes what is wrong with the book, behind it what is wrong with the plan, the sides and the memory
     let mut other = book.clone();
     other.columns[1] = 1;
     for (book, lent, fetched, stored) in [
         (&other, lent, 19, 0),
-        (book, Lent { plan: plan(5, 5, 1), ..lent }, if number == 20 { 20 } else { 11 }, 11),
-        (book, Lent { w: 0, ..lent }, if number == 20 { 20 } else { 12 }, 12),
-        (book, Lent { words: 1, ..lent }, if number == 20 { 20 } else { 13 }, 13),
+        (book, Lent { plan: plan(5, 5, 1), ..lent }, or_20(11), 11),
+        (book, Lent { w: 0, ..lent }, or_20(12), 12),
+        (book, Lent { words: 1, ..lent }, or_20(13), 13),
     ] {
         let case = Case { record: book, lent, ..case.clone() };
         let replies = case.ask(t).1.replies;
-        t.same(|| format!("replies, {case:?}"), (replies[0], replies[12]), (stored, fetched));
+        t.same(|| format!("replies, {case:?}"), (replies[0], replies[12], replies[48]), (stored, fetched, fetched));
     }
 }
 

@@ -1,10 +1,11 @@
-//! Fetches: patterns at corners and edges, rings, suppliers' plans, and memories of any content.
+//! Fetches: patterns at corners and edges, rings, suppliers' plans, and memories of any content. Which sides make a ring is in
+//! rings.rs.
 
 use crate::calls::{first_difference, Call, Kind, Picture};
 use crate::classes::suits_for;
 use crate::finds::random_book;
 use crate::library::{self, Plan, Record};
-use crate::memory::{moved, wrapped, Lent};
+use crate::memory::{moved, turns, wrapped, Lent};
 use crate::oracle::Pattern;
 use crate::pictures::{cross, expect, record};
 use crate::search::{plan, suits};
@@ -29,14 +30,15 @@ fn fill(t: &mut Tally, picture: &mut Picture, columns: Range<i16>, rows: Range<i
     }
 }
 
-fn filled(t: &mut Tally, p: Plan, w: i16, h: i16) -> Picture {
+/// A picture with a word of its own at each pixel, 1000 * j + i + 1 at (i, j).
+pub fn filled(t: &mut Tally, p: Plan, w: i16, h: i16) -> Picture {
     let mut picture = Picture::new(p, w as u32, h as u32);
     fill(t, &mut picture, 0..w, 0..h);
     picture
 }
 
-// Fetches, and compares the words with those stated here.
-fn fetched(t: &mut Tally, picture: &mut Picture, book: &Record, kind: Kind, n: usize, v: (i16, i16), wanted: &[u16]) {
+/// Fetches, and compares the words with those stated here.
+pub fn fetched(t: &mut Tally, picture: &mut Picture, book: &Record, kind: Kind, n: usize, v: (i16, i16), wanted: &[u16]) {
     expect(t, Call { n, v, room: wanted.len(), ..Call::new(kind, picture.lent) }, 0, book, picture);
     let Lent { plan: p, w, h, .. } = picture.lent;
     let call = if kind == Kind::Ring { library::ring_fetch } else { library::fetch };
@@ -45,8 +47,8 @@ fn fetched(t: &mut Tally, picture: &mut Picture, book: &Record, kind: Kind, n: u
     t.same(|| format!("{kind:?} {p:?} {w} {h} {n} {v:?}"), (told.number, out), (0, wanted.to_vec()));
 }
 
-// A block of pixels in rows.
-fn block(columns: Range<i64>, rows: Range<i64>) -> Pattern {
+/// A block of pixels in rows.
+pub fn block(columns: Range<i64>, rows: Range<i64>) -> Pattern {
     rows.flat_map(|j| columns.clone().map(move |i| (i, j))).collect()
 }
 
@@ -134,7 +136,7 @@ fn rings() -> Tally {
         expect(&mut t, Call { v: (4, 2), ..Call::new(kind, wide.lent) }, 10, &book, wide);
         expect(&mut t, Call { v: (4, 2), n: 1, ..Call::new(kind, wide.lent) }, 0, &book, wide);
     }
-    // one side or both are no multiples of N
+    // 5 does not divide one side or both
     for (w, h, number) in [(10, 5, 0), (5, 5, 0), (10, 6, 18), (9, 5, 18), (1, 5, 18), (4, 4, 18), (4095, 5, 0), (4096, 5, 18)] {
         let mut picture = Picture::new(plan(5, 2, 1), w, h);
         expect(&mut t, Call { n: 1, ..Call::new(Kind::Ring, picture.lent) }, number, &book, &mut picture);
@@ -164,15 +166,17 @@ fn surplus() -> Tally {
         let p = plan(a, b, d);
         assert!(suits(p, &cross()) && a * d > 5);
         let n = a * d;
-        for (w, h) in [(9, 7), if n < 13 { (2 * n, n) } else { (5, 11) }] {
+        // the least ring may be smaller than the cross; with many banks it would be long
+        for (w, h) in if n < 13 { vec![(9, 7), (2 * n, n), turns(p)] } else { vec![(9, 7), (5, 11)] } {
             let mut picture = filled(&mut t, p, w as i16, h as i16);
+            let ring = picture.lent.is_ring();
             for (i, j) in (-1..=w).flat_map(|i| (-1..=h).map(move |j| (i, j))) {
                 let v = (i as i16, j as i16);
                 let pixels = moved(&cross(), v);
                 if i >= 1 && i < w - 1 && j >= 1 && j < h - 1 {
                     fetched(&mut t, &mut picture, &book, Kind::Fetch, 0, v, &words_at(&pixels));
                 }
-                if w % n == 0 && h % n == 0 {
+                if ring {
                     fetched(&mut t, &mut picture, &book, Kind::Ring, 0, v, &words_at(&wrapped(&pixels, w, h)));
                 }
             }
@@ -188,10 +192,10 @@ fn any_content() -> Tally {
     for _ in 0..6_000 {
         let (a, d) = (random.from_to(1, 7), random.from_to(1, 4));
         let p = plan(a, random.from_to(0, a - 1), d);
-        let n = a * d;
+        let (n, turns) = (a * d, turns(p));
         let (mut w, mut h) = (random.from_to(1, 20), random.from_to(1, 20));
-        if n < 13 && random.from_to(0, 1) == 0 {
-            (w, h) = (n * random.from_to(1, 2), n * random.from_to(1, 2));
+        if random.from_to(0, 1) == 0 {
+            (w, h) = (turns.0 * random.from_to(1, 3), turns.1 * random.from_to(1, 2));
         }
         let g = Lent { plan: p, w: w as u32, h: h as u32, words: 0 };
         let mut memory: Vec<u16> = (0..g.size() as i64 + random.from_to(0, 3)).map(|_| random.next() as u16).collect();
@@ -214,7 +218,7 @@ fn any_content() -> Tally {
                 let fetched = library::fetch(&book, 1, p, g.w, g.h, &memory, 0, v, &mut out);
                 t.same(|| what("fetch"), (fetched, out.clone()), (told(0, &[count as u64]), words(&pixels)));
             }
-            if w % n == 0 && h % n == 0 {
+            if g.is_ring() {
                 let fetched = library::ring_fetch(&book, 1, p, g.w, g.h, &memory, 0, v, &mut out);
                 t.same(|| what("ring fetch"), (fetched, out), (told(0, &[count as u64]), words(&wrapped(&pixels, w, h))));
             }

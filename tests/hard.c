@@ -1,8 +1,8 @@
 // Hard use of the static library: hard guard|heap CASES. Every function is lent buffers that end or begin at a page that nobody
 // may touch, or heap blocks of just their size, and is given legal things, edges and any numbers at all. What is asked here
 // needs no second version of the library: numbers that a call can give, nothing changed that may not change, the same answer
-// to the same question. That the answers are right is asked elsewhere, but for the order of pixels (hard_order.c) and of the checks
-// about r (hard_cycles.c).
+// to the same question. That the answers are right is asked elsewhere, but for the order of pixels (hard_order.c), the order of the
+// checks about r and of a ring fetch (hard_cycles.c), and which ring fetches are served (hard_rings.c).
 #define _GNU_SOURCE
 #include <signal.h>
 #include <stdio.h>
@@ -160,7 +160,8 @@ static void guard_pages(uint64_t how_many) {
         if (given[c] != calls[c].numbers) say_wrong("some number of this call never came", given[c]);
     }
     now = calls[RUN_LIST].name;
-    if (replied != calls[FETCH].numbers) say_wrong("some number of a fetch never came in a reply", replied);
+    if (replied[0] != calls[FETCH].numbers) say_wrong("some number of a fetch never came in a reply", replied[0]);
+    if (replied[1] != calls[RING_FETCH].numbers) say_wrong("some number of a ring fetch never came in a reply", replied[1]);
 }
 
 int main(int count, char **words) {

@@ -75,7 +75,7 @@ enum { RECORD = BIT(COLUMNS) | BIT(ROWS) | BIT(USED) };
 extern const struct call calls[CALLS];
 size_t output_size(enum which c, const struct input *x);
 const struct input *under_plan(enum which c, const struct input *x); // with the plan that the call goes by
-extern unsigned replied;                                             // the numbers that fetches in lists gave
+extern unsigned replied[2];                                          // the numbers that fetches and ring fetches in lists gave
 
 // hard.c
 unsigned bit_of(uint64_t number); // of a number that some call can give; of another none that any has
@@ -86,13 +86,16 @@ void try_all(const struct input *x);
 // hard_cases.c
 void all_cases(uint64_t how_many, bool large);
 void cross(struct input *x); // the cross of five pixels, r = 1, and all else 0
-void four_calls(struct input *x, uint64_t i, uint64_t j);
+void five_calls(struct input *x, uint64_t i, uint64_t j);
 
 // hard_order.c
 void every_order(struct input *x, bool all);
 
 // hard_cycles.c
 void every_cycle(struct input *x);
+
+// hard_rings.c
+void every_ring(struct input *x, bool all);
 
 // hard_input.c
 extern uint16_t *memory_words; // what stands in every memory that is lent

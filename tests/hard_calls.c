@@ -65,13 +65,28 @@ static uint64_t clear(const struct input *x) {
 static uint64_t sum(const struct input *x) {
     return bankplan_sum(PLAN_ARGUMENTS, SIDES, MEMORY_ARGUMENTS, x->bank, lent(ANSWER));
 }
+
+// Whether the words are those that loads give at the pixels, wrapped; those of a plain fetch are inside.
+static bool are_loaded(const struct input *x, const uint16_t *words) {
+    for (size_t e = 0; e < x->used[x->n]; e++) {
+        uint64_t answer[ANSWER_LENGTH] = {0};
+        int32_t i = (x->i + x->columns[64 * x->n + e]) % (int32_t)x->w, j = (x->j + x->rows[64 * x->n + e]) % (int32_t)x->h;
+        int16_t column = (int16_t)(i < 0 ? i + (int32_t)x->w : i), row = (int16_t)(j < 0 ? j + (int32_t)x->h : j);
+        uint64_t number = bankplan_load(PLAN_ARGUMENTS, SIDES, MEMORY_ARGUMENTS, column, row, answer);
+        if (number != 0 || answer[0] != words[e]) return false;
+    }
+    return true;
+}
+// 99, which no call gives, if the words are others.
 static uint64_t fetch(const struct input *x) {
-    return bankplan_fetch(RECORD_ARGUMENTS, x->r, PLAN_ARGUMENTS, SIDES, MEMORY_ARGUMENTS, x->n, x->i, x->j, lent(OUTPUT),
-                          x->fetch_room, lent(ANSWER));
+    uint64_t number = bankplan_fetch(RECORD_ARGUMENTS, x->r, PLAN_ARGUMENTS, SIDES, MEMORY_ARGUMENTS, x->n, x->i, x->j,
+                                     lent(OUTPUT), x->fetch_room, lent(ANSWER));
+    return number == 0 && !are_loaded(x, lent(OUTPUT)) ? 99 : number;
 }
 static uint64_t ring_fetch(const struct input *x) {
-    return bankplan_ring_fetch(RECORD_ARGUMENTS, x->r, PLAN_ARGUMENTS, SIDES, MEMORY_ARGUMENTS, x->n, x->i, x->j,
-                               lent(OUTPUT), x->fetch_room, lent(ANSWER));
+    uint64_t number = bankplan_ring_fetch(RECORD_ARGUMENTS, x->r, PLAN_ARGUMENTS, SIDES, MEMORY_ARGUMENTS, x->n, x->i, x->j,
+                                          lent(OUTPUT), x->fetch_room, lent(ANSWER));
+    return number == 0 && !are_loaded(x, lent(OUTPUT)) ? 99 : number;
 }
 
 // Whether a record has the bank and address that the calls for one pixel tell.
@@ -101,9 +116,11 @@ const struct input *under_plan(enum which c, const struct input *x) {
     return &found;
 }
 
-unsigned replied;
+unsigned replied[2];
 static size_t calls_in(const struct input *x) { return x->numbers_length / BANKPLAN_CALL_NUMBERS; }
-static uint64_t room_of(const uint64_t *call) { return call[0] == BANKPLAN_KIND_FETCH ? call[4] : 0; }
+static bool is_ring(const uint64_t *call) { return call[0] == BANKPLAN_KIND_RING_FETCH; }
+static bool is_fetch(const uint64_t *call) { return call[0] == BANKPLAN_KIND_FETCH || is_ring(call); }
+static uint64_t room_of(const uint64_t *call) { return is_fetch(call) ? call[4] : 0; }
 
 // The call of five numbers by its own function, and its reply.
 static void single_call(const struct input *x, const uint64_t *call, uint16_t *mem, uint16_t *out, uint64_t *reply) {
@@ -116,9 +133,13 @@ static void single_call(const struct input *x, const uint64_t *call, uint16_t *m
         break;
     case BANKPLAN_KIND_CLEAR: number = bankplan_clear(PLAN_ARGUMENTS, SIDES, mem, x->words, call[3], answer); break;
     case BANKPLAN_KIND_LOAD: number = bankplan_load(PLAN_ARGUMENTS, SIDES, mem, x->words, i, j, answer); break;
-    default:
+    case BANKPLAN_KIND_FETCH:
         number = bankplan_fetch(x->columns, x->rows, x->used, x->count, x->r, PLAN_ARGUMENTS, SIDES, mem, x->words, call[3],
                                 i, j, out, call[4], answer);
+        break;
+    default:
+        number = bankplan_ring_fetch(x->columns, x->rows, x->used, x->count, x->r, PLAN_ARGUMENTS, SIDES, mem, x->words,
+                                     call[3], i, j, out, call[4], answer);
     }
     reply[0] = number;
     memcpy(reply + 1, answer, (BANKPLAN_REPLY_NUMBERS - 1) * sizeof *reply);
@@ -138,7 +159,7 @@ static bool as_single_calls(const struct input *x) {
         const uint64_t *call = x->numbers + k * BANKPLAN_CALL_NUMBERS;
         single_call(x, call, mem, outs + at, reply);
         if (reply[0] == 0 && room_of(call)) same &= lent_known(OUTPUT, 2 * at, 2 * (at + reply[1]));
-        if (call[0] == BANKPLAN_KIND_FETCH) replied |= bit_of(reply[0]);
+        if (is_fetch(call)) replied[is_ring(call)] |= bit_of(reply[0]);
         same &= memcmp(replies + k * BANKPLAN_REPLY_NUMBERS, reply, sizeof reply) == 0;
         at += room_of(call);
     }

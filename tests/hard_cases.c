@@ -152,12 +152,13 @@ static void both_lists(struct input *x) {
     try_call(FIND_AND_RUN, x);
 }
 
-// Store, load, fetch and clear at these pixels, with just the room that they need.
-void four_calls(struct input *x, uint64_t i, uint64_t j) {
-    const uint64_t numbers[] = {BANKPLAN_KIND_STORE, i, j, 77, 0, BANKPLAN_KIND_LOAD,  i, j, 0,    0,
-                                BANKPLAN_KIND_FETCH, 3, 2, 0,  5, BANKPLAN_KIND_CLEAR, 0, 0, 0, 0};
+// Store, load, fetch, ring fetch and clear at these pixels, with just the room that they need.
+void five_calls(struct input *x, uint64_t i, uint64_t j) {
+    const uint64_t numbers[] = {BANKPLAN_KIND_STORE, i, j, 77, 0, BANKPLAN_KIND_LOAD,       i, j, 0, 0,
+                                BANKPLAN_KIND_FETCH, 3, 2, 0,  5, BANKPLAN_KIND_RING_FETCH, i, j, 0, 5,
+                                BANKPLAN_KIND_CLEAR, 0, 0, 0,  0};
     memcpy(x->numbers, numbers, sizeof numbers);
-    x->numbers_length = 20, x->outs_room = 5, x->replies_length = 4 * BANKPLAN_REPLY_NUMBERS;
+    x->numbers_length = 25, x->outs_room = 10, x->replies_length = 5 * BANKPLAN_REPLY_NUMBERS;
 }
 
 // Lists of calls with every length, room and count of replies, and with edge values at every place.
@@ -167,20 +168,22 @@ static void every_run(struct input *x, bool all) {
     cross(x);
     x->a = 5, x->b = 2, x->d = 1, x->w = 7, x->h = 4, x->limit = 5;
     for (x->words = 38; x->words <= 42; x->words++) {
-        four_calls(x, 6, 3);
+        five_calls(x, 6, 3);
         both_lists(x);
     }
     x->words = words_needed(x);
-    for (x->numbers_length = 0; x->numbers_length <= 20; x->numbers_length++)
-        for (x->outs_room = 0; x->outs_room <= 6; x->outs_room += all ? 1 : 3)
-            for (x->replies_length = 0; x->replies_length <= 50; x->replies_length += all ? 1 : 6) both_lists(x);
-    for (int k = 0; k < 20 * 15; k++) {
-        four_calls(x, 0, 0);
+    for (x->numbers_length = 0; x->numbers_length <= 25; x->numbers_length++)
+        for (x->outs_room = 0; x->outs_room <= 11; x->outs_room += all ? 1 : 5)
+            for (x->replies_length = 0; x->replies_length <= 62; x->replies_length += all ? 1 : 6) both_lists(x);
+    x->w = 10, x->h = 5; // a ring
+    x->words = words_needed(x);
+    for (int k = 0; k < 25 * 15; k++) {
+        five_calls(x, 0, 0);
         x->numbers[k / 15] = edges[k % 15];
         both_lists(x);
     }
     for (int k = 0; k < 5; k++) {
-        four_calls(x, 0, 0);
+        five_calls(x, 0, 0);
         x->limit = limits[k];
         both_lists(x);
     }
@@ -195,7 +198,7 @@ static void large_pictures(struct input *x) {
     for (int k = 0; k < 5; k++) {
         x->a = plans[k][0], x->b = plans[k][1], x->d = plans[k][2];
         every_memory_call(x, false);
-        four_calls(x, 4095, 4095);
+        five_calls(x, 4095, 4095);
         try_call(RUN_LIST, x);
     }
 }
@@ -219,6 +222,7 @@ void all_cases(uint64_t how_many, bool large) {
     every_run(&x, large);
     every_order(&x, large);
     every_cycle(&x);
+    every_ring(&x, large);
     if (large) large_pictures(&x);
     for (uint64_t k = 0; k < how_many; k++) {
         any_input(&x);

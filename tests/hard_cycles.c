@@ -1,5 +1,5 @@
 // r at its edges and far off, the cycles with every room, and which of two faults is told where one of them is about r or the call
-// is for cycles.
+// is for cycles or a ring fetch.
 #include <string.h>
 
 #include "hard.h"
@@ -15,10 +15,10 @@ static void sound(struct input *x) {
     x->v[0] = 5, x->v[2] = 2, x->v[3] = 1;
     x->words = words_needed(x);
     x->fetch_room = x->cycles_room = 5;
-    four_calls(x, 3, 2);
+    five_calls(x, 3, 2);
 }
 
-// Every call that takes r gives this number. A list is carried out whatever r is; its fetch is asked as a single call.
+// Every call that takes r gives this number. A list is carried out whatever r is; its fetches are asked as single calls.
 static void every_r_call(struct input *x, uint64_t number) {
     const enum which takes[] = {FIND, CHECK, WRITE_CYCLES, FETCH, RING_FETCH, FIND_AND_RUN};
     for (int k = 0; k < 6; k++) try_told(takes[k], x, number, 0);
@@ -67,7 +67,8 @@ static void break_one(struct input *x, uint64_t number) {
     case 12: x->w = 0; break;
     case 13: x->words = 3; break;
     case 17: x->n = 1; break;
-    case 10: x->a = 1, x->b = 0; break;
+    case 10: x->a = 2, x->b = 0; break;
+    case 18: x->w = 9; break; // 2 and 5 do not divide it
     default: x->cycles_room = x->fetch_room = 4;
     }
 }
@@ -82,6 +83,7 @@ static void two_faults(struct input *x, enum which c, uint64_t first, uint64_t s
 
 static void every_two(struct input *x) {
     const uint64_t cycles[] = {2, 3, 4, 19, 20, 11, 17, 10, 16}, behind[] = {11, 12, 13, 17};
+    const uint64_t ring[] = {2, 3, 4, 19, 20, 11, 12, 13, 17, 10, 18, 16};
     two_faults(x, FIND, 19, 6);
     two_faults(x, FIND, 6, 20);
     two_faults(x, FIND, 20, 7);
@@ -89,15 +91,13 @@ static void every_two(struct input *x) {
     two_faults(x, FIND_AND_RUN, 20, 7);
     two_faults(x, CHECK, 19, 20);
     two_faults(x, CHECK, 20, 8);
-    for (int k = 0; k < 4; k++) {
-        two_faults(x, FETCH, 20, behind[k]);
-        two_faults(x, RING_FETCH, 20, behind[k]);
-    }
+    for (int k = 0; k < 4; k++) two_faults(x, FETCH, 20, behind[k]);
     two_faults(x, FETCH, 19, 20);
-    two_faults(x, RING_FETCH, 19, 20);
     // the neighbours, and those farther apart
     for (int k = 0; k < 9; k++)
         for (int m = k + 1; m < 9; m++) two_faults(x, WRITE_CYCLES, cycles[k], cycles[m]);
+    for (int k = 0; k < 12; k++)
+        for (int m = k + 1; m < 12; m++) two_faults(x, RING_FETCH, ring[k], ring[m]);
 }
 
 void every_cycle(struct input *x) {

@@ -56,11 +56,14 @@ static void any_plan(struct input *x) {
     x->b = (uint32_t)below(x->a + (below(8) == 0));
 }
 
-static uint32_t any_side(uint32_t banks) {
+// Often a multiple of the step, so that many sides are those of a ring.
+static uint32_t any_side(uint32_t step) {
     switch (below(8)) {
     case 0: return (uint32_t)any_number();
-    case 1: return banks <= 24 ? banks * (1 + (uint32_t)below(2)) : 1;
-    case 2: return 1;
+    case 1:
+    case 2:
+    case 3: return step <= 24 ? step * (1 + (uint32_t)below(3)) : 1;
+    case 4: return 1;
     default: return 1 + (uint32_t)below(24);
     }
 }
@@ -79,8 +82,8 @@ uint64_t words_needed(const struct input *x) { return is_picture(x) ? x->a * x->
 // Sides, and a memory of just the size, of one word more or less, or of any small size.
 static void any_picture(struct input *x) {
     uint32_t banks = x->a * x->d;
-    x->w = any_side(banks);
-    x->h = below(6) ? any_side(banks) : x->w;
+    x->w = any_side(x->a);
+    x->h = below(6) ? any_side(below(2) ? x->d : banks) : x->w;
     uint64_t needed = words_needed(x);
     if (needed > 1 << 15) needed = below(1 << 10); // large ones have cases of their own
     switch (below(8)) {
@@ -204,13 +207,13 @@ static void any_list(struct input *x) {
 static uint64_t any_call(const struct input *x, uint64_t *call) {
     uint64_t pattern = below(4) ? below(3) : any_number(), banks = x->a * x->d;
     size_t needed = pattern < 16 && x->used[pattern] <= 64 ? x->used[pattern] : 0;
-    call[0] = below(60) ? below(4) : any_number();
+    call[0] = below(60) ? below(5) : any_number();
     for (int k = 1; k < 3; k++) call[k] = below(60) ? (uint16_t)any_coordinate() : any_number();
     call[3] = any_number();
     call[4] = any_number();
     if (call[0] == BANKPLAN_KIND_STORE) call[3] = below(60) ? (uint16_t)next() : any_number();
     if (call[0] == BANKPLAN_KIND_CLEAR && below(3)) call[3] = below(banks ? banks : 1);
-    if (call[0] != BANKPLAN_KIND_FETCH) return 0;
+    if (call[0] != BANKPLAN_KIND_FETCH && call[0] != BANKPLAN_KIND_RING_FETCH) return 0;
     call[3] = pattern;
     call[4] = below(60) ? needed + (below(4) ? 0 : below(20)) - (needed && below(4) == 0) : any_number();
     return call[4];

@@ -4,11 +4,10 @@ use crate::books::{damage_record, fill_unused, put_lower};
 use crate::calls::{Call, Kind, Picture, Way, GUARD, KINDS};
 use crate::classes::{clash_under, suits_for};
 use crate::fetches::{found, inside};
-use crate::finds::random_book;
 use crate::library::{Plan, Record};
-use crate::memory::Lent;
 use crate::oracle::{self, Pattern};
-use crate::search::{bank_of, plan};
+use crate::random_pictures::{any_book, sides, suppliers};
+use crate::search::bank_of;
 use crate::{wide, Random, Tally};
 
 const CALLS: usize = 200;
@@ -16,68 +15,9 @@ const CALLS: usize = 200;
 /// What is no r.
 pub const NO_CYCLES: [u32; 8] = [0, 9, 10, 256, 257, 1 << 16, (1 << 31) + 1, u32::MAX];
 
-// With r there are more pixels, so that a plan can clash.
-fn any_book(random: &mut Random, r: u32) -> Vec<Pattern> {
-    let (patterns, pixels) = random.one_of(&[(1, 5), (3, 5), (4, 3), (2, 9), (6, 2), (16, 3), (1, 64)]);
-    let (width, height) = random.one_of(&[(3, 3), (4, 3), (5, 5), (3, 3), (12, 2), (2, 9), (8, 8), (32, 32), (7, 1), (1, 5)]);
-    // a window full of pixels would need too many banks
-    let pixels = if width == 32 { pixels.min(6) } else { pixels };
-    random_book(random, patterns, 64.min(pixels * i64::from(r)), width, height)
-}
-
-// A supplier's plan: one that suits every pattern for r with a surplus, or one that suits some patterns only.
-fn suppliers(random: &mut Random, book: &[Pattern], r: u32, least: Plan, mixed: bool) -> Option<Plan> {
-    let n = i64::from(least.a * least.d);
-    for _ in 0..60 {
-        let most = random.one_of(&[n + 3, 2 * n, 4 * n, 1024]).min(1024);
-        let banks = if mixed { random.from_to(1, 2 * n.min(512)) } else { random.from_to(n.min(most), most) };
-        let d = random.from_to(1, banks);
-        let a = banks / d;
-        let p = plan(a, random.from_to(0, a - 1), d);
-        let suiting = book.iter().filter(|t| suits_for(r, p, t)).count();
-        let wanted = if mixed { (1..book.len()).contains(&suiting) } else { suiting == book.len() && a * d > n };
-        if wanted {
-            return Some(p);
-        }
-    }
-    None
-}
-
-// One side of a picture: 1, a prime, about a multiple of the plan's number, or any.
-fn side(random: &mut Random, of: i64) -> i64 {
-    match random.from_to(0, 7) {
-        0 => 1,
-        1 | 2 => random.one_of(&[2, 3, 5, 7, 11, 13, 17, 19, 23, 29, 31]),
-        3 => (of * random.from_to(1, 4) + random.from_to(-1, 1)).clamp(1, 4096),
-        _ => random.from_to(1, 24),
-    }
-}
-
-// The sides of a picture: ring fetches are allowed, or one side is long, or they are any.
-fn sides(random: &mut Random, p: Plan) -> (u32, u32) {
-    let n = i64::from(p.a * p.d);
-    let most = if random.from_to(0, 99) == 0 { 400_000 } else { random.one_of(&[12_000, 12_000, 12_000, 40_000]) };
-    let mut tries = 0;
-    loop {
-        tries += 1;
-        let long = random.one_of(&[1024, 4000, 4095, 4096]).min(random.from_to(1000, 6000));
-        let (w, h) = match random.from_to(0, 9) {
-            0..=3 if tries < 4 => (n * random.from_to(1, 3), n * random.from_to(1, 3)),
-            4 if tries < 4 => (4096 / n * n, n),
-            5 if tries < 4 => (n, 4096 / n * n),
-            6 if tries < 2 => (long, random.from_to(1, 3)),
-            7 if tries < 2 => (random.from_to(1, 3), long),
-            _ => (side(random, p.a.into()), side(random, p.d.into())),
-        };
-        let g = Lent { plan: p, w: w as u32, h: h as u32, words: 0 };
-        if w <= 4096 && h <= 4096 && g.size() <= most {
-            return (g.w, g.h);
-        }
-    }
-}
-
 // A list's book, its r and its picture, the pixels at which it stored, one about which it stores most, whether ring fetches are
-// allowed, and what is counted of it: whose plan it has, and whether a side is no multiple of a or d.
+// allowed, and what is counted of it: whose plan it has, whether a side is no multiple of a or d, and whether ring fetches are
+// allowed though a side is no multiple of N.
 pub struct List {
     book: Vec<Pattern>,
     pub record: Record,
@@ -86,7 +26,7 @@ pub struct List {
     pub stored: Vec<(i16, i16)>,
     home: (i64, i64),
     rings: bool,
-    counted: [bool; 4],
+    counted: [bool; 5],
 }
 
 // A list whose r is one of these.
@@ -104,11 +44,13 @@ pub fn new_list(t: &mut Tally, random: &mut Random, cycles: &[u32]) -> List {
     let (w, h) = sides(random, p);
     let mut along = |side: u32| if random.from_to(0, 1) == 0 { 0 } else { random.from_to(0, i64::from(side) - 1) };
     let home = (along(w), along(h));
-    let rings = w % (p.a * p.d) == 0 && h % (p.a * p.d) == 0;
+    let (n, picture) = (p.a * p.d, Picture::new(p, w, h));
+    let rings = picture.lent.is_ring();
     let finders = (p.a, p.b, p.d) == (least.a, least.b, least.d);
     let suiting = book.iter().all(|t| suits_for(r, p, t));
-    let counted = [finders, !finders && suiting, !suiting, w % p.a != 0 || h % p.d != 0];
-    List { book, record, r, picture: Picture::new(p, w, h), stored: Vec::new(), home, rings, counted }
+    let odd = w % p.a != 0 || h % p.d != 0;
+    let counted = [finders, !finders && suiting, !suiting, odd, rings && (w % n != 0 || h % n != 0)];
+    List { book, record, r, picture, stored: Vec::new(), home, rings, counted }
 }
 
 fn narrow(v: (i64, i64)) -> (i16, i16) {
@@ -266,9 +208,10 @@ fn reached(t: &mut Tally, numbers: &[[u64; 21]; 6], lists: usize) {
     t.same(|| format!("{share} of 100 calls were refused"), (25..=42).contains(&share), true);
 }
 
-// The finder's plans, suppliers' that suit, suppliers' that suit some patterns only, and odd sides: each in many lists.
-fn drawn(t: &mut Tally, counts: [usize; 4], lists: usize) {
-    let least = [2, 5, 20, 4].map(|part| lists / part);
+// The finder's plans, suppliers' that suit, suppliers' that suit some patterns only, odd sides, and rings with a side that is no
+// multiple of N: each in many lists.
+fn drawn(t: &mut Tally, counts: [usize; 5], lists: usize) {
+    let least = [2, 5, 20, 4, 10].map(|part| lists / part);
     t.same(|| format!("plans and sides drawn: {counts:?}"), counts.iter().zip(least).all(|(n, m)| *n >= m), true);
 }
 
@@ -278,7 +221,7 @@ pub fn lists(subject: &'static str, seed: u64, lists: usize, way: Way, cycles: &
     let mut random = Random::new(seed);
     let mut numbers = [[0; 21]; 6];
     let (mut reads, mut met) = (0, 0);
-    let mut counts = [0; 4];
+    let mut counts = [0; 5];
     for number in 1..=lists {
         let mut list = new_list(&mut t, &mut random, cycles);
         list.picture.list = number;

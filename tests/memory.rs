@@ -6,6 +6,7 @@ use crate::library::{Plan, Record, Told};
 use crate::oracle::{is_plan, patterns_of, Pattern};
 use crate::search::bank_of;
 use crate::{told, wide};
+use std::cell::OnceCell;
 use std::collections::HashMap;
 
 /// What every call on a picture is given: a plan, two sides and a number of words.
@@ -31,6 +32,21 @@ fn rounded_up(n: u32, by: u32) -> i64 {
     i64::from(n.div_ceil(by))
 }
 
+/// Whether a step keeps the bank of every pixel. The banks come again after N columns and after N rows, so that one such period is
+/// looked at. Of one with more than 40 by 40 pixels these many are enough: a step keeps the banks of all pixels or of none, as
+/// rings.rs sees in whole periods.
+pub fn keeps_banks(p: Plan, step: (i64, i64)) -> bool {
+    let side = i64::from((p.a * p.d).min(40));
+    let kept = |i, j| bank_of(p, (i + step.0, j + step.1)) == bank_of(p, (i, j));
+    (0..side).all(|j| (0..side).all(|i| kept(i, j)))
+}
+
+/// The least step to the right, and the least one down, that keeps every bank.
+pub fn turns(p: Plan) -> (i64, i64) {
+    let least = |step: fn(i64) -> (i64, i64)| (1..).find(|&k| keeps_banks(p, step(k))).unwrap();
+    (least(|w| (w, 0)), least(|h| (0, h)))
+}
+
 impl Lent {
     pub fn banks(&self) -> i64 {
         i64::from(self.plan.a) * i64::from(self.plan.d)
@@ -54,6 +70,11 @@ impl Lent {
 
     pub fn has(&self, v: (i64, i64)) -> bool {
         (0..self.w.into()).contains(&v.0) && (0..self.h.into()).contains(&v.1)
+    }
+
+    /// Whether a ring fetch is allowed: once around the picture, to the right or down, no pixel is in another bank.
+    pub fn is_ring(&self) -> bool {
+        keeps_banks(self.plan, (self.w.into(), 0)) && keeps_banks(self.plan, (0, self.h.into()))
     }
 
     // 11, 12, 13
@@ -82,11 +103,13 @@ pub fn wrapped(t: &Pattern, w: i64, h: i64) -> Pattern {
 pub struct Stored {
     of: Lent,
     words: HashMap<(i64, i64), u16>,
+    // whether its ring fetches are allowed, once it was looked at
+    ring: OnceCell<bool>,
 }
 
 impl Stored {
     pub fn new(of: Lent) -> Stored {
-        Stored { of, words: HashMap::new() }
+        Stored { of, words: HashMap::new(), ring: OnceCell::new() }
     }
 
     fn word(&self, v: (i64, i64)) -> u16 {
@@ -149,12 +172,11 @@ impl Stored {
             return Err(clash_told(n, &positions));
         }
         let mut pixels = moved(t, o);
-        let (w, h, banks) = (i64::from(g.w), i64::from(g.h), g.banks());
         if ring {
-            if w % banks != 0 || h % banks != 0 {
+            if !self.ring.get_or_init(|| self.of.is_ring()) {
                 return refuse(18);
             }
-            pixels = wrapped(&pixels, w, h);
+            pixels = wrapped(&pixels, g.w.into(), g.h.into());
         }
         if !pixels.iter().all(|&v| g.has(v)) {
             return refuse(14);

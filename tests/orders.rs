@@ -15,7 +15,7 @@ use crate::{program, told, Random, Tally};
 
 // A fetch that nothing refuses: the plan suits every pattern, and the sides are those of a ring.
 fn fetch(kind: Kind) -> Call {
-    let lent = Lent { plan: plan(32, 0, 32), w: 1024, h: 1024, words: 1024 * 1024 };
+    let lent = Lent { plan: plan(32, 0, 32), w: 64, h: 32, words: 64 * 32 };
     Call { v: (16, 16), ..Call::new(kind, lent) }
 }
 
@@ -34,7 +34,7 @@ fn break_fetch(c: &mut Call, which: usize) {
             3 => c.lent.words = 1,
             4 => c.n = 16,
             5 => c.lent.plan = plan(1, 0, 1),
-            6 if c.kind == Kind::Ring => c.lent.h = 1023,
+            6 if c.kind == Kind::Ring => c.lent.h = 31,
             6 => c.v = (-100, 0),
             _ => c.room = 0,
         }
@@ -56,8 +56,8 @@ fn record_refused(t: &mut Tally, r: &Record, number: u64) {
             t.same(|| what("find"), library::find(r, cycles, limit), refused.clone());
         }
         let (mut mem, mut outs, mut replies) = ([5; 64], [6; 8], [7; 12]);
-        // a list that is one, and numbers that are none
-        for numbers in [[3, 0, 0, 0, 8], [4, 0, 0, 0, 8]] {
+        // lists that are one, and numbers that are none
+        for numbers in [[3, 0, 0, 0, 8], [4, 0, 0, 0, 8], [5, 0, 0, 0, 8]] {
             let got = library::find_and_run(r, 1, limit, 8, 8, &mut mem, &numbers, &mut outs, &mut replies);
             t.same(|| what("find_and_run"), got, refused.clone());
         }
@@ -80,12 +80,13 @@ fn record_refused(t: &mut Tally, r: &Record, number: u64) {
 fn fetches_refused(t: &mut Tally, r: &Record, number: u64) {
     let what = |call: &str| format!("{call} of {:?} {:?} {:?}", &r.columns[..4], &r.rows[..4], r.used);
     let refused = told(number, &[0]);
-    let ways: [(Kind, Way); 5] = [
+    let ways: [(Kind, Way); 6] = [
         (Kind::Fetch, by_library),
         (Kind::Ring, by_library),
         (Kind::Fetch, by_wrapper),
         (Kind::Ring, by_wrapper),
         (Kind::Fetch, by_list),
+        (Kind::Ring, by_list),
     ];
     for (kind, way) in ways {
         for which in 0..10 {

@@ -2,10 +2,11 @@
 //! fetches.rs, the random lists are in lists.rs.
 
 use crate::books::fill_unused;
-use crate::calls::{by_library, Call, Kind, Picture, KINDS};
+use crate::calls::{by_library, Call, Kind, Picture, Way, KINDS};
 use crate::library::{self, Plan, Record};
 use crate::memory::Lent;
 use crate::oracle::{self, Pattern};
+use crate::runs::by_list;
 use crate::search::plan;
 use crate::{fetches, lists, told, Random, Tally};
 
@@ -72,11 +73,22 @@ fn figures() -> Tally {
     t
 }
 
+// How a set of broken conditions is made: the sides that are those of a ring, those that are none, and the plans of which the
+// second does not suit the cross for two cycles. In each way another part of the condition for a ring fails, and no other: a
+// does not divide W, d does not divide H, a does not divide b * (H/d).
+const RINGS: [((u32, u32), (u32, u32), [(i64, i64, i64); 2]); 3] = [
+    ((10, 10), (7, 10), [(5, 2, 1), (2, 0, 1)]),
+    ((6, 6), (6, 5), [(3, 0, 3), (1, 0, 2)]),
+    ((10, 10), (10, 7), [(5, 2, 1), (2, 1, 1)]),
+];
+
 // A call on the cross with these conditions broken, and the first of them in the order of the checks.
-fn broken_call(t: &mut Tally, kind: Kind, r: u32, broken: &[u64]) {
-    // the column of the cross is in one bank of two, which is too many for two cycles
-    let p = if broken.contains(&10) { plan(2, 0, 1) } else { plan(5, 2, 1) };
-    let mut picture = Picture::new(p, if broken.contains(&18) { 7 } else { 10 }, 10);
+fn broken_call(t: &mut Tally, kind: Kind, way: Way, r: u32, ring: usize, broken: &[u64]) {
+    let (sides, others, plans) = RINGS[ring];
+    let (a, b, d) = plans[usize::from(broken.contains(&10))];
+    let (w, h) = if broken.contains(&18) { others } else { sides };
+    let mut picture = Picture::new(plan(a, b, d), w, h);
+    picture.way = way;
     let mut book = record(&[cross(), cross()]);
     let mut c = Call { r, v: (1, 1), k: 1, n: 1, room: 5, ..Call::new(kind, picture.lent) };
     for number in broken {
@@ -87,7 +99,7 @@ fn broken_call(t: &mut Tally, kind: Kind, r: u32, broken: &[u64]) {
             4 => (book.columns[3], book.rows[3]) = (book.columns[1], book.rows[1]),
             19 => (book.columns[4], book.rows[4]) = (15, -1),
             20 => c.r = if r == 1 { 0 } else { 9 },
-            11 => c.lent.plan.b = p.a,
+            11 => c.lent.plan.b = a as u32,
             12 => c.lent.h = 4097,
             13 => c.lent.words = 1,
             14 => c.v = if kind == Kind::Fetch { (0, 1) } else { (-1, 1) },
@@ -98,18 +110,27 @@ fn broken_call(t: &mut Tally, kind: Kind, r: u32, broken: &[u64]) {
         }
     }
     expect(t, c, broken.first().copied().unwrap_or(0), &book, &mut picture);
+    // a ring fetch is not refused for where it lies
+    if kind == Kind::Ring {
+        expect(t, Call { v: (-1, 4096), ..c }, broken.first().copied().unwrap_or(0), &book, &mut picture);
+    }
 }
 
-// Each set of a call's conditions is broken: the first of them in the order of the checks refuses it.
+// Each set of a call's conditions is broken: the first of them in the order of the checks refuses it. Each call is made by itself
+// and as a list of one.
 fn order() -> Tally {
     let mut t = Tally::new("every set of broken conditions of each call on a picture");
     for kind in KINDS {
         let refusals = kind.refusals();
         for set in 0..1 << refusals.len() {
             let broken: Vec<u64> = (0..refusals.len()).filter(|k| set >> k & 1 == 1).map(|k| refusals[k]).collect();
-            broken_call(&mut t, kind, 1, &broken);
-            if kind.fetches() {
-                broken_call(&mut t, kind, 2, &broken);
+            for way in [by_library, by_list] {
+                for ring in 0..if kind == Kind::Ring { 3 } else { 1 } {
+                    broken_call(&mut t, kind, way, 1, ring, &broken);
+                    if kind.fetches() {
+                        broken_call(&mut t, kind, way, 2, ring, &broken);
+                    }
+                }
             }
         }
     }

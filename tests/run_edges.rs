@@ -1,4 +1,5 @@
-//! Lists of calls in numbers at their edges. The answers and replies are stated here, and compared with the brute force too.
+//! Lists of calls in numbers at their edges. The answers and replies are stated here, and compared with the brute force too. More
+//! of ring fetches is in ring_edges.rs.
 
 use crate::library::Record;
 use crate::memory::Lent;
@@ -7,33 +8,39 @@ use crate::runs::Case;
 use crate::search::plan;
 use crate::{told, Tally};
 
-const MOST: u64 = u64::MAX;
+pub const MOST: u64 = u64::MAX;
 
-// The cross, its plan 5, 2, 1, a picture of 7 by 4 and a memory of just its size.
-struct Edges {
-    book: Record,
-    lent: Lent,
+/// The cross, its plan 5, 2, 1, a picture and a memory of just its size.
+pub struct Edges {
+    pub book: Record,
+    pub lent: Lent,
 }
 
 impl Edges {
-    // A list with its number and place, as run_list and find_and_run must tell them; it gives the first number of each reply.
-    fn list(&self, t: &mut Tally, numbers: &[u64], outs: usize, replies: usize, number: u64, place: u64) -> Vec<u64> {
+    pub fn new(w: u32, h: u32) -> Edges {
+        let mut lent = Lent { plan: plan(5, 2, 1), w, h, words: 0 };
+        lent.words = lent.size();
+        Edges { book: record(&[cross()]), lent }
+    }
+
+    /// A list with its number and place, as run_list and find_and_run must tell them; it gives the first number of each reply.
+    pub fn list(&self, t: &mut Tally, numbers: &[u64], outs: usize, replies: usize, number: u64, place: u64) -> Vec<u64> {
         let case = Case { record: &self.book, r: 1, lent: self.lent, numbers, outs, replies };
         let (got, left) = case.ask(t);
         let wanted = told(number, if number == 0 { &[] } else { std::slice::from_ref(&place) });
         t.same(|| format!("{case:?}"), got, wanted.clone());
         for limit in [5, 1024] {
             let wanted = if number == 0 { told(0, &[5, 2, 1]) } else { wanted.clone() };
-            let got = case.ask_finder(t, limit);
+            let got = case.ask_finder(t, limit).0;
             t.same(|| format!("limit {limit}: {case:?}"), got, wanted);
         }
         left.replies[..replies].iter().copied().step_by(12).collect()
     }
 
-    // A list that is made with just the room that it needs; not with a word or a number less.
-    fn made(&self, t: &mut Tally, calls: &[[u64; 5]], replies: &[u64]) {
+    /// A list that is made with just the room that it needs; not with a word or a number less.
+    pub fn made(&self, t: &mut Tally, calls: &[[u64; 5]], replies: &[u64]) {
         let numbers = calls.concat();
-        let outs = calls.iter().map(|c| if c[0] == 3 { c[4] as usize } else { 0 }).sum();
+        let outs = calls.iter().map(|c| if c[0] >= 3 { c[4] as usize } else { 0 }).sum();
         let room = 12 * calls.len();
         let got = self.list(t, &numbers, outs, room, 0, 0);
         t.same(|| format!("the replies of {calls:?}"), got, replies.to_vec());
@@ -46,7 +53,7 @@ impl Edges {
         }
     }
 
-    fn not_made(&self, t: &mut Tally, calls: &[[u64; 5]], outs: usize, number: u64, place: u64) {
+    pub fn not_made(&self, t: &mut Tally, calls: &[[u64; 5]], outs: usize, number: u64, place: u64) {
         self.list(t, &calls.concat(), outs, 12 * calls.len(), number, place);
     }
 }
@@ -55,7 +62,7 @@ impl Edges {
 fn numbers(t: &mut Tally, e: &Edges) {
     e.made(t, &[], &[]);
     // kinds: after three loads, and before another fault
-    for kind in [4, 5, 255, 256, 65536, 1 << 32, (1 << 32) + 1, 1 << 63, MOST] {
+    for kind in [5, 6, 255, 256, 260, 65536, 1 << 32, (1 << 32) + 4, 1 << 63, MOST - 3, MOST] {
         e.not_made(t, &[[kind, 0, 0, 0, 0]], 5, 255, 0);
         e.not_made(t, &[[2, 0, 0, 0, 0], [2, 1, 0, 0, 0], [2, 2, 0, 0, 0], [kind, 0, 0, 0, 0], [9, 0, 0, 0, 0]], 0, 255, 15);
     }
@@ -67,13 +74,13 @@ fn numbers(t: &mut Tally, e: &Edges) {
         e.made(t, &[[1, column, x, 4, 0]], &[0]);
     }
     for x in [65536, 65537, 131_071, 1 << 32, 1 << 63, MOST] {
-        for kind in 0..4 {
+        for kind in 0..5 {
             e.not_made(t, &[[2, 0, 0, 0, 0], [kind, x, 0, 0, 0]], 0, 255, 5);
             e.not_made(t, &[[2, 0, 0, 0, 0], [kind, 0, x, 0, 0]], 0, 255, 5);
         }
         // a store's word; that of another call is a bank, a pattern, or not looked at
         e.not_made(t, &[[0, 0, 0, x, 0]], 0, 255, 0);
-        e.made(t, &[[1, 0, 0, x, 0], [2, 0, 0, x, x], [3, 3, 2, x, 5], [0, 0, 0, 1, x]], &[15, 0, 17, 0]);
+        e.made(t, &[[1, 0, 0, x, 0], [2, 0, 0, x, x], [3, 3, 2, x, 5], [4, 3, 2, x, 5], [0, 0, 0, 1, x]], &[15, 0, 17, 17, 0]);
     }
     e.made(t, &[[0, 6, 3, 65535, 0], [2, 6, 3, 0, 0], [0, 6, 3, 0, 0], [2, 6, 3, 0, 0]], &[0; 4]);
     // banks and patterns
@@ -85,9 +92,9 @@ fn numbers(t: &mut Tally, e: &Edges) {
         e.made(t, &[[3, 3, 2, x, 5], [3, 3, 2, 0, 5]], &[17, 0]);
     }
     e.made(t, &[[3, 3, 2, 1, 5], [3, 3, 2, 0, 5]], &[17, 0]);
-    // positions of a fetch
+    // positions of a fetch; 5 does not divide 7, whatever the position of a ring fetch is
     for (i, j) in [(0, 1), (6, 1), (1, 0), (1, 3), (65535, 1), (1, 65535), (32767, 32767), (32768, 32768)] {
-        e.made(t, &[[3, i, j, 0, 5], [3, 1, 1, 0, 5]], &[14, 0]);
+        e.made(t, &[[3, i, j, 0, 5], [3, 1, 1, 0, 5], [4, i, j, 0, 5], [4, 1, 1, 0, 5]], &[14, 0, 18, 18]);
     }
     // what is left of a call at the end, of a list that is one without it and of one that is not
     for left in 1..5 {
@@ -95,7 +102,7 @@ fn numbers(t: &mut Tally, e: &Edges) {
             let whole = vec![2, 0, 0, 0, 0].repeat(calls);
             e.list(t, &[&whole[..], &[3; 4][..left]].concat(), 9, 96, 255, 5 * calls as u64);
         }
-        e.list(t, &[&[2, 0, 0, 0, 0, 4, 0, 0, 0, 0], &[0; 4][..left]].concat(), 9, 96, 255, 5);
+        e.list(t, &[&[2, 0, 0, 0, 0, 5, 0, 0, 0, 0], &[0; 4][..left]].concat(), 9, 96, 255, 5);
     }
 }
 
@@ -116,15 +123,15 @@ fn rooms(t: &mut Tally, e: &Edges) {
     e.not_made(t, &[[3, 3, 2, 0, 5], [3, 3, 2, 0, MOST - 4]], 5, 16, 0);
     e.not_made(t, &[[3, 3, 2, 0, 1 << 63], [3, 3, 2, 0, 1 << 63]], 5, 16, 0);
     // the earlier fault tells: 255 in the first call and 16 in the second, and the other way round
-    e.not_made(t, &[[4, 0, 0, 0, 0], [3, 0, 0, 0, 9]], 5, 255, 0);
-    e.not_made(t, &[[3, 0, 0, 0, 9], [4, 0, 0, 0, 0]], 5, 16, 0);
+    e.not_made(t, &[[5, 0, 0, 0, 0], [3, 0, 0, 0, 9]], 5, 255, 0);
+    e.not_made(t, &[[3, 0, 0, 0, 9], [5, 0, 0, 0, 0]], 5, 16, 0);
     // in one call the numbers before the room
     e.not_made(t, &[[3, 65536, 0, 0, 9]], 5, 255, 0);
     e.not_made(t, &[[3, 0, 65536, 0, MOST]], 5, 255, 0);
     // a room before what is left at the end, that before the replies' length
     e.list(t, &[3, 0, 0, 0, 9, 3], 5, 12, 16, 0);
     e.list(t, &[3, 0, 0, 0, 5, 3], 5, 0, 255, 5);
-    e.list(t, &[3, 0, 0, 0, 5, 4, 0, 0, 0, 0], 5, 0, 255, 5);
+    e.list(t, &[3, 0, 0, 0, 5, 5, 0, 0, 0, 0], 5, 0, 255, 5);
     e.list(t, &[3, 0, 0, 0, 5], 4, 0, 16, 0);
     e.list(t, &[3], 0, 0, 255, 0);
     e.list(t, &[], 0, 0, 0, 0);
@@ -132,30 +139,30 @@ fn rooms(t: &mut Tally, e: &Edges) {
 
 // A plan that is none, wrong sides, a memory that is too short: every call replies so, a fetch of a wrong book by 2, 3, 4, 19.
 fn shared(t: &mut Tally, e: &Edges) {
-    let calls = [[0, 3, 2, 7, 0], [1, 0, 0, 0, 0], [2, 3, 2, 0, 0], [3, 3, 2, 0, 5], [3, 3, 2, 9, 0], [1, 0, 0, MOST, 0]];
-    let numbers = calls.concat();
-    let ask = |t: &mut Tally, book: &Record, lent: Lent, wanted: [u64; 6]| {
-        let case = Case { record: book, r: 1, lent, numbers: &numbers, outs: 5, replies: 72 };
+    let stores = [[0, 3, 2, 7, 0], [1, 0, 0, 0, 0], [2, 3, 2, 0, 0], [1, 0, 0, MOST, 0]];
+    let numbers = [&stores[..], &[[3, 3, 2, 0, 5], [3, 3, 2, 9, 0], [4, 3, 2, 0, 0], [4, 3, 2, 9, 0]]].concat().concat();
+    let ask = |t: &mut Tally, book: &Record, lent: Lent, wanted: [u64; 8]| {
+        let case = Case { record: book, r: 1, lent, numbers: &numbers, outs: 5, replies: 96 };
         let (got, left) = case.ask(t);
         t.same(|| format!("{case:?}"), got, told(0, &[]));
-        let first: Vec<u64> = left.replies[..72].iter().copied().step_by(12).collect();
+        let first: Vec<u64> = left.replies[..96].iter().copied().step_by(12).collect();
         t.same(|| format!("the replies of {case:?}"), first, wanted.to_vec());
     };
-    ask(t, &e.book, e.lent, [0, 0, 0, 0, 17, 15]);
+    ask(t, &e.book, e.lent, [0, 0, 0, 15, 0, 17, 18, 17]);
     for (a, b, d) in [(0, 0, 1), (5, 2, 0), (5, 5, 1), (5, 2, 205), (1025, 0, 1), (1 << 31, 0, 2), (4_294_967_295, 0, 1)] {
         // the memory is as long as that of the right plan
-        ask(t, &e.book, Lent { plan: plan(a, b, d), ..e.lent }, [11; 6]);
-        ask(t, &e.book, Lent { plan: plan(a, b, d), w: 0, words: 0, ..e.lent }, [11; 6]);
+        ask(t, &e.book, Lent { plan: plan(a, b, d), ..e.lent }, [11; 8]);
+        ask(t, &e.book, Lent { plan: plan(a, b, d), w: 0, words: 0, ..e.lent }, [11; 8]);
     }
     for (w, h) in [(0, 4), (4097, 4), (7, 0), (7, 4097), (u32::MAX, 4), (7, u32::MAX)] {
-        ask(t, &e.book, Lent { w, h, ..e.lent }, [12; 6]);
-        ask(t, &e.book, Lent { w, h, words: 0, ..e.lent }, [12; 6]);
+        ask(t, &e.book, Lent { w, h, ..e.lent }, [12; 8]);
+        ask(t, &e.book, Lent { w, h, words: 0, ..e.lent }, [12; 8]);
     }
     for words in [0, 1, 39] {
-        ask(t, &e.book, Lent { words, ..e.lent }, [13; 6]);
+        ask(t, &e.book, Lent { words, ..e.lent }, [13; 8]);
     }
-    ask(t, &e.book, Lent { words: 41, ..e.lent }, [0, 0, 0, 0, 17, 15]);
-    ask(t, &e.book, Lent { plan: plan(2, 0, 1), words: 64, ..e.lent }, [0, 0, 0, 10, 17, 15]);
+    ask(t, &e.book, Lent { words: 41, ..e.lent }, [0, 0, 0, 15, 0, 17, 18, 17]);
+    ask(t, &e.book, Lent { plan: plan(2, 0, 1), words: 64, ..e.lent }, [0, 0, 0, 15, 10, 17, 10, 17]);
     let damages: [(fn(&mut Record), u64); 7] = [
         (|r| r.count = 0, 2),
         (|r| r.used[0] = 65, 2),
@@ -168,13 +175,13 @@ fn shared(t: &mut Tally, e: &Edges) {
     for (damage, number) in damages {
         let mut book = e.book.clone();
         damage(&mut book);
-        ask(t, &book, e.lent, [0, 0, 0, number, number, 15]);
-        ask(t, &book, Lent { w: 0, ..e.lent }, [12, 12, 12, number, number, 12]);
+        ask(t, &book, e.lent, [0, 0, 0, 15, number, number, number, number]);
+        ask(t, &book, Lent { w: 0, ..e.lent }, [12, 12, 12, 12, number, number, number, number]);
         // the finder refuses it whatever the limit, the sides, the list and its room
         let bad: Vec<u64> = vec![9, MOST];
         for (limit, numbers, outs) in [(1024, &numbers, 5), (0, &numbers, 5), (1025, &numbers, 4), (5, &bad, 0)] {
-            let case = Case { record: &book, r: 1, lent: e.lent, numbers, outs, replies: 72 };
-            let got = case.ask_finder(t, limit);
+            let case = Case { record: &book, r: 1, lent: e.lent, numbers, outs, replies: 96 };
+            let got = case.ask_finder(t, limit).0;
             t.same(|| format!("limit {limit}: {case:?}"), got, told(number, &[0]));
         }
     }
@@ -182,16 +189,16 @@ fn shared(t: &mut Tally, e: &Edges) {
     let bad: Vec<u64> = vec![9, MOST];
     for (limit, number) in [(0, 6), (1025, 6), (u32::MAX, 6), (1, 7), (4, 7)] {
         for (numbers, outs) in [(&numbers, 5), (&numbers, 4), (&bad, 5)] {
-            let case = Case { record: &e.book, r: 1, lent: e.lent, numbers, outs, replies: 72 };
-            let got = case.ask_finder(t, limit);
+            let case = Case { record: &e.book, r: 1, lent: e.lent, numbers, outs, replies: 96 };
+            let got = case.ask_finder(t, limit).0;
             t.same(|| format!("limit {limit}: {case:?}"), got, told(number, &[0]));
         }
     }
     for limit in [5, 6, 1023, 1024] {
         for (w, h, words) in [(7, 4, 40), (0, 4, 40), (7, 4, 39), (7, 4, 0)] {
             let lent = Lent { w, h, words, ..e.lent };
-            let case = Case { record: &e.book, r: 1, lent, numbers: &numbers, outs: 5, replies: 72 };
-            let got = case.ask_finder(t, limit);
+            let case = Case { record: &e.book, r: 1, lent, numbers: &numbers, outs: 5, replies: 96 };
+            let got = case.ask_finder(t, limit).0;
             t.same(|| format!("limit {limit}: {case:?}"), got, told(0, &[5, 2, 1]));
         }
     }
@@ -215,7 +222,8 @@ fn written_out(t: &mut Tally, e: &Edges) {
 
 pub fn run() -> Tally {
     let mut t = Tally::new("lists of calls at their edges");
-    let e = Edges { book: record(&[cross()]), lent: Lent { plan: plan(5, 2, 1), w: 7, h: 4, words: 40 } };
+    let e = Edges::new(7, 4);
+    t.same(|| "the memory's words".into(), e.lent.words, 40);
     numbers(&mut t, &e);
     rooms(&mut t, &e);
     shared(&mut t, &e);

@@ -285,6 +285,8 @@ fn texts(t: &mut Tally) {
     says(row.find(0, 1024).map(|_| ()), "refused 20: r outside 1 to 8");
     says(picture.store(&mut [], (0, 0), 1), "refused 13: memory shorter than N × depth");
     says(picture.fetch(&pair, 1, &[0; 32], 0, (0, 0), &mut []).map(|_| ()), "refused 16: output too short");
+    let no_ring = "refused 18: (W, 0) or (0, H) not in the lattice";
+    says(picture.ring_fetch(&pair, 1, &[0; 32], 0, (0, 0), &mut [0; 2]).map(|_| ()), no_ring);
     says(Err(Refused { number: bankplan::NOT_CALLS, place: 5, clash: None }), "refused 255: not a list of calls, place 5");
     let version: Vec<_> = bankplan::VERSION.split('.').map(|n| n.parse::<u32>().is_ok()).collect();
     t.same(|| "the version is three numbers".into(), version, vec![true; 3]);

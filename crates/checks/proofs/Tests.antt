@@ -1,6 +1,6 @@
 -- What each test of a call means: it finds nothing exactly where its condition does not hold.
 -- Assumes nothing.
-use Prim.Native.Nat.{ℕ, _*_, _%_, _≤_, _<_}
+use Prim.Native.Nat.{ℕ, _*_, _/_, _%_, _≤_, _<_}
 use mathlib.Core.Path.{_≡_, ap}
 use mathlib.Core.Logic.{_↔_, Iff·trans, Iff·not}
 use mathlib.Core.Bool.{true, not, _&&_, _||_}
@@ -98,7 +98,7 @@ pub number-in-book-iff : (count n : ℕ) → (numberTest count n ≡ none) ↔ (
 unfolding numberTest
 number-in-book-iff count n = refuses-iff (leb count n) NoPattern (leb-false-iff count n)
 
--- 18: both sides are multiples of N
+-- 18: a divides W, d divides H, and a divides b × (H/d)
 multiple-iff : (n g : ℕ) → (eqb (n % g) 0 ≡ true) ↔ Multiple g n
 multiple-iff n g = Iff·trans (eqb-iff (n % g) 0) (no-remainder-iff n g)
 
@@ -107,7 +107,8 @@ unfolding ringTest isRing
 ring-allowed-iff p W H =
     Iff·trans
     (demands-iff (isRing p W H) Ring
-    (and-iff _ _ (multiple-iff W (banks p)) (multiple-iff H (banks p)))) (
-      λ h. record { W-multiple = h .0; H-multiple = h .1 },
-      λ h. (h .W-multiple, h .H-multiple),
+    (and-iff _ _ (and-iff _ _ (multiple-iff W (p .a)) (multiple-iff H (p .d)))
+    (multiple-iff (p .b * (H / p .d)) (p .a)))) (
+      λ h. record { W-multiple = h .0 .0; H-multiple = h .0 .1; shift-multiple = h .1 },
+      λ h. ((h .W-multiple, h .H-multiple), h .shift-multiple),
     )

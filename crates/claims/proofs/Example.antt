@@ -1,5 +1,5 @@
 -- Demand 3's premises can be met, and its claim says something: what it gives in three small pictures at r = 1, in one at r = 2, and in
--- one where the list is in numbers and begins with the finder. Both are about the definitions; what binds the code is its contract.
+-- two where the list is in numbers and begins with the finder. Both are about the definitions; what binds the code is its contract.
 -- Assumes nothing.
 use mathlib.Core.Path.{_≡_}
 use Rattle.scope.specs.values.DemandExample.{ReadOff, read-off}

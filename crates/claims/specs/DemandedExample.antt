@@ -1,10 +1,11 @@
--- What `Demanded` says, read off in one small picture: its premises are met there, and each part of its claim gives a plain
+-- What `Demanded` says, read off in two small pictures: its premises are met there, and each part of its claim gives a plain
 -- fact. It speaks of every answer and all buffers that are those of `findAndRun`, and names no code: that the code's are, the
--- contract of `find_and_run` says. The book has one pattern, (0, 0) and (1, 0); the finder's plan for it is 2, 0, 1. The picture
--- is of 3 by 1: its pixels have the words 0, 2 and 1 of the memory, and word 3 is no pixel's.
+-- contract of `find_and_run` says. The book has one pattern, (0, 0) and (1, 0); the finder's plan for it is 2, 0, 1. The first
+-- picture is of 3 by 1: its pixels have the words 0, 2 and 1 of the memory, and word 3 is no pixel's.
 -- Assumes nothing.
 use Prim.Native.Nat.{ℕ, zero, suc, _<_}
 use mathlib.Core.Path.{_≡_, refl, _∙_, ap}
+use mathlib.Core.Bool.{false}
 use mathlib.Core.List.{List, [], _∷_, _++_, flatMap}
 use native.Mathlib.Omega.{arith}
 use lib.IntN.{pos}
@@ -43,7 +44,7 @@ six = stores ++ (3 ∷ 1 ∷ 0 ∷ 0 ∷ 3 ∷ []) ++ later
 
 unfoldable pub both : Call
 unfolding at
-both = read (fetch 0 (at (pos 1) (pos 0)) (5 ∷ 5 ∷ 5 ∷ []))
+both = read (fetch false 0 (at (pos 1) (pos 0)) (5 ∷ 5 ∷ 5 ∷ []))
 
 -- the four words of the picture and one more, the fetch's room and one word more, and the replies and one number more
 abbrev pub start : Buffers
@@ -52,6 +53,17 @@ start = buffers (0 ∷ 0 ∷ 0 ∷ 0 ∷ 7 ∷ []) (5 ∷ 5 ∷ 5 ∷ 6 ∷ []) 
 -- a memory of the four words only
 abbrev pub exact : Buffers
 exact = buffers (0 ∷ 0 ∷ 0 ∷ 0 ∷ []) [] []
+
+-- a picture of 2 by 1: 8 is stored at (0, 0) and 9 at (1, 0), and a ring fetch from (1, 0) wraps to (0, 0)
+unfoldable pub ringed : Setting
+unfolding small
+ringed = setting (small .book) 1 (plan 2 0 1) 2 1
+
+abbrev pub around : List ℕ
+around = (0 ∷ 0 ∷ 0 ∷ 8 ∷ 0 ∷ []) ++ (0 ∷ 1 ∷ 0 ∷ 9 ∷ 0 ∷ []) ++ (4 ∷ 1 ∷ 0 ∷ 0 ∷ 3 ∷ [])
+
+abbrev pub pair : Buffers
+pair = buffers (0 ∷ 0 ∷ []) (5 ∷ 5 ∷ 5 ∷ []) (replicate 36 1)
 
 -- a reply's numbers: two, then 0
 abbrev pub reply : ℕ → ℕ → List ℕ
@@ -69,6 +81,9 @@ pub record ReadOff (left : Buffers) : Type 0 where
   pub as-long : length (left .memory) ≡ 5
   pub exact-as-long :
       (short : Buffers) → short ≡ findAndRun (small .book) 1 1024 3 1 [] exact .content → length (short .memory) ≡ 4
+  -- the ring fetch brings the words stored at the wrapped pixels
+  pub words-around :
+      (turned : Buffers) → turned ≡ findAndRun (small .book) 1 1024 2 1 around pair .content → turned .outputs ≡ 9 ∷ 8 ∷ 5 ∷ []
   -- the two words of the fetch come from two banks
   pub banks-differ : bankOf (plan 2 0 1) (at (pos 1) (pos 0)) ≡ bankOf (plan 2 0 1) (at (pos 2) (pos 0)) → ⊥
   -- with limit 0 the finder refuses, and nothing is changed
@@ -106,12 +121,18 @@ module _ (follows : DemandFollows) (left : Buffers) (is : left ≡ findAndRun (s
   unfolding small findAndRun pictureWords
   exact-met short e = follows (small .book) 1 1024 3 1 [] exact _ short refl e (plan 2 0 1) refl (omega arith) refl
 
+  ringed-met :
+      (turned : Buffers) → turned ≡ findAndRun (small .book) 1 1024 2 1 around pair .content
+      → DemandMet ringed (callsOf around (pair .outputs)) pair turned
+  unfolding small ringed findAndRun pictureWords
+  ringed-met turned e = follows (small .book) 1 1024 2 1 around pair _ turned refl e (plan 2 0 1) refl (omega arith) refl
+
   of-fetch : CallHolds small (start .memory) (callsOf stores []) both
   unfolding both callsOf
   of-fetch = met .holds .each (callsOf stores []) both (callsOf later []) refl
 
   pub read-off : ReadOff left
-  unfolding small callsOf repliesDue overStart flatMap replyNumbers wordIn lastStored pictureWords both banksRead cyclesRead test
+  unfolding small ringed callsOf repliesDue overStart flatMap replyNumbers wordIn lastStored pictureWords both banksRead cyclesRead test
   read-off =
       record {
         words-fetched = met .outputs;
@@ -122,6 +143,7 @@ module _ (follows : DemandFollows) (left : Buffers) (is : left ≡ findAndRun (s
         rest-stays = met .rest;
         as-long = met .as-long;
         exact-as-long = λ short e. exact-met short e .as-long;
+        words-around = λ turned e. ringed-met turned e .outputs;
         banks-differ = λ same. of-fetch .in-cycles refl .apart 0 1 (omega arith) (omega arith) same refl;
         refused = no-plan;
       }

@@ -1,17 +1,39 @@
--- Wrapping a pixel around a picture whose sides are multiples of N keeps its bank, and lands inside.
+-- A ring fetch: its condition in plain numbers is that (W, 0) and (0, H) are in the lattice, and then wrapping keeps the bank of each
+-- pixel. The pixels that either fetch reads are inside, and their banks and cycles apart.
 -- Assumes nothing.
-use Prim.Native.Nat.{ℕ, _*_, _≤_}
-use mathlib.Core.Path.{_≡_, refl, ap, _∙_}
-use mathlib.Core.List.{[], _∷_}
-use lib.IntN.{ℤ, pos, negsuc, _*ℤ_, _-ℤ_}
+use Prim.Native.Nat.{ℕ, _*_, _/_, _≤_}
+use mathlib.Core.Path.{_≡_, refl, sym, ap, _∙_}
+use mathlib.Core.Bool.{Bool, true, false}
+use mathlib.Core.List.{List, [], _∷_, map, map-map, map-congr-left}
+use lib.IntN.{ℤ, pos, negsuc, negℤ, _*ℤ_, _-ℤ_}
+use Rattle.integers.specs.Gcd.{Multiple}
 use Rattle.integers.specs.Division.{floorDiv, floorMod}
 use Rattle.integers.proofs.Ring.{ring, linear, _·_, reify}
-use Rattle.integers.proofs.Divisions.{division, remainder-below}
-use Rattle.scope.specs.Plans.{Pixel, minus, banks, InLattice}
-use Rattle.scope.specs.Banks.{wrapped}
+use Rattle.integers.proofs.Divisions.{Divides, division, remainder-below, remainder-is, cancel-factor, quotient-is, quotient-of-pos, quotient-of-multiple, divides-multiple, multiple-divides}
+use Rattle.scope.specs.Plans.{Pixel, at, minus, pixels, banks, Combination, InLattice}
+use Rattle.scope.specs.Banks.{bankOf, wrapped}
+use Rattle.scope.specs.Cycles.{suitsFor, cycles}
+use Rattle.scope.specs.Calls.{moved, pixelsRead, ringMoved}
+use Rattle.scope.specs.promises.Meaning.{IsPlan, Inside, AllInside, RingAllowed}
+use Rattle.scope.specs.promises.Demand.{EdgeAllowed, InCycles}
 use Rattle.scope.specs.promises.PicturePromises.{RingKeepsBanks}
 use Rattle.scope.specs.declared.Plan.{Plan}
-use Rattle.lattice.proofs.SameBank.{lattice-means-same-bank}
+use Rattle.scope.specs.declared.Pattern.{Pattern}
+use Rattle.checks.proofs.Lists.{mem-map}
+use Rattle.lattice.proofs.Membership.{combination-of-combinations, row-of-lattice}
+use Rattle.lattice.proofs.SameBank.{same-bank-means-lattice, lattice-means-same-bank}
+use Rattle.lattice.proofs.Apart.{fetched-in-cycles}
+
+-- the steps that a ring fetch goes around by
+abbrev across : ℕ → Pixel
+across W = at (pos W) (pos 0)
+
+abbrev down : ℕ → Pixel
+down H = at (pos 0) (pos H)
+
+-- 0 is a multiple of each side
+none-of : (n : ℕ) → pos 0 ≡ pos 0 *ℤ pos n
+none-of n = ring (pos n ∷ []) (search reify depth 40 fits 9000) refl
 
 -- the lattice has every vector with both coordinates multiples of N: (x × a × d, y × a × d) is x × d - y × b times (a, 0)
 -- and y × a times (b, d)
@@ -27,33 +49,174 @@ multiples-in-lattice p v x y column row =
       rows = row ∙ ring (x ∷ y ∷ pos (p .a) ∷ pos (p .b) ∷ pos (p .d) ∷ []) (search reify depth 40 fits 9000) refl;
     }
 
--- a remainder by a multiple k × N differs from the number by a multiple of N
-remainder-less-number :
-    (z : ℤ) (W k N : ℕ) → 1 ≤ W → W ≡ k * N → pos (floorMod z W) -ℤ z ≡ (negsuc 0 *ℤ floorDiv z W *ℤ pos k) *ℤ pos N
-remainder-less-number z W k N h e =
-    linear ((negsuc 0 · division z W h) ∷ (negsuc 0 *ℤ floorDiv z W · ap pos e) ∷ [])
-    (ring (z ∷ pos W ∷ floorDiv z W ∷ pos (floorMod z W) ∷ pos k ∷ pos N ∷ []) (search reify depth 40 fits 9000) refl)
+-- both steps are in the lattice
+abbrev BothSteps : Plan → ℕ → ℕ → Type 0
+BothSteps p W H = InLattice p (across W) × InLattice p (down H)
 
--- A pixel and the one it wraps to have the same bank, and the latter is inside.
+module _ (p : Plan) (plan : IsPlan p) (W H : ℕ) where
+  -- W = q × a makes (W, 0) q times (a, 0); H = k × d and b × k = s × a make (0, H) k times (b, d) less s times (a, 0)
+  steps-in-lattice : RingAllowed p W H → BothSteps p W H
+  unfolding at
+  steps-in-lattice allowed =
+      let (q, W-is) = allowed .W-multiple in
+      let (s, shift-is) = allowed .shift-multiple in
+      let rows-of : Divides (p .d) (pos H) = multiple-divides (p .d) H (allowed .H-multiple) in
+      let k : ℤ = rows-of .times in
+      let k-is : pos (H / p .d) ≡ k = sym (quotient-of-pos H (p .d)) ∙ quotient-of-multiple (p .d) (plan .d-least) rows-of in (
+        record {
+          m = pos q;
+          n = pos 0;
+          columns =
+              linear ((pos 1 · ap pos W-is) ∷ [])
+              (ring (pos W ∷ pos q ∷ pos (p .a) ∷ pos (p .b) ∷ []) (search reify depth 40 fits 9000) refl);
+          rows = ring (pos q ∷ pos (p .d) ∷ []) (search reify depth 40 fits 9000) refl;
+        },
+        record {
+          m = negℤ (pos s);
+          n = k;
+          columns =
+              linear ((negsuc 0 · ap pos shift-is) ∷ (pos (p .b) · k-is) ∷ [])
+              (ring (pos s ∷ k ∷ pos (H / p .d) ∷ pos (p .a) ∷ pos (p .b) ∷ []) (search reify depth 40 fits 9000) refl);
+          rows =
+              linear ((pos 1 · rows-of .is) ∷ [])
+              (ring (pos H ∷ pos s ∷ k ∷ pos (p .d) ∷ []) (search reify depth 40 fits 9000) refl);
+        },
+      )
+
+  -- and the other way round
+  steps-in-numbers : BothSteps p W H → RingAllowed p W H
+  unfolding at
+  steps-in-numbers (c, e) =
+      let no-row : c .n ≡ pos 0 = cancel-factor (p .d) (plan .d-least) (c .n) (pos 0)
+      (linear ((negsuc 0 · c .rows) ∷ []) (ring (c .m ∷ c .n ∷ pos (p .d) ∷ []) (search reify depth 40 fits 9000) refl)) in
+      let k-is : pos (H / p .d) ≡ e .n =
+      sym (quotient-of-pos H (p .d))
+      ∙ quotient-is (p .d) (plan .d-least) (pos H) (e .n) 0 (plan .d-least)
+      (e .rows ∙ ring (e .m ∷ e .n ∷ pos (p .d) ∷ []) (search reify depth 40 fits 9000) refl) in
+      record {
+        W-multiple =
+            divides-multiple (p .a) W
+            (record {
+              times = c .m;
+              is =
+                  linear ((pos 1 · c .columns) ∷ (pos (p .b) · no-row) ∷ [])
+                  (ring (pos W ∷ c .m ∷ c .n ∷ pos (p .a) ∷ pos (p .b) ∷ []) (search reify depth 40 fits 9000) refl);
+            });
+        H-multiple = divides-multiple (p .d) H (row-of-lattice p e);
+        shift-multiple =
+            divides-multiple (p .a) (p .b * (H / p .d))
+            (record {
+              times = negℤ (e .m);
+              is =
+                  linear ((negsuc 0 · e .columns) ∷ (pos (p .b) · k-is) ∷ [])
+                  (ring (e .m ∷ e .n ∷ pos (H / p .d) ∷ pos (p .a) ∷ pos (p .b) ∷ []) (search reify depth 40 fits 9000) refl);
+            });
+      }
+
+  -- W = x × N and H = y × N will do
+  multiples-allowed : Multiple (banks p) W → Multiple (banks p) H → RingAllowed p W H
+  unfolding at
+  multiples-allowed (x, W-is) (y, H-is) =
+      steps-in-numbers (
+        multiples-in-lattice p (across W) (pos x) (pos 0) (ap pos W-is) (none-of (banks p)),
+        multiples-in-lattice p (down H) (pos 0) (pos y) (none-of (banks p)) (ap pos H-is),
+      )
+
+  module _ (W-least : 1 ≤ W) (H-least : 1 ≤ H) where
+    -- a wrapped pixel differs from the pixel by whole steps
+    steps-between : (v : Pixel) → Combination (across W) (down H) (minus (wrapped W H v) v)
+    unfolding at wrapped minus
+    steps-between v =
+        record {
+          m = negℤ (floorDiv (v .column) W);
+          n = negℤ (floorDiv (v .row) H);
+          columns =
+              linear ((negsuc 0 · division (v .column) W W-least) ∷ [])
+              (ring (v .column ∷ pos W ∷ floorDiv (v .column) W ∷ floorDiv (v .row) H ∷ pos (floorMod (v .column) W) ∷ []) (search reify depth 40 fits 9000) refl);
+          rows =
+              linear ((negsuc 0 · division (v .row) H H-least) ∷ [])
+              (ring (v .row ∷ pos H ∷ floorDiv (v .column) W ∷ floorDiv (v .row) H ∷ pos (floorMod (v .row) H) ∷ []) (search reify depth 40 fits 9000) refl);
+        }
+
+    pub bank-kept : RingAllowed p W H → (v : Pixel) → bankOf p (wrapped W H v) ≡ bankOf p v
+    bank-kept allowed v =
+        let (c, e) = steps-in-lattice allowed in
+        lattice-means-same-bank p plan (wrapped W H v) v (combination-of-combinations c e (steps-between v))
+
+    -- a pixel whose coordinates are multiples of the sides wraps to (0, 0), so it is in the lattice if its bank is kept
+    kept-in-lattice :
+        (v : Pixel) (x y : ℤ) → v .column ≡ x *ℤ pos W → v .row ≡ y *ℤ pos H → bankOf p (wrapped W H v) ≡ bankOf p v → InLattice p v
+    unfolding wrapped minus
+    kept-in-lattice v x y column row kept =
+        let c = same-bank-means-lattice p plan (wrapped W H v) v kept in
+        record {
+          m = negℤ (c .m);
+          n = negℤ (c .n);
+          columns =
+              linear ((negsuc 0 · c .columns) ∷ (pos 1 · ap pos (wraps-to-zero W W-least (v .column) x column)) ∷ [])
+              (ring (v .column ∷ c .m ∷ c .n ∷ pos (p .a) ∷ pos (p .b) ∷ pos (floorMod (v .column) W) ∷ []) (search reify depth 40 fits 9000) refl);
+          rows =
+              linear ((negsuc 0 · c .rows) ∷ (pos 1 · ap pos (wraps-to-zero H H-least (v .row) y row)) ∷ [])
+              (ring (v .row ∷ c .m ∷ c .n ∷ pos (p .d) ∷ pos (floorMod (v .row) H) ∷ []) (search reify depth 40 fits 9000) refl);
+        }
+      where
+        wraps-to-zero : (n : ℕ) → 1 ≤ n → (z q : ℤ) → z ≡ q *ℤ pos n → floorMod z n ≡ 0
+        wraps-to-zero n h z q e = remainder-is n h z q 0 h (e ∙ ring (q ∷ pos n ∷ []) (search reify depth 40 fits 9000) refl)
+
+    kept-allowed : ((v : Pixel) → bankOf p (wrapped W H v) ≡ bankOf p v) → RingAllowed p W H
+    unfolding at
+    kept-allowed kept =
+        steps-in-numbers (
+          kept-in-lattice (across W) (pos 1) (pos 0) (once W) (none-of H) (kept (across W)),
+          kept-in-lattice (down H) (pos 0) (pos 1) (none-of W) (once H) (kept (down H)),
+        )
+      where
+        once : (n : ℕ) → pos n ≡ pos 1 *ℤ pos n
+        once n = ring (pos n ∷ []) (search reify depth 40 fits 9000) refl
+
+-- a wrapped pixel is inside
+wrapped-inside : (W H : ℕ) → 1 ≤ W → 1 ≤ H → (v : Pixel) → Inside W H (wrapped W H v)
+unfolding wrapped
+wrapped-inside W H W-least H-least v =
+    record {
+      i = floorMod (v .column) W;
+      j = floorMod (v .row) H;
+      column = refl;
+      row = refl;
+      i-below = remainder-below (v .column) W W-least;
+      j-below = remainder-below (v .row) H H-least;
+    }
+
+module _ (p : Plan) (W H : ℕ) (W-least : 1 ≤ W) (H-least : 1 ≤ H) where
+  -- What either fetch reads is inside,
+  pub read-inside : (ring : Bool) (vs : List Pixel) → EdgeAllowed ring p W H vs → AllInside W H (pixelsRead ring W H vs)
+  unfolding pixelsRead
+  read-inside false vs inside = inside
+  read-inside true vs allowed =
+      λ v m. let (w, k, is) = mem-map (wrapped W H) vs m in rw (sym is) (wrapped-inside W H W-least H-least w)
+
+  -- from the banks of the pixels before wrapping,
+  same-banks : IsPlan p → (ring : Bool) (vs : List Pixel) → EdgeAllowed ring p W H vs → map (bankOf p) (pixelsRead ring W H vs) ≡ map (bankOf p) vs
+  unfolding pixelsRead
+  same-banks plan false vs inside = refl
+  same-banks plan true vs allowed =
+      map-map (bankOf p) (wrapped W H) vs ∙ map-congr-left {l = vs} (λ v _. bank-kept p plan W H W-least H-least allowed v)
+
+  -- so at most one word of each bank comes in each of r cycles.
+  pub read-in-cycles :
+      (ring : Bool) (r : ℕ) (t : Pattern) (o : Pixel) → IsPlan p → EdgeAllowed ring p W H (moved t o) → suitsFor r p (pixels t) ≡ true
+      → InCycles r (map (bankOf p) (pixelsRead ring W H (moved t o))) (cycles p (pixels t))
+  read-in-cycles ring r t o plan allowed suiting =
+      rw (same-banks plan ring (moved t o) allowed) (fetched-in-cycles r p t o plan suiting)
+
+-- What a ring fetch goes by.
 pub ring-keeps-banks : RingKeepsBanks
-unfolding wrapped minus
+unfolding ringMoved pixelsRead
 ring-keeps-banks =
     record {
-      same-bank = λ p W H plan W-least H-least allowed v.
-          let (x, W-is) = allowed .W-multiple in
-          let (y, H-is) = allowed .H-multiple in
-          lattice-means-same-bank p plan (wrapped W H v) v
-          (multiples-in-lattice p (minus (wrapped W H v) v) (negsuc 0 *ℤ floorDiv (v .column) W *ℤ pos x)
-          (negsuc 0 *ℤ floorDiv (v .row) H *ℤ pos y)
-          (remainder-less-number (v .column) W x (banks p) W-least W-is)
-          (remainder-less-number (v .row) H y (banks p) H-least H-is));
-      lands = λ W H W-least H-least v.
-          record {
-            i = floorMod (v .column) W;
-            j = floorMod (v .row) H;
-            column = refl;
-            row = refl;
-            i-below = remainder-below (v .column) W W-least;
-            j-below = remainder-below (v .row) H H-least;
-          };
+      in-lattice = λ p W H plan. (steps-in-lattice p plan W H, steps-in-numbers p plan W H);
+      same-bank = λ p W H plan W-least H-least. (bank-kept p plan W H W-least H-least, kept-allowed p plan W H W-least H-least);
+      lands = wrapped-inside;
+      in-cycles = λ r p W H plan W-least H-least allowed t o. read-in-cycles p W H W-least H-least true r t o plan allowed;
+      multiples = λ p W H plan. multiples-allowed p plan W H;
     }

@@ -3,13 +3,14 @@
 use Prim.Native.Nat.{ℕ, _≤_, _<_}
 use mathlib.Core.Path.{_≡_, refl}
 use mathlib.Core.Logic.{_↔_, Iff·rfl, Iff·trans}
-use mathlib.Core.Bool.{true, false}
+use mathlib.Core.Bool.{Bool, true, false}
 use mathlib.Core.Option.{none}
-use mathlib.Core.List.{[], _∷_, List·Memᴰ·head}
+use mathlib.Core.List.{List, [], _∷_, List·Memᴰ·head}
 use Rattle.scope.specs.Plans.{Pixel, patternAt, banks}
 use Rattle.scope.specs.Calls.{pictureTest, wordTest, wholeBankTest, moved, fetchFirst, fetchStart, edgeTest, restTest, fetchTest}
 use Rattle.scope.specs.Calls.{cyclesFirst, writeCyclesTest}
-use Rattle.scope.specs.promises.Meaning.{IsBook, IsCycles, IsPicture, Inside, AllInside, RingAllowed}
+use Rattle.scope.specs.promises.Meaning.{IsBook, IsCycles, IsPicture, Inside}
+use Rattle.scope.specs.promises.Demand.{EdgeAllowed}
 use Rattle.scope.specs.promises.PicturePromises.{LegalFetch, LegalCycles}
 use Rattle.scope.specs.declared.Plan.{Plan}
 use Rattle.scope.specs.declared.Book.{Book}
@@ -69,6 +70,12 @@ module _ (p : Plan) (W H words : ℕ) where
   unfolding wholeBankTest
   bank-test-iff k = test-before picture-test-iff (last-test (bank-below-iff p k)) .iff
 
+  -- The edge: every pixel inside, or sides that a ring fetch goes around.
+  edge-iff : (ring : Bool) (vs : List Pixel) → (edgeTest ring p W H vs ≡ none) ↔ EdgeAllowed ring p W H vs
+  unfolding edgeTest
+  edge-iff false vs = all-inside-iff W H vs
+  edge-iff true vs = ring-allowed-iff p W H
+
   module _ (book : Book) (r n : ℕ) where
     -- What both fetches test before 10: a book and r, a picture, and a number of the book.
     pub fetch-first-iff :
@@ -95,19 +102,11 @@ module _ (p : Plan) (W H words : ℕ) where
           ),
         )
 
-    -- Fetch: a legal one, every pixel inside, and room. Ring fetch: a legal one, allowed, and room.
+    -- Either fetch: a legal one, the edge, and room.
     pub fetch-test-iff :
-        (o : Pixel) (room : ℕ) → (fetchTest false book r p W H words n o room ≡ none)
-        ↔ (LegalFetch book r p W H words n × (AllInside W H (moved (patternAt book n) o) × (patternAt book n .used ≤ room)))
-    unfolding fetchTest restTest edgeTest
-    fetch-test-iff o room =
+        (ring : Bool) (o : Pixel) (room : ℕ) → (fetchTest ring book r p W H words n o room ≡ none)
+        ↔ (LegalFetch book r p W H words n × (EdgeAllowed ring p W H (moved (patternAt book n) o) × (patternAt book n .used ≤ room)))
+    unfolding fetchTest restTest
+    fetch-test-iff ring o room =
         test-before fetch-start-iff
-        (test-before (all-inside-iff W H (moved (patternAt book n) o)) (last-test (output-enough-iff (patternAt book n .used) room))) .iff
-
-    pub ring-fetch-test-iff :
-        (o : Pixel) (room : ℕ) → (fetchTest true book r p W H words n o room ≡ none)
-        ↔ (LegalFetch book r p W H words n × (RingAllowed p W H × (patternAt book n .used ≤ room)))
-    unfolding fetchTest restTest edgeTest
-    ring-fetch-test-iff o room =
-        test-before fetch-start-iff
-        (test-before (ring-allowed-iff p W H) (last-test (output-enough-iff (patternAt book n .used) room))) .iff
+        (test-before (edge-iff ring (moved (patternAt book n) o)) (last-test (output-enough-iff (patternAt book n .used) room))) .iff

@@ -10,14 +10,13 @@ use Rattle.scope.specs.Plans.{patternAt, patterns}
 use Rattle.scope.specs.Banks.{wordIn}
 use Rattle.scope.specs.promises.Meaning.{IsPlan, IsSide, IsBook, IsCycles, IsPicture}
 use Rattle.scope.specs.promises.CyclePromises.{LeastForCycles}
-use Rattle.scope.specs.promises.PicturePromises.{LegalFetch}
 use Rattle.scope.specs.promises.Demand.{store, clear, load, fetch, Call, write, read, Setting, run, test, lastStored, Allowed}
-use Rattle.scope.specs.promises.Demand.{banksRead, cyclesRead, InCycles, pictureWords, Demand3}
+use Rattle.scope.specs.promises.Demand.{pixelsFetched, banksRead, cyclesRead, InCycles, pictureWords, Demand3}
 use Rattle.scope.specs.declared.Plan.{Plan}
 use Rattle.checks.proofs.Lists.{getD-take}
 use Rattle.checks.proofs.Patterns.{patterns-mem}
 use Rattle.lattice.proofs.Classes.{suits-all-for-iff}
-use Rattle.lattice.proofs.Apart.{fetched-in-cycles}
+use Rattle.lattice.proofs.Rings.{read-in-cycles}
 use Rattle.finder.proofs.FindAnswers.{LegalFind, find-value-iff}
 use Rattle.finder.proofs.Least.{finder-is-least}
 use Rattle.pictures.proofs.CallTests.{word-test-iff, bank-test-iff, fetch-test-iff}
@@ -29,15 +28,15 @@ none-read r =
     record { as-many = refl; apart = λ e l h k same alike. absurd (omega arith); below = λ e h. absurd (omega arith) }
 
 -- The words that a call reads, if it is not turned down, come in r cycles, at most one from each bank in each.
-read-in-cycles : (g : Setting) (words : ℕ) (c : Call) → test g words c ≡ none → InCycles (g .r) (banksRead g c) (cyclesRead g c)
-unfolding test banksRead cyclesRead
-read-in-cycles g words (write w) t = none-read (g .r)
-read-in-cycles g words (read (load v)) t = none-read (g .r)
-read-in-cycles g words (read (fetch n o out)) t =
-    fetched-in-cycles (g .r) (g .plan) (patternAt (g .book) n) o (legal .picture .plan) (legal .suiting)
-  where
-    legal : LegalFetch (g .book) (g .r) (g .plan) (g .W) (g .H) words n
-    legal = fetch-test-iff (g .plan) (g .W) (g .H) words (g .book) (g .r) n o (length out) .0 t .0
+call-in-cycles : (g : Setting) (words : ℕ) (c : Call) → test g words c ≡ none → InCycles (g .r) (banksRead g c) (cyclesRead g c)
+unfolding test banksRead cyclesRead pixelsFetched
+call-in-cycles g words (write w) t = none-read (g .r)
+call-in-cycles g words (read (load v)) t = none-read (g .r)
+call-in-cycles g words (read (fetch ring n o out)) t =
+    let (legal, (allowed, room)) = fetch-test-iff (g .plan) (g .W) (g .H) words (g .book) (g .r) n ring o (length out) .0 t in
+    let here = legal .picture in
+    read-in-cycles (g .plan) (g .W) (g .H) (here .W-side .0) (here .H-side .0) ring (g .r) (patternAt (g .book) n) o (here .plan) allowed
+    (legal .suiting)
 
 -- what is allowed on a picture, with the sides of that picture
 with-sides : {p : Plan} {W H words : ℕ} {P : Type 0} → IsPicture p W H words × P → IsSide W × IsSide H × P
@@ -50,9 +49,9 @@ unfolding test
 taken-call-legal g words (write (store v x)) t = with-sides (word-test-iff (g .plan) (g .W) (g .H) words v .0 t)
 taken-call-legal g words (write (clear k)) t = with-sides (bank-test-iff (g .plan) (g .W) (g .H) words k .0 t)
 taken-call-legal g words (read (load v)) t = with-sides (word-test-iff (g .plan) (g .W) (g .H) words v .0 t)
-taken-call-legal g words (read (fetch n o out)) t =
-    let (legal, (inside, room)) = fetch-test-iff (g .plan) (g .W) (g .H) words (g .book) (g .r) n o (length out) .0 t in
-    with-sides (legal .picture, (legal .number, inside, room))
+taken-call-legal g words (read (fetch ring n o out)) t =
+    let (legal, (allowed, room)) = fetch-test-iff (g .plan) (g .W) (g .H) words (g .book) (g .r) n ring o (length out) .0 t in
+    with-sides (legal .picture, (legal .number, allowed, room))
 
 module _
     (g : Setting) (legal-book : IsBook (g .book)) (legal-cycles : IsCycles (g .r)) (least : LeastForCycles (g .r) (g .book) (g .plan))
@@ -68,8 +67,8 @@ module _
     legal-call-taken w h (write (store v x)) inside = word-test-iff (g .plan) (g .W) (g .H) words v .1 (picture w h, inside)
     legal-call-taken w h (write (clear k)) below = bank-test-iff (g .plan) (g .W) (g .H) words k .1 (picture w h, below)
     legal-call-taken w h (read (load v)) inside = word-test-iff (g .plan) (g .W) (g .H) words v .1 (picture w h, inside)
-    legal-call-taken w h (read (fetch n o out)) allowed =
-        fetch-test-iff (g .plan) (g .W) (g .H) words (g .book) (g .r) n o (length out) .1 (
+    legal-call-taken w h (read (fetch ring n o out)) allowed =
+        fetch-test-iff (g .plan) (g .W) (g .H) words (g .book) (g .r) n ring o (length out) .1 (
           record {
             legal-book = legal-book;
             legal-cycles = legal-cycles;
@@ -110,7 +109,7 @@ demand-3 g limit mem calls e enough zeros =
             agrees = reply-is-due g mem past (run g mem past) (since past) c;
             taken = λ w h allowed. legal-call-taken g (legal .legal-book) (legal .legal-cycles) least (length mem) enough w h c allowed;
             only-legal = taken-call-legal g (length mem) c;
-            in-cycles = read-in-cycles g (length mem) c;
+            in-cycles = call-in-cycles g (length mem) c;
           };
       words = since calls .words;
       others = since calls .others;

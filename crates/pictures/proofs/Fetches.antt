@@ -6,16 +6,16 @@ use native.Mathlib.Omega.{arith}
 use mathlib.Core.Path.{_≡_, refl, _∙_, ap, subst}
 use mathlib.Core.Bool.{Bool, true, false}
 use mathlib.Core.Option.{Option, none}
-use mathlib.Core.List.{List, map, map-map, map-congr-left}
+use mathlib.Core.List.{List, map}
 use lib.ListN.{length, getD, take, drop, length-map}
 use Rattle.scope.specs.Plans.{Pixel, patternAt, pixels}
-use Rattle.scope.specs.Banks.{bankOf, wordOf, wordIn, overStart, wrapped}
+use Rattle.scope.specs.Banks.{wordOf, wordIn, overStart, wrapped}
 use Rattle.scope.specs.Cycles.{cycleOf, cycles}
 use Rattle.scope.specs.Numbers.{value, withPositions, ofCounted, ofFetch}
 use Rattle.scope.specs.Calls.{Result, changed, moved, ringMoved, besideClash, pixelsRead, fetchFirst, fetchRest, fetchTest, eitherFetch, fetch, ringFetch}
 use Rattle.scope.specs.Calls.{cyclesFirst, writeCyclesTest, writeCycles}
 use Rattle.scope.specs.promises.Meaning.{AllInside, RingAllowed}
-use Rattle.scope.specs.promises.Demand.{InCycles}
+use Rattle.scope.specs.promises.Demand.{EdgeAllowed}
 use Rattle.scope.specs.promises.PicturePromises.{FetchedAll, LegalFetch, LegalCycles, WrittenCycles}
 use Rattle.scope.specs.declared.Plan.{Plan}
 use Rattle.scope.specs.declared.Book.{Book}
@@ -27,11 +27,10 @@ use Rattle.checks.proofs.Chains.{changed-none-answer, changed-none-content}
 use Rattle.checks.proofs.Patterns.{origin, length-pixels}
 use Rattle.checks.proofs.Lists.{getD-map}
 use Rattle.checks.proofs.Outputs.{over-start-words, over-start-rest, over-start-length}
-use Rattle.lattice.proofs.Rings.{ring-keeps-banks}
-use Rattle.lattice.proofs.Apart.{fetched-in-cycles}
+use Rattle.lattice.proofs.Rings.{read-in-cycles}
 use Rattle.lattice.proofs.Cycles.{cycle-below, cycles-part}
 use Rattle.lattice.proofs.Formulas.{moved-size}
-use Rattle.pictures.proofs.CallTests.{fetch-test-iff, ring-fetch-test-iff, cycles-test-iff}
+use Rattle.pictures.proofs.CallTests.{fetch-test-iff, cycles-test-iff}
 
 -- A call that puts the numbers xs, m of them, at the start of its output, beside a clash: what it gives where its tests find nothing.
 module _
@@ -71,21 +70,12 @@ unfolding pixelsRead
 length-read false W H vs = refl
 length-read true W H vs = length-map vs (wrapped W H)
 
--- if wrapping keeps the bank of a pixel, it keeps the banks of a fetch
-same-banks :
-    (p : Plan) (W H : ℕ) (vs : List Pixel) → ((v : Pixel) → bankOf p (wrapped W H v) ≡ bankOf p v)
-    → map (bankOf p) (map (wrapped W H) vs) ≡ map (bankOf p) vs
-same-banks p W H vs same = map-map (bankOf p) (wrapped W H) vs ∙ map-congr-left {l = vs} (λ v _. same v)
-
 module _
     (book : Book) (r : ℕ) (p : Plan) (W H : ℕ) (mem : List ℕ) (n : ℕ) (o : Pixel) (out : List ℕ)
     (legal : LegalFetch book r p W H (length mem) n) (enough : patternAt book n .used ≤ length out)
   where
     abbrev t : Pattern
     t = patternAt book n
-
-    moved-apart : InCycles r (map (bankOf p) (moved t o)) (cycles p (pixels t))
-    moved-apart = fetched-in-cycles r p t o (legal .picture .plan) (legal .suiting)
 
     -- either fetch, where its tests find nothing
     module _ (ring : Bool) where
@@ -95,39 +85,32 @@ module _
       abbrev words : List ℕ
       words = map (wordIn p W H mem) vs
 
-      either-gives :
-          fetchTest ring book r p W H (length mem) n o (length out) ≡ none
-          → InCycles r (map (bankOf p) vs) (cycles p (pixels t))
-          → FetchedAll r p W H mem t vs out (eitherFetch ring book r p W H mem n o out)
+      either-gives : EdgeAllowed ring p W H (moved t o) → FetchedAll r p W H mem t vs out (eitherFetch ring book r p W H mem n o out)
       unfolding eitherFetch fetchRest fetchTest wordIn wordOf
-      either-gives passed apart =
+      either-gives allowed =
+          let here = legal .picture in
           let put =
           put-all (fetchFirst book r p W H (length mem) n) r p book n (fetchTest ring book r p W H (length mem) n o (length out))
-          (length vs) words out passed (length-map vs (wordIn p W H mem))
+          (length vs) words out (fetch-test-iff p W H (length mem) book r n ring o (length out) .1 (legal, (allowed, enough)))
+          (length-map vs (wordIn p W H mem))
           (omega (arith, length-read ring W H (moved t o), moved-size t o)) in
           record {
             count = put .count;
             words = λ e h. put .numbers e h ∙ getD-map (wordIn p W H mem) vs e origin 0 h;
             rest = put .rest;
             as-long = put .as-long;
-            in-cycles = apart;
+            in-cycles = read-in-cycles p W H (here .W-side .0) (here .H-side .0) ring r t o (here .plan) allowed (legal .suiting);
           }
 
     -- A legal fetch gives the words of its pixels.
     pub fetch-gives : AllInside W H (moved t o) → FetchedAll r p W H mem t (moved t o) out (fetch book r p W H mem n o out)
     unfolding fetch pixelsRead
-    fetch-gives inside =
-        either-gives false (fetch-test-iff p W H (length mem) book r n o (length out) .1 (legal, (inside, enough))) moved-apart
+    fetch-gives = either-gives false
 
     -- A legal ring fetch gives the words of its wrapped pixels.
     pub ring-fetch-gives : RingAllowed p W H → FetchedAll r p W H mem t (ringMoved W H t o) out (ringFetch book r p W H mem n o out)
     unfolding ringFetch pixelsRead ringMoved
-    ring-fetch-gives allowed =
-        let here = legal .picture in
-        either-gives true (ring-fetch-test-iff p W H (length mem) book r n o (length out) .1 (legal, (allowed, enough)))
-        (rw
-        (same-banks p W H (moved t o) (ring-keeps-banks .same-bank p W H (here .plan) (here .W-side .0) (here .H-side .0) allowed))
-        moved-apart)
+    ring-fetch-gives = either-gives true
 
 -- The call for the cycles, where it is legal, gives those of its pixels.
 pub cycles-given :

@@ -60,20 +60,21 @@ five-numbers : (c : Call) → length (numbersOf c) ≡ 5
 five-numbers (write (store v x)) = refl
 five-numbers (write (clear k)) = refl
 five-numbers (read (load v)) = refl
-five-numbers (read (fetch n o out)) = refl
+five-numbers (read (fetch ring n o out)) = refl
 
 own-room : (c : Call) (xs : List ℕ) → roomAt (numbersOf c ++ xs) ≡ length (outputIn c)
 unfolding roomAt
 own-room (write (store v x)) xs = refl
 own-room (write (clear k)) xs = refl
 own-room (read (load v)) xs = refl
-own-room (read (fetch n o out)) xs = refl
+own-room (read (fetch false n o out)) xs = refl
+own-room (read (fetch true n o out)) xs = refl
 
 others-after : (c : Call) (xs : List ℕ) → drop 5 (numbersOf c ++ xs) ≡ xs
 others-after (write (store v x)) xs = refl
 others-after (write (clear k)) xs = refl
 others-after (read (load v)) xs = refl
-others-after (read (fetch n o out)) xs = refl
+others-after (read (fetch ring n o out)) xs = refl
 
 own-call : (c : Call) (xs : List ℕ) → Fits c → callAt (numbersOf c ++ xs) (outputIn c) ≡ c
 unfolding callAt
@@ -82,7 +83,8 @@ own-call (write (store v x)) xs (h, k) =
     ap₂ (λ (w : Pixel) (n : ℕ). write (store w n)) (pixel-back v h) word
 own-call (write (clear k)) xs h = refl
 own-call (read (load v)) xs h = ap (λ (w : Pixel). read (load w)) (pixel-back v h)
-own-call (read (fetch n o out)) xs (h, k, l) = ap (λ (w : Pixel). read (fetch n w out)) (pixel-back o h)
+own-call (read (fetch false n o out)) xs (h, k, l) = ap (λ (w : Pixel). read (fetch false n w out)) (pixel-back o h)
+own-call (read (fetch true n o out)) xs (h, k, l) = ap (λ (w : Pixel). read (fetch true n w out)) (pixel-back o h)
 
 pixel-numbers :
     (v : Pixel) → PixelFits v
@@ -97,7 +99,8 @@ unfolding isCallAt
 is-call (write (store v x)) xs (h, k) = rw (pixel-numbers v h .0, pixel-numbers v h .1, lt-ltb x 65536 k) refl
 is-call (write (clear k)) xs h = refl
 is-call (read (load v)) xs h = rw (pixel-numbers v h .0, pixel-numbers v h .1) refl
-is-call (read (fetch n o out)) xs (h, k, l) = rw (pixel-numbers o h .0, pixel-numbers o h .1) refl
+is-call (read (fetch false n o out)) xs (h, k, l) = rw (pixel-numbers o h .0, pixel-numbers o h .1) refl
+is-call (read (fetch true n o out)) xs (h, k, l) = rw (pixel-numbers o h .0, pixel-numbers o h .1) refl
 
 -- The list that the code makes of the numbers
 all-back :
@@ -174,7 +177,8 @@ numbers-fit (write (clear k)) h =
     one-more-number (omega arith)
     (one-more-number (omega arith) (one-more-number (omega arith) (one-more-number h (one-more-number (omega arith) no-number))))
 numbers-fit (read (load v)) h = with-pixel v (omega arith) h (omega arith) (omega arith)
-numbers-fit (read (fetch n o out)) (h, k, l) = with-pixel o (omega arith) h k l
+numbers-fit (read (fetch false n o out)) (h, k, l) = with-pixel o (omega arith) h k l
+numbers-fit (read (fetch true n o out)) (h, k, l) = with-pixel o (omega arith) h k l
 
 pub every-list-has-numbers : EveryListHasNumbers
 unfolding callsOf

@@ -3,15 +3,15 @@
 use Prim.Native.Nat.{ℕ, zero, suc, _%_}
 use native.Mathlib.Omega.{arith}
 use mathlib.Core.Path.{_≡_, refl, _∙_, ap, ap₂}
-use mathlib.Core.Bool.{false}
 use mathlib.Core.List.{List, [], _∷_}
+use lib.Dec.{eqb}
 use lib.ListN.{length, getD, take}
 use borrow.Author.Tests.{ne-eqb}
 use Rattle.scope.specs.Plans.{Pixel, at}
 use Rattle.scope.specs.Numbers.{withPositions, ofCounted, ofLoaded, ofOutcome, ofFetch}
 use Rattle.scope.specs.Calls as Calls
 use Rattle.scope.specs.Calls.{Result, Lent, lent, fetchRest}
-use Rattle.scope.specs.promises.Demand.{fetch, Setting, writeResult, readReply, reply, after}
+use Rattle.scope.specs.promises.Demand.{Setting, writeResult, readReply, reply, after}
 use Rattle.scope.specs.declared.Book.{Book}
 use Rattle.scope.specs.declared.Counted.{Counted}
 use Rattle.scope.specs.declared.Loaded.{Loaded}
@@ -73,13 +73,13 @@ module _ (book : Book) (r : ℕ) (p : Plan) (W H : ℕ) (mem : List ℕ) (kind i
         {start : Suited} {t : Pattern} {counted : Counted} {end row : List ℕ}
         → (kind ≡ 0 → ⊥) → (kind ≡ 1 → ⊥) → (kind ≡ 2 → ⊥)
         → BegunAt book r p W H (length mem) n start → t ≡ entryFor book n
-        → Gives (fetchRest (foundBy (start .outcome)) false t p W H mem v out) counted end
+        → Gives (fetchRest (foundBy (start .outcome)) (eqb kind 4) t p W H mem v out) counted end
         → row ≡ twelve (answerNumbers (λ m. m ∷ []) (ofFetch r (record { counted = counted; positions = start .positions })))
         → Makes row mem end
-    unfolding callOf reply readReply after replyNumbers Calls.fetch
+    unfolding callOf reply readReply after replyNumbers
     fetch-made {start} {t} {counted} {end} {row} no-store no-clear no-load begun entry gives row-is =
         let ((number, positions), words) =
-        fetched-by-entry false book r p W H mem n (at (coordinateOf i) (coordinateOf j)) out begun entry handed gives in
+        fetched-by-entry (eqb kind 4) book r p W H mem n (at (coordinateOf i) (coordinateOf j)) out begun entry handed gives in
         rw (ne-eqb kind 0 no-store, ne-eqb kind 1 no-clear, ne-eqb kind 2 no-load) (record {
           row-is =
               row-is

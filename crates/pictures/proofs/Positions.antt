@@ -3,7 +3,7 @@
 use Prim.Native.Nat.{ℕ, suc, _≤_}
 use native.Mathlib.Omega.{arith}
 use mathlib.Core.Path.{_≡_, refl, sym, _∙_, ap}
-use mathlib.Core.Bool.{false}
+use mathlib.Core.Bool.{Bool}
 use mathlib.Core.Option.{Option, none, some}
 use mathlib.Core.List.{List, [], _∷_}
 use lib.ListN.{length, take, length-take}
@@ -51,19 +51,19 @@ module _ (book : Book) (r : ℕ) (p : Plan) (W H words n : ℕ) where
       ap (take (suc r)) (beside-none first found passed ∙ ap places h) ∙ places-first c r (clash-size passed .1 c h)
 
   -- A fetch whose refusal has a clash passed the tests before 10, and the search found a clash.
-  module _ (o : Pixel) (room : ℕ) where
+  module _ (ring : Bool) (o : Pixel) (room : ℕ) where
     abbrev t : Pattern
     t = patternAt book n
 
     abbrev after : List (Option Refusal)
-    after = edgeTest false p W H (moved t o) ∷ outputTest (t .used) room ∷ []
+    after = edgeTest ring p W H (moved t o) ∷ outputTest (t .used) room ∷ []
 
     refused-by-10 :
-        {f : Refusal} (d : LongClash) → fetchTest false book r p W H words n o room ≡ some f → clashOf f ≡ some d
+        {f : Refusal} (d : LongClash) → fetchTest ring book r p W H words n o room ≡ some f → clashOf f ≡ some d
         → OwnClash book r p n d first after d
     unfolding fetchTest restTest fetchStart
     refused-by-10 {f} d e h =
-        own-clash book r p n d first after (fetch-not-ten book r p W H words n) (rest-not-ten false p W H (moved t o) (t .used) room) d
+        own-clash book r p n d first after (fetch-not-ten book r p W H words n) (rest-not-ten ring p W H (moved t o) (t .used) room) d
         (f, tests-as-one [] (first ∷ suitsTest r p n t ∷ []) after ∙ e, refl, refl, h)
 
 -- What a refused fetch is to tell: the refusal, with its clash if there is one.
@@ -89,10 +89,10 @@ module _ (g : Setting) (n : ℕ) (f : Refusal) where
 
   -- That is what a refused fetch tells.
   pub told-as-due :
-      (words : ℕ) (o : Pixel) (room : ℕ)
-      → fetchTest false (g .book) (g .r) (g .plan) (g .W) (g .H) words n o room ≡ some f
+      (words : ℕ) (ring : Bool) (o : Pixel) (room : ℕ)
+      → fetchTest ring (g .book) (g .r) (g .plan) (g .W) (g .H) words n o room ≡ some f
       → withPositions (told (g .book) (g .r) (g .plan) (g .W) (g .H) words n) (turnedDown f) ≡ refusedFetch g n f
-  told-as-due words o room e = by-clash (clashOf f) refl
+  told-as-due words ring o room e = by-clash (clashOf f) refl
     where
       es : List ℕ
       es = told (g .book) (g .r) (g .plan) (g .W) (g .H) words n
@@ -100,7 +100,7 @@ module _ (g : Setting) (n : ℕ) (f : Refusal) where
       by-clash : (l : Option LongClash) → clashOf f ≡ l → withPositions es (turnedDown f) ≡ refusedFetch g n f
       by-clash none h = told-alone es h
       by-clash (some d) h =
-          let own = refused-by-10 (g .book) (g .r) (g .plan) (g .W) (g .H) words n o room d e h in
+          let own = refused-by-10 (g .book) (g .r) (g .plan) (g .W) (g .H) words n ring o room d e h in
           ap (λ (xs : List ℕ). withPositions xs (turnedDown f))
           (clash-first (g .book) (g .r) (g .plan) (g .W) (g .H) words n (own .passed) (own .own) (own .found))
           ∙ sym (due-with (own .own) (own .found))

@@ -2,21 +2,23 @@
 -- Assumes nothing.
 use Prim.Native.Nat.{ℕ}
 use mathlib.Core.Path.{_≡_, refl, _∙_, ap, ap₂}
+use mathlib.Core.Bool.{Bool}
 use mathlib.Core.Option.{Option, none, some}
 use mathlib.Core.List.{List, [], _∷_, map, List·Memᴰ, List·Memᴰ·head, List·Memᴰ·tail}
 use lib.ListN.{length}
-use Rattle.scope.specs.Plans.{Pixel, patternAt}
+use Rattle.scope.specs.Plans.{Pixel}
 use Rattle.scope.specs.Banks.{wordIn, overStart}
 use Rattle.scope.specs.Numbers.{Answer, value, turnedDown, withPositions, ofCounted, ofLoaded, ofOutcome}
 use Rattle.scope.specs.Calls as Calls
-use Rattle.scope.specs.Calls.{Result, Lent, lent, answered, changed, moved, besideClash, pixelsRead, fetchRest, fetchTest, eitherFetch}
+use Rattle.scope.specs.Calls.{Result, Lent, lent, answered, changed, besideClash, fetchRest, fetchTest, eitherFetch}
 use Rattle.scope.specs.promises.Meaning.{AllInside}
 use Rattle.scope.specs.promises.Demand.{load, fetch, Call, write, read, Setting, test, lastStored}
-use Rattle.scope.specs.promises.Demand.{wrote, loaded, fetched, readReply, reply, refusedFetch, replyDue}
+use Rattle.scope.specs.promises.Demand.{wrote, loaded, fetched, readReply, reply, pixelsFetched, refusedFetch, replyDue}
 use Rattle.scope.specs.declared.Refusal.{Refusal}
 use Rattle.scope.specs.declared.Counted.{Counted}
 use Rattle.scope.specs.declared.Outcome.{Outcome}
 use Rattle.checks.proofs.Chains.{changed-answer, changed-content}
+use Rattle.lattice.proofs.Rings.{read-inside}
 use Rattle.pictures.proofs.CallTests.{word-test-iff, fetch-test-iff}
 use Rattle.pictures.proofs.Positions.{told, told-as-due}
 use Rattle.pictures.proofs.Runs.{Holds, write-is}
@@ -77,9 +79,18 @@ module _
         → map (wordIn (g .plan) (g .W) (g .H) mem) vs ≡ map (lastStored g (length start) past) vs
     words-due vs inside = same-map _ _ vs (λ v m. h .words v (inside v m))
 
+    -- the pixels of a fetch that is not turned down are inside
+    fetched-inside :
+        (ring : Bool) (n : ℕ) (o : Pixel) (out : List ℕ) → test g (length start) (read (fetch ring n o out)) ≡ none
+        → AllInside (g .W) (g .H) (pixelsFetched g ring n o)
+    unfolding test pixelsFetched
+    fetched-inside ring n o out e =
+        let (legal, (allowed, room)) = fetch-test-iff (g .plan) (g .W) (g .H) (length start) (g .book) (g .r) n ring o (length out) .0 e in
+        read-inside (g .plan) (g .W) (g .H) (legal .picture .W-side .0) (legal .picture .H-side .0) ring _ allowed
+
     -- The call's answer, and a fetch's output, are what the conditions and the words last stored tell.
     pub reply-is-due : (c : Call) → reply g mem c ≡ replyDue g (length start) past c
-    unfolding reply readReply replyDue test Calls.load Calls.fetch eitherFetch besideClash fetchRest fetchTest pixelsRead
+    unfolding reply readReply replyDue test Calls.load eitherFetch besideClash fetchRest fetchTest pixelsFetched
     reply-is-due (write w) =
         ap wrote
         (ap (λ (r : Result Outcome Lent). ofOutcome (r .answer)) (write-is g mem w)
@@ -88,13 +99,12 @@ module _
         ap loaded
         (read-answer (same-test (read (load v))) ofLoaded turnedDown (λ f e. refl)
         (λ e. ap value (h .words v (word-test-iff (g .plan) (g .W) (g .H) (length start) v .0 e .1))))
-    reply-is-due (read (fetch n o out)) =
-        let same = same-test (read (fetch n o out)) in
+    reply-is-due (read (fetch ring n o out)) =
+        let same = same-test (read (fetch ring n o out)) in
         ap₂ fetched
         (read-changed same
         (λ (c : Counted). withPositions (told (g .book) (g .r) (g .plan) (g .W) (g .H) (length mem) n) (ofCounted c)) (refusedFetch g n)
         out _
-        (λ f e. told-as-due g n f (length mem) o (length out) (same ∙ e)) (λ e. refl))
+        (λ f e. told-as-due g n f (length mem) ring o (length out) (same ∙ e)) (λ e. refl))
         (read-content same Counted.Refused out _ (λ e. ap (λ (xs : List ℕ). overStart xs out)
-        (words-due (moved (patternAt (g .book) n) o)
-        (fetch-test-iff (g .plan) (g .W) (g .H) (length start) (g .book) (g .r) n o (length out) .0 e .1 .0))))
+        (words-due (pixelsFetched g ring n o) (fetched-inside ring n o out e))))

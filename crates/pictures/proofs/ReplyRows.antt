@@ -142,13 +142,13 @@ length-counted es h (Counted.Number x) = refl
 length-counted es h (Counted.Refused f) = length-turned-down-with (λ n. n ∷ []) es h f
 
 pub length-reply : (g : Setting) (mem : List ℕ) (c : Call) → length (replyNumbers (reply g mem c)) ≡ 12
-unfolding replyNumbers reply readReply Calls.fetch eitherFetch besideClash
+unfolding replyNumbers reply readReply eitherFetch besideClash
 length-reply g mem (write w) = length-outcome (writeResult g mem w .answer)
 length-reply g mem (read (load v)) = length-loaded (Calls.load (g .plan) (g .W) (g .H) mem v)
-length-reply g mem (read (fetch n o out)) =
+length-reply g mem (read (fetch ring n o out)) =
     length-counted (told (g .book) (g .r) (g .plan) (g .W) (g .H) (length mem) n)
     (told-most (g .book) (g .r) (g .plan) (g .W) (g .H) (length mem) n)
-    (Calls.fetch (g .book) (g .r) (g .plan) (g .W) (g .H) mem n o out .answer .counted)
+    (eitherFetch ring (g .book) (g .r) (g .plan) (g .W) (g .H) mem n o out .answer .counted)
 
 pub row-long : {g : Setting} {mem : List ℕ} {c : Call} {old row next out : List ℕ} → OneMade g mem c old row next out → length row ≡ 12
 row-long {g} {mem} {c} made = ap length (made .row-is) ∙ length-reply g mem c

@@ -1,8 +1,10 @@
--- Every list of demand 3's calls has numbers: "any finite list, the empty one too, of stores, clears, loads and plain fetches".
+-- Every list of demand 3's calls has numbers: "any finite list, the empty one too, of stores, clears, loads and plain fetches", and of
+-- ring fetches (document 02, Card 5).
 -- So the code that takes lists in numbers (Lists) leaves none of them out.
 -- Assumes nothing.
 use Prim.Native.Nat.{ℕ, _-_, _*_, _≤_, _<_}
 use mathlib.Core.Path.{_≡_}
+use mathlib.Core.Bool.{cond}
 use mathlib.Core.Option.{none}
 use mathlib.Core.List.{List, [], _∷_, flatMap, List·Memᴰ}
 use lib.IntN.{ℤ, pos, negsuc}
@@ -21,13 +23,13 @@ abbrev pub numbersOf : Call → List ℕ
 numbersOf (write (store v x)) = 0 ∷ coordinateNumber (v .column) ∷ coordinateNumber (v .row) ∷ x ∷ 0 ∷ []
 numbersOf (write (clear k)) = 1 ∷ 0 ∷ 0 ∷ k ∷ 0 ∷ []
 numbersOf (read (load v)) = 2 ∷ coordinateNumber (v .column) ∷ coordinateNumber (v .row) ∷ 0 ∷ 0 ∷ []
-numbersOf (read (fetch n o out)) = 3 ∷ coordinateNumber (o .column) ∷ coordinateNumber (o .row) ∷ n ∷ length out ∷ []
+numbersOf (read (fetch ring n o out)) = cond ring 4 3 ∷ coordinateNumber (o .column) ∷ coordinateNumber (o .row) ∷ n ∷ length out ∷ []
 
 -- a fetch's output, and none of another call
 abbrev pub outputIn : Call → List ℕ
 outputIn (write w) = []
 outputIn (read (load v)) = []
-outputIn (read (fetch n o out)) = out
+outputIn (read (fetch ring n o out)) = out
 
 -- a number of 64 bits; a coordinate of 16 bits, -32768 to 32767
 abbrev pub Fits64 : ℕ → Type 0
@@ -47,7 +49,7 @@ abbrev pub Fits : Call → Type 0
 Fits (write (store v x)) = PixelFits v × (x < 65536)
 Fits (write (clear k)) = Fits64 k
 Fits (read (load v)) = PixelFits v
-Fits (read (fetch n o out)) = PixelFits o × Fits64 n × Fits64 (length out)
+Fits (read (fetch ring n o out)) = PixelFits o × Fits64 n × Fits64 (length out)
 
 abbrev pub AllFit : List Call → Type 0
 AllFit calls = (c : Call) → List·Memᴰ c calls → Fits c

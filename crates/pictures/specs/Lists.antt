@@ -1,7 +1,7 @@
 -- A list of demand 3's calls in numbers, five to a call, and its replies in numbers, twelve to a call.
 --
--- A call is its kind (0 a store, 1 a clear, 2 a load, 3 a fetch), its column and row, its word, bank or pattern, and the room
--- of a fetch. A column or row is the last 16 bits of its number in two's complement; the number is below 65536, also those of
+-- A call is its kind (0 a store, 1 a clear, 2 a load, 3 a plain fetch, 4 a ring fetch), its column and row, its word, bank or
+-- pattern, and the room of a fetch. A column or row is the last 16 bits of its number in two's complement; the number is below 65536, also those of
 -- a clear, which has no use for them. The fourth number of a load, and the fifth of every call but a fetch, are not looked at.
 -- Each fetch has the next `room` words of the outputs as "an output of its own".
 -- Assumes nothing.
@@ -40,7 +40,7 @@ callOf kind i j n out =
     cond (eqb kind 0) (write (store (at (coordinateOf i) (coordinateOf j)) (n % 65536)))
     (cond (eqb kind 1) (write (clear n))
     (cond (eqb kind 2) (read (load (at (coordinateOf i) (coordinateOf j))))
-    (read (fetch n (at (coordinateOf i) (coordinateOf j)) out))))
+    (read (fetch (eqb kind 4) n (at (coordinateOf i) (coordinateOf j)) out))))
 
 unfoldable pub roomOf : ℕ → ℕ → ℕ
 roomOf kind room = cond (ltb kind 3) 0 room
@@ -64,9 +64,9 @@ unfoldable pub callsOf : List ℕ → List ℕ → List Call
 unfolding callsFrom
 callsOf xs outs = callsFrom (length xs / 5) xs outs
 
--- The five numbers are those of a call: a kind up to 3, a column, a row and a store's word of 16 bits
+-- The five numbers are those of a call: a kind up to 4, a column, a row and a store's word of 16 bits
 unfoldable pub isCall : ℕ → ℕ → ℕ → ℕ → Bool
-isCall kind i j n = leb kind 3 && ltb i 65536 && ltb j 65536 && (leb 1 kind || ltb n 65536)
+isCall kind i j n = leb kind 4 && ltb i 65536 && ltb j 65536 && (leb 1 kind || ltb n 65536)
 
 unfoldable pub isCallAt : List ℕ → Bool
 unfolding isCall

@@ -63,21 +63,23 @@ pub(crate) fn start_answer(
     suits_answer(p, n, t, r)
 }
 
-// Whether a ring fetch is allowed. The bank count is formed in 32 bits, so that no division is wider.
+// Whether a ring fetch is allowed: a divides w, d divides h, and a divides b × (h/d), which has 32 bits.
 fn is_ring(p: Plan, w: u32, h: u32) -> bool
-    requires { ⌜ isPlan p ≡ true ⌝ }
+    requires { ⌜ (isPlan p ≡ true) × (h ≤ 4096) ⌝ }
     ensures { λ r. ⌜ r ≡ isRing p w h ⌝ }
 {
-    let banks = p.a * p.d;
-    if w % banks != 0 {
+    if w % p.a != 0 {
         return false;
     }
-    h % banks == 0
+    if h % p.d != 0 {
+        return false;
+    }
+    p.b * (h / p.d) % p.a == 0
 }
 
 // The edge: 14 for a pattern moved to (i, j), or 18 for a ring fetch.
 fn edge_outcome(ring: bool, t: Pattern, p: Plan, w: u32, h: u32, i: i16, j: i16) -> Outcome
-    requires { ⌜ (isPlan p ≡ true) × (t .used ≤ 64) ⌝ }
+    requires { ⌜ (isPlan p ≡ true) × (h ≤ 4096) × (t .used ≤ 64) ⌝ }
     ensures { λ r. ⌜ r ≡ outcomeOf (edgeTest ring p w h (moved t (at i j))) ⌝ }
 {
     if ring {

@@ -58,7 +58,7 @@ fn room_of(kind: u64, room: u64) -> u64
 fn is_call(kind: u64, i: u64, j: u64, n: u64) -> bool
     ensures { λ r. ⌜ r ≡ isCall kind i j n ⌝ }
 {
-    if 3 < kind {
+    if 4 < kind {
         return false;
     }
     if 65535 < i {
@@ -172,7 +172,7 @@ fn make_call(
     }
     let outcome = start.outcome;
     let positions = start.positions;
-    let counted = fetch_rest(outcome, false, t, p, w, h, mem, x, y, out);
+    let counted = fetch_rest(outcome, kind == 4, t, p, w, h, mem, x, y, out);
     fetched_row(FetchAnswer { counted, positions }, r)
 }
 

@@ -1,7 +1,7 @@
 -- Document 01, "Numbers for what is turned down": the number and the place of every refusal, what an answer says in
 -- this paper's numbers and values, and the table's conditions. Calls.antt has the order in which a call tests them.
 -- Assumes nothing.
-use Prim.Native.Nat.{ℕ, zero, suc, _+_, _*_, _%_}
+use Prim.Native.Nat.{ℕ, zero, suc, _+_, _*_, _/_, _%_}
 use mathlib.Core.Bool.{Bool, false, not, _&&_, _||_}
 use mathlib.Core.Option.{Option, none, some}
 use mathlib.Core.List.{List, [], _∷_}
@@ -256,10 +256,10 @@ unfoldable pub numberTest : ℕ → ℕ → Option Refusal
 unfolding whenever
 numberTest count n = whenever (leb count n) NoPattern
 
--- 18: "ring sides not multiples of N"
+-- 18 (document 02, Card 5): a ring fetch is allowed exactly if "a divides W, d divides H, and a divides b × (H/d). Number 18 is given
+-- exactly otherwise"
 unfoldable pub isRing : Plan → ℕ → ℕ → Bool
-unfolding banks
-isRing p W H = eqb (W % banks p) 0 && eqb (H % banks p) 0
+isRing p W H = eqb (W % p .a) 0 && eqb (H % p .d) 0 && eqb (p .b * (H / p .d) % p .a) 0
 
 unfoldable pub ringTest : Plan → ℕ → ℕ → Option Refusal
 unfolding whenever isRing

@@ -1,11 +1,12 @@
 -- Demand 3 over a list of calls, as document 01, "Banks and addresses", words it: "any finite list, the empty one too, of
 -- stores, clears, loads and plain fetches, under one plan that the finder gave for a book, with that book, one W and one H". Document
--- 02, Card 4: "with the finder's r in each fetch".
+-- 02, Card 4: "with the finder's r in each fetch". Card 5: "Ring fetches now stand in demand 3's list too: those not turned down also
+-- return the last stored words, read at the wrapped pixels."
 -- The calls are those of Calls.antt, which the contracts cite.
 -- Assumes nothing.
 use Prim.Native.Nat.{ℕ, _*_, _≤_, _<_}
 use mathlib.Core.Path.{_≡_}
-use mathlib.Core.Bool.{false, cond}
+use mathlib.Core.Bool.{Bool, true, false, cond}
 use mathlib.Core.Option.{Option, none, some}
 use mathlib.Core.List.{List, [], _∷_, _++_, map, List·Memᴰ}
 use lib.Dec.{eqb}
@@ -16,21 +17,21 @@ use Rattle.scope.specs.Numbers.{Answer, value, turnedDown, withPositions
 use Rattle.scope.specs.Cycles.{cycles, clashInFor}
 use Rattle.scope.specs.Search.{stateAfter, repliesOf}
 use Rattle.scope.specs.Calls as Calls
-use Rattle.scope.specs.Calls.{Result, Lent, lent, answered, wordTest, wholeBankTest, fetchTest, moved, find}
-use Rattle.scope.specs.promises.Meaning.{IsSide, Inside, AllInside}
+use Rattle.scope.specs.Calls.{Result, Lent, lent, answered, wordTest, wholeBankTest, fetchTest, moved, pixelsRead, find}
+use Rattle.scope.specs.promises.Meaning.{IsSide, Inside, AllInside, RingAllowed}
 use Rattle.scope.specs.declared.Plan.{Plan}
 use Rattle.scope.specs.declared.Book.{Book}
 use Rattle.scope.specs.declared.Refusal.{Refusal}
 use Rattle.scope.specs.declared.Outcome.{Outcome}
 
--- the calls that write the memory, and those that only read it
+-- the calls that write the memory, and those that only read it; a fetch is a ring fetch where `ring` is true, else a plain one
 pub data Write : Type 0 where
   store : Pixel → (word : ℕ) → Write
   clear : (bank : ℕ) → Write
 
 pub data Read : Type 0 where
   load : Pixel → Read
-  fetch : (pattern : ℕ) (position : Pixel) (output : List ℕ) → Read
+  fetch : (ring : Bool) (pattern : ℕ) (position : Pixel) (output : List ℕ) → Read
 
 pub data Call : Type 0 where
   write : Write → Call
@@ -55,12 +56,13 @@ unfolding Calls.store Calls.clear
 writeResult g mem (store v x) = Calls.store (g .plan) (g .W) (g .H) (lent mem) v x
 writeResult g mem (clear k) = Calls.clear (g .plan) (g .W) (g .H) (lent mem) k
 
+-- `eitherFetch false` is the plain fetch of Calls.antt, `eitherFetch true` its ring fetch
 unfoldable pub readReply : Setting → List ℕ → Read → Reply
-unfolding Calls.load Calls.fetch
+unfolding Calls.load Calls.eitherFetch
 readReply g mem (load v) = loaded (ofLoaded (Calls.load (g .plan) (g .W) (g .H) mem v))
-readReply g mem (fetch n o out) =
-    fetched (ofFetch (g .r) (Calls.fetch (g .book) (g .r) (g .plan) (g .W) (g .H) mem n o out .answer))
-    (Calls.fetch (g .book) (g .r) (g .plan) (g .W) (g .H) mem n o out .content)
+readReply g mem (fetch ring n o out) =
+    fetched (ofFetch (g .r) (Calls.eitherFetch ring (g .book) (g .r) (g .plan) (g .W) (g .H) mem n o out .answer))
+    (Calls.eitherFetch ring (g .book) (g .r) (g .plan) (g .W) (g .H) mem n o out .content)
 
 unfoldable pub reply : Setting → List ℕ → Call → Reply
 unfolding writeResult readReply
@@ -88,7 +90,7 @@ unfolding wordTest wholeBankTest fetchTest
 test g words (write (store v x)) = wordTest (g .plan) (g .W) (g .H) words v
 test g words (write (clear k)) = wholeBankTest (g .plan) (g .W) (g .H) words k
 test g words (read (load v)) = wordTest (g .plan) (g .W) (g .H) words v
-test g words (read (fetch n o out)) = fetchTest false (g .book) (g .r) (g .plan) (g .W) (g .H) words n o (length out)
+test g words (read (fetch ring n o out)) = fetchTest ring (g .book) (g .r) (g .plan) (g .W) (g .H) words n o (length out)
 
 -- the word at pixel v after a call that is not turned down, where it was `old` before: a store there sets it, a clear of
 -- the pixel's bank makes it 0
@@ -132,6 +134,11 @@ pub record LastStoredMeans : Type 0 where
       → lastStored g words (past ++ (write (clear k) ∷ later)) v ≡ 0
   pub never : (g : Setting) (words : ℕ) (v : Pixel) (calls : List Call) → Untouched g words v calls → lastStored g words calls v ≡ 0
 
+-- the pixels that a fetch reads: those of its pattern, moved, and wrapped by a ring fetch
+unfoldable pub pixelsFetched : Setting → (ring : Bool) → ℕ → Pixel → List Pixel
+unfolding pixelsRead moved patternAt
+pixelsFetched g ring n o = pixelsRead ring (g .W) (g .H) (moved (patternAt (g .book) n) o)
+
 -- a fetch of pattern n that is turned down; "10 also carries its clash"
 unfoldable pub refusedFetch : Setting → ℕ → Refusal → Answer ℕ
 unfolding clashInFor pixels patternAt
@@ -143,39 +150,45 @@ refusedFetch g n f =
 
 -- What call c is to give after the calls `past`: the refusal that the conditions tell, or what it is for, with the words last stored.
 unfoldable pub replyDue : Setting → ℕ → List Call → Call → Reply
-unfolding answered test refusedFetch lastStored moved overStart patternAt
+unfolding answered test refusedFetch lastStored pixelsFetched overStart
 replyDue g words past (write w) = wrote (answered (test g words (write w)) turnedDown (value tt))
 replyDue g words past (read (load v)) =
     loaded (answered (test g words (read (load v))) turnedDown (value (lastStored g words past v)))
-replyDue g words past (read (fetch n o out)) =
-    let vs : List Pixel = moved (patternAt (g .book) n) o in
+replyDue g words past (read (fetch ring n o out)) =
+    let vs : List Pixel = pixelsFetched g ring n o in
     fetched
-    (answered (test g words (read (fetch n o out))) (refusedFetch g n) (value (length vs)))
-    (answered (test g words (read (fetch n o out))) (λ r. out) (overStart (map (lastStored g words past) vs) out))
+    (answered (test g words (read (fetch ring n o out))) (refusedFetch g n) (value (length vs)))
+    (answered (test g words (read (fetch ring n o out))) (λ r. out) (overStart (map (lastStored g words past) vs) out))
 
--- What a call is given allows it: its pixel inside, its bank below N, or a pattern of the book wholly inside and room for it.
+-- "a ring fetch has 18 and no 14": what allows the pixels of a moved pattern
+abbrev pub EdgeAllowed : (ring : Bool) → Plan → ℕ → ℕ → List Pixel → Type 0
+EdgeAllowed false p W H vs = AllInside W H vs
+EdgeAllowed true p W H vs = RingAllowed p W H
+
+-- What a call is given allows it: its pixel inside, its bank below N, or a pattern of the book wholly inside, or sides that a ring fetch
+-- goes around, and room for it.
 abbrev pub Allowed : Setting → Call → Type 0
 Allowed g (write (store v x)) = Inside (g .W) (g .H) v
 Allowed g (write (clear k)) = k < banks (g .plan)
 Allowed g (read (load v)) = Inside (g .W) (g .H) v
-Allowed g (read (fetch n o out)) =
+Allowed g (read (fetch ring n o out)) =
     (n < g .book .count)
-    × AllInside (g .W) (g .H) (moved (patternAt (g .book) n) o)
+    × EdgeAllowed ring (g .plan) (g .W) (g .H) (moved (patternAt (g .book) n) o)
     × (patternAt (g .book) n .used ≤ length out)
 
 -- the banks that the words of a fetch come from, in order
 unfoldable pub banksRead : Setting → Call → List ℕ
-unfolding bankOf moved patternAt
+unfolding bankOf pixelsFetched
 banksRead g (write w) = []
 banksRead g (read (load v)) = []
-banksRead g (read (fetch n o out)) = map (bankOf (g .plan)) (moved (patternAt (g .book) n) o)
+banksRead g (read (fetch ring n o out)) = map (bankOf (g .plan)) (pixelsFetched g ring n o)
 
 -- and the cycles that they come in
 unfoldable pub cyclesRead : Setting → Call → List ℕ
 unfolding cycles pixels patternAt
 cyclesRead g (write w) = []
 cyclesRead g (read (load v)) = []
-cyclesRead g (read (fetch n o out)) = cycles (g .plan) (pixels (patternAt (g .book) n))
+cyclesRead g (read (fetch ring n o out)) = cycles (g .plan) (pixels (patternAt (g .book) n))
 
 -- "A fetch takes at most one word from each bank in each cycle, that is, no two of its words have both bank and cycle in common and each
 -- cycle is below r"

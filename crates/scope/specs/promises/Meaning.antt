@@ -1,7 +1,7 @@
 -- What the lists and tests of the definitions mean, in plain numbers, and that a legal call is never refused. Statements;
 -- Promises.antt has them all. A small letter is a test that computes, as `isPlan`, a capital what it means, as `IsPlan`.
 -- Assumes nothing.
-use Prim.Native.Nat.{ℕ, suc, _+_, _*_, _≤_, _<_}
+use Prim.Native.Nat.{ℕ, suc, _+_, _*_, _/_, _≤_, _<_}
 use mathlib.Core.Path.{_≡_}
 use mathlib.Core.Logic.{_↔_}
 use mathlib.Core.Bool.{true}
@@ -127,10 +127,12 @@ LowerMeans = (p q : Pixel) → (lower p q ≡ true) ↔ Lower p q
 abbrev pub InsideMeans : Type 0
 InsideMeans = (W H : ℕ) (v : Pixel) → (inside W H v ≡ true) ↔ Inside W H v
 
--- A ring fetch "is allowed exactly if W and H are both multiples of N"
+-- Document 02, Card 5: a ring fetch is allowed exactly if "a divides W, d divides H, and a divides b × (H/d)". (That (W, 0) and (0, H)
+-- are then in the lattice: RingKeepsBanks.)
 pub record RingAllowed (p : Plan) (W H : ℕ) : Type 0 where
-  pub W-multiple : Multiple (banks p) W
-  pub H-multiple : Multiple (banks p) H
+  pub W-multiple : Multiple (p .a) W
+  pub H-multiple : Multiple (p .d) H
+  pub shift-multiple : Multiple (p .a) (p .b * (H / p .d))
 
 -- a chain of tests gives the first refusal whose condition holds, and none exactly where no condition holds
 pub record ChainIsFirst : Type 0 where

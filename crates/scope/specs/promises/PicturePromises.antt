@@ -10,6 +10,7 @@ use mathlib.Core.List.{List, map}
 use lib.IntN.{ℤ, pos, _-ℤ_, _*ℤ_}
 use lib.ListN.{length, getD, drop}
 use Rattle.integers.specs.Division.{IsDivision}
+use Rattle.integers.specs.Gcd.{Multiple}
 use Rattle.scope.specs.Plans.{Pixel, at, minus, patternAt, pixels, banks, InLattice}
 use Rattle.scope.specs.Banks.{bankOf, addressOf, depthOf, wordOf, wrapped}
 use Rattle.scope.specs.Cycles.{suitsFor, cycleOf, cycles, LongClash}
@@ -215,9 +216,21 @@ pub record RefusalsChangeNothing : Type 0 where
       (p : Plan) (W H : ℕ) (rs : List PixelRecord) (n i : ℕ) (c : Option LongClash)
       → ofOutcome (fillRecords p W H rs .answer) ≡ refusal n i c → fillRecords p W H rs .content ≡ rs
 
--- Document 000, Theorem 2.6, for both sides: where W and H are multiples of N, wrapping keeps the bank, and lands inside
+-- Document 02, Card 5: what a ring fetch goes by.
 pub record RingKeepsBanks : Type 0 where
+  -- it is "allowed exactly if (W, 0) and (0, H) are in the lattice"
+  pub in-lattice :
+      (p : Plan) (W H : ℕ) → IsPlan p
+      → RingAllowed p W H ↔ (InLattice p (at (pos W) (pos 0)) × InLattice p (at (pos 0) (pos H)))
+  -- a wrapped pixel has the bank of the pixel exactly where it is allowed, and lands inside
   pub same-bank :
-      (p : Plan) (W H : ℕ) → IsPlan p → 1 ≤ W → 1 ≤ H → RingAllowed p W H
-      → (v : Pixel) → bankOf p (wrapped W H v) ≡ bankOf p v
+      (p : Plan) (W H : ℕ) → IsPlan p → 1 ≤ W → 1 ≤ H
+      → RingAllowed p W H ↔ ((v : Pixel) → bankOf p (wrapped W H v) ≡ bankOf p v)
   pub lands : (W H : ℕ) → 1 ≤ W → 1 ≤ H → (v : Pixel) → Inside W H (wrapped W H v)
+  -- so no two words of a ring fetch have both bank and cycle in common, for each r
+  pub in-cycles :
+      (r : ℕ) (p : Plan) (W H : ℕ) → IsPlan p → 1 ≤ W → 1 ≤ H → RingAllowed p W H
+      → (t : Pattern) (o : Pixel) → suitsFor r p (pixels t) ≡ true
+      → InCycles r (map (bankOf p) (ringMoved W H t o)) (cycles p (pixels t))
+  -- document 000, Theorem 2.6, for both sides: where W and H are multiples of N it is allowed
+  pub multiples : (p : Plan) (W H : ℕ) → IsPlan p → Multiple (banks p) W → Multiple (banks p) H → RingAllowed p W H

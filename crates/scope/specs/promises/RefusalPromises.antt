@@ -123,7 +123,7 @@ pub record CallsRefuse : Type 0 where
   pub ring-fetches :
       (book : Book) (r : ℕ) (p : Plan) (W H : ℕ) (mem : List ℕ) (n : ℕ) (o : Pixel) (out : List ℕ)
       → FetchRefused book r p W H (length mem) n (ofFetch r (ringFetch book r p W H mem n o out .answer))
-  -- "It is allowed exactly if W and H are both multiples of N" (PictureCalls.ring-fetches is the other half)
+  -- Card 5: "Number 18 is given exactly otherwise, in its old place" (PictureCalls.ring-fetches is the other half)
   pub ring-18 :
       (book : Book) (r : ℕ) (p : Plan) (W H : ℕ) (mem : List ℕ) (n : ℕ) (o : Pixel) (out : List ℕ)
       → LegalFetch book r p W H (length mem) n → (RingAllowed p W H → ⊥)

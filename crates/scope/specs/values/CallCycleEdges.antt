@@ -4,6 +4,7 @@
 -- Assumes nothing.
 use Prim.Native.Nat.{ℕ}
 use mathlib.Core.Path.{refl}
+use mathlib.Core.Bool.{false}
 use mathlib.Core.List.{List, [], _∷_, _++_, map, flatMap}
 use lib.IntN.{ℤ, pos}
 use lib.ListN.{replicate}
@@ -232,8 +233,8 @@ stores = Demand.write (Demand.store (px 0 0) 5) ∷ Demand.write (Demand.store (
 fetches : List Demand.Call
 unfolding px
 fetches =
-    Demand.read (Demand.fetch 0 (px 0 0) (3 ∷ 3 ∷ 3 ∷ 3 ∷ [])) ∷ Demand.read (Demand.fetch 0 (px 1 0) (3 ∷ []))
-    ∷ Demand.read (Demand.fetch 1 (px 0 0) (3 ∷ [])) ∷ Demand.read (Demand.fetch 0 (px 0 0) (3 ∷ [])) ∷ []
+    Demand.read (Demand.fetch false 0 (px 0 0) (3 ∷ 3 ∷ 3 ∷ 3 ∷ [])) ∷ Demand.read (Demand.fetch false 0 (px 1 0) (3 ∷ []))
+    ∷ Demand.read (Demand.fetch false 1 (px 0 0) (3 ∷ [])) ∷ Demand.read (Demand.fetch false 0 (px 0 0) (3 ∷ [])) ∷ []
 
 -- What they reply: words, 14, 17 and 16; at r = 9 each fetch 20; under 1, 0, 1 each of pattern 0 its 10 with the clash. The conditions
 -- tell the same. The words come from the banks 0, 1, 0 in the cycles 0, 0, 1.

@@ -186,7 +186,7 @@ ringOrdersFor =
     ∷ row (ringAnswerFor 9 (strip 10 ∷ []) (plan 1 0 1) 10 1 10 0 (px 9 9) []) (refused 20 0)
     ∷ row (ringAnswerFor 2 three (plan 1 1 1) 2 2 4 0 (px 9 9) []) (refused 11 0)
     ∷ row (fetchedBy 2 (ringFetch unusedThree 2 (plan 1 0 1) 2 2 (upTo 4) 1 (px 9 9) [] .answer)) (refused 17 0)
-    ∷ row (ringAnswerFor 2 three (plan 1 0 2) 3 2 6 0 (px 0 0) []) (crowds 0 (0 ∷ 1 ∷ 2 ∷ []))
+    ∷ row (ringAnswerFor 2 three (plan 1 0 2) 3 3 12 0 (px 0 0) []) (crowds 0 (0 ∷ 1 ∷ 2 ∷ []))
     ∷ row (ringAnswerFor 2 three (plan 2 0 1) 3 2 8 0 (px 0 0) []) (refused 18 0)
     ∷ row (ringAnswerFor 2 (two ∷ []) (plan 1 0 1) 2 2 4 0 (px 9 9) (8 ∷ [])) (refused 16 0)
     ∷ row (ringAnswerFor 2 (two ∷ []) (plan 1 0 1) 2 2 4 0 (px 9 9) (8 ∷ 8 ∷ [])) (is (2 ∷ []))

@@ -3,6 +3,7 @@
 -- Assumes nothing.
 use Prim.Native.Nat.{ℕ, _<_}
 use mathlib.Core.Path.{_≡_, refl, _∙_}
+use mathlib.Core.Bool.{false}
 use mathlib.Core.Option.{none}
 use mathlib.Core.List.{List, [], _∷_, _++_}
 use native.Mathlib.Omega.{arith}
@@ -30,7 +31,7 @@ stores = write (store (at (pos 0) (pos 0)) 8) ∷ write (store (at (pos 1) (pos 
 
 unfoldable pub last : Call
 unfolding at
-last = read (fetch 0 (at (pos 0) (pos 0)) (5 ∷ 5 ∷ 5 ∷ []))
+last = read (fetch false 0 (at (pos 0) (pos 0)) (5 ∷ 5 ∷ 5 ∷ []))
 
 -- What demand 3 says of them.
 pub record ReadOffInCycles : Type 0 where

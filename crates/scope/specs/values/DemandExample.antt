@@ -3,12 +3,13 @@
 -- Assumes nothing.
 use Prim.Native.Nat.{ℕ}
 use mathlib.Core.Path.{_≡_, refl, _∙_, ap}
+use mathlib.Core.Bool.{true, false}
 use mathlib.Core.Option.{none}
 use mathlib.Core.List.{List, [], _∷_, _++_}
 use native.Mathlib.Omega.{arith}
 use lib.IntN.{pos, natAbs}
 use lib.ListN.{length, getD, drop}
-use Rattle.scope.specs.Plans.{Pixel, at, plan, banks}
+use Rattle.scope.specs.Plans.{Pixel, at, plan, banks, patternAt}
 use Rattle.scope.specs.Banks.{bankOf, wordOf, wordIn}
 use Rattle.scope.specs.Books.{bookOf}
 use Rattle.scope.specs.Numbers.{value}
@@ -38,12 +39,21 @@ stores = write (store (at (pos 0) (pos 1)) 8) ∷ write (store (at (pos 1) (pos 
 
 unfoldable pub last : Call
 unfolding at
-last = read (fetch 0 (at (pos 0) (pos 1)) (5 ∷ 5 ∷ 5 ∷ []))
+last = read (fetch false 0 (at (pos 0) (pos 1)) (5 ∷ 5 ∷ 5 ∷ []))
+
+-- and a ring fetch of it from (1, 3), which wraps to (1, 1) and (0, 1)
+unfoldable pub around : Call
+unfolding at
+around = read (fetch true 0 (at (pos 1) (pos 3)) (5 ∷ 5 ∷ 5 ∷ []))
 
 -- What demand 3 says of them.
 pub record ReadOff : Type 0 where
   -- the fetch brings the stored words, and leaves the third of its output
   pub words-fetched : reply (sized 2 2) (run (sized 2 2) longer stores) last ≡ fetched (value 2) (8 ∷ 9 ∷ 5 ∷ [])
+  -- so does the ring fetch, from the wrapped pixels; it is taken there, and not in a picture of 1 by 1, as 2 does not divide 1
+  pub words-around : reply (sized 2 2) (run (sized 2 2) longer stores) around ≡ fetched (value 2) (9 ∷ 8 ∷ 5 ∷ [])
+  pub around-taken : test (sized 2 2) 5 around ≡ none
+  pub around-refused : test (sized 1 1) 2 around ≡ none → ⊥
   -- bank 1 may be cleared; the pixel (2, 0) may not be loaded, and in a picture without a row nothing is taken
   pub clear-taken : test (sized 2 2) 5 (write (clear 1)) ≡ none
   pub outside-refused : test (sized 2 2) 5 (read (load (at (pos 2) (pos 0)))) ≡ none → ⊥
@@ -75,12 +85,29 @@ module _ (demand-3 : Demand3) where
   alone : (c : Call) → CallHolds (sized 2 2) longer [] c
   alone c = two-by-two (c ∷ []) .each [] c [] refl
 
-  after-stores : CallHolds (sized 2 2) longer stores last
-  after-stores = two-by-two (stores ++ (last ∷ [])) .each stores last [] refl
+  after-stores : (c : Call) → CallHolds (sized 2 2) longer stores c
+  after-stores c = two-by-two (stores ++ (c ∷ [])) .each stores c [] refl
 
   due : replyDue (sized 2 2) 5 stores last ≡ fetched (value 2) (8 ∷ 9 ∷ 5 ∷ [])
   unfolding sized stores last replyDue
   due = refl
+
+  due-around : replyDue (sized 2 2) 5 stores around ≡ fetched (value 2) (9 ∷ 8 ∷ 5 ∷ [])
+  unfolding sized stores around replyDue
+  due-around = refl
+
+  may-go-around : test (sized 2 2) 5 around ≡ none
+  unfolding sized around patternAt
+  may-go-around =
+      let used : patternAt ((sized 2 2) .book) 0 .used ≡ 2 = refl in
+      alone around .taken (omega arith, omega arith) (omega arith, omega arith)
+      (omega arith, record { W-multiple = (1, refl); H-multiple = (2, refl); shift-multiple = (0, refl) }, omega (arith, used))
+
+  not-around : test (sized 1 1) 2 around ≡ none → ⊥
+  unfolding sized around
+  not-around e =
+      let (k, W-is) = one-by-one (around ∷ []) .each [] around [] refl .only-legal e .2 .1 .W-multiple in
+      absurd (omega (arith, W-is))
 
   stored-last : lastStored (sized 2 2) 5 stores (at (pos 1) (pos 1)) ≡ 9
   unfolding sized stores lastStored at
@@ -106,7 +133,7 @@ module _ (demand-3 : Demand3) where
 
   two-banks : bankOf (plan 2 0 1) (at (pos 0) (pos 1)) ≡ bankOf (plan 2 0 1) (at (pos 1) (pos 1)) → ⊥
   unfolding sized last banksRead cyclesRead
-  two-banks same = after-stores .in-cycles fetch-taken .apart 0 1 (omega arith) (omega arith) same refl
+  two-banks same = after-stores last .in-cycles fetch-taken .apart 0 1 (omega arith) (omega arith) same refl
 
   corner : Inside 2 2 (at (pos 1) (pos 1))
   unfolding at
@@ -134,7 +161,10 @@ module _ (demand-3 : Demand3) where
   pub read-off : ReadOff
   read-off =
       record {
-        words-fetched = after-stores .agrees ∙ due;
+        words-fetched = after-stores last .agrees ∙ due;
+        words-around = after-stores around .agrees ∙ due-around;
+        around-taken = may-go-around;
+        around-refused = not-around;
         clear-taken = may-clear;
         outside-refused = not-loaded;
         no-row-refused = nothing-taken;

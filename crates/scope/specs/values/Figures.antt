@@ -1,5 +1,5 @@
 -- Document 01, "Figures to agree with": the starred figures and the examples of the table of refusals, row by row, the figures
--- that document 02 changes or adds, those of its Card 4 worked out by hand, and the one theorem that checks the definitions on them
+-- that document 02 changes or adds, those of its Cards 4 and 5 worked out by hand, and the one theorem that checks the definitions on them
 -- by computation. The other files of this folder have more rows.
 -- Card 1: "The 2 by 2 square of pixels moves from 4, 2, 1 to 2, 0, 2; the other figures in document 01 are unaffected."
 -- Assumes nothing.
@@ -9,7 +9,7 @@ use lib.IntN.{pos}
 use Rattle.scope.specs.Plans.{at, plan}
 use Rattle.scope.specs.Calls.{readBook, normal, find, bank, depth, address, locate, load}
 use Rattle.scope.specs.Program.{ascii, programText}
-use Rattle.scope.specs.values.Rows.{Row, Hold, row, is, refused, clashes, crowds, planned, counted, loaded, located, neg, px, one, two, three, threeAndThree, gap, square, cross, fivePixels, sixPairs, finds, findsFor, reads, checks, checksFor, fetches, rings, cyclesAnswer, cyclesLeft}
+use Rattle.scope.specs.values.Rows.{Row, Hold, row, is, refused, clashes, crowds, planned, counted, loaded, located, neg, px, one, two, three, threeAndThree, gap, square, cross, fivePixels, sixPairs, finds, findsFor, reads, checks, checksFor, fetches, rings, ringAnswerFor, ringFetchedFor, cyclesAnswer, cyclesLeft}
 
 starred : List Row
 unfolding row is refused finds planned counted located normal bank depth address locate plan one three threeAndThree gap square cross sixPairs px at neg
@@ -96,9 +96,33 @@ card4 =
     ∷ row (cyclesLeft 2 cross (plan 3 1 1) 0 (7 ∷ 7 ∷ 7 ∷ 7 ∷ 7 ∷ 7 ∷ [])) (is (0 ∷ 0 ∷ 0 ∷ 1 ∷ 1 ∷ 7 ∷ []))
     ∷ []
 
+-- Document 02, Card 5: "W = 12 and H = 6, and with plan 6, 0, 2" the ring fetch is served; "Its example stays, as 5 does not divide 7"
+-- (18 in the table above). The memory holds 1, 2, 3, .. By hand:
+-- The square at (11, 5) is (11, 5), (0, 5), (11, 0), (0, 0). Their banks are 11, 6, 5, 0 and their addresses 5, 4, 1, 0, at depth 6.
+-- Then one part of the condition fails alone: a and W, d and H, a and b × (H/d), each beside sides that are served.
+-- 6, 0, 2 would be served on 2 by 6 if W and H were exchanged, and 2, 0, 3 not on 2 by 3 if d had to divide W.
+-- Last come sides far below N = 64 and N = 1024.
+card5 : List Row
+unfolding row is refused ringAnswerFor ringFetchedFor plan px one square
+card5 =
+    row (ringAnswerFor 1 square (plan 6 0 2) 12 6 72 0 (px 11 5) (8 ∷ 8 ∷ 8 ∷ 8 ∷ 8 ∷ [])) (is (4 ∷ []))
+    ∷ row (ringFetchedFor 1 square (plan 6 0 2) 12 6 72 0 (px 11 5) (8 ∷ 8 ∷ 8 ∷ 8 ∷ 8 ∷ [])) (is (72 ∷ 41 ∷ 32 ∷ 1 ∷ 8 ∷ []))
+    ∷ row (ringAnswerFor 1 (one ∷ []) (plan 5 2 1) 7 5 50 0 (px 0 0) (8 ∷ [])) (refused 18 0)
+    ∷ row (ringAnswerFor 1 (one ∷ []) (plan 4 2 2) 8 4 32 0 (px 0 0) (8 ∷ [])) (is (1 ∷ []))
+    ∷ row (ringAnswerFor 1 (one ∷ []) (plan 4 2 2) 6 4 32 0 (px 0 0) (8 ∷ [])) (refused 18 0)
+    ∷ row (ringAnswerFor 1 (one ∷ []) (plan 4 2 2) 8 5 48 0 (px 0 0) (8 ∷ [])) (refused 18 0)
+    ∷ row (ringAnswerFor 1 (one ∷ []) (plan 4 2 2) 8 6 48 0 (px 0 0) (8 ∷ [])) (refused 18 0)
+    ∷ row (ringAnswerFor 1 (one ∷ []) (plan 6 0 2) 2 6 36 0 (px 0 0) (8 ∷ [])) (refused 18 0)
+    ∷ row (ringAnswerFor 1 (one ∷ []) (plan 6 0 2) 6 2 12 0 (px 0 0) (8 ∷ [])) (is (1 ∷ []))
+    ∷ row (ringAnswerFor 1 (one ∷ []) (plan 2 0 3) 2 3 6 0 (px 0 0) (8 ∷ [])) (is (1 ∷ []))
+    ∷ row (ringAnswerFor 1 (one ∷ []) (plan 8 4 8) 8 16 128 0 (px 0 0) (8 ∷ [])) (is (1 ∷ []))
+    ∷ row (ringAnswerFor 1 (one ∷ []) (plan 8 4 8) 8 8 64 0 (px 0 0) (8 ∷ [])) (refused 18 0)
+    ∷ row (ringFetchedFor 1 square (plan 32 0 32) 32 32 1024 0 (px 31 31) (8 ∷ 8 ∷ 8 ∷ 8 ∷ [])) (is (1024 ∷ 993 ∷ 32 ∷ 1 ∷ []))
+    ∷ []
+
 figures : List Row
-unfolding starred examples card3 card4
-figures = starred ++ examples ++ card3 ++ card4
+unfolding starred examples card3 card4 card5
+figures = starred ++ examples ++ card3 ++ card4 ++ card5
 
 figures-hold : Hold figures
 unfolding figures

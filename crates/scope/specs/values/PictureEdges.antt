@@ -3,6 +3,7 @@
 -- Assumes nothing.
 use Prim.Native.Nat.{ℕ}
 use mathlib.Core.Path.{refl}
+use mathlib.Core.Bool.{false}
 use mathlib.Core.List.{List, [], _∷_, _++_, map, flatMap}
 use lib.IntN.{ℤ, pos}
 use Rattle.scope.specs.Plans.{Pixel, at, plan}
@@ -55,12 +56,12 @@ calls : List Demand.Call
 unfolding px
 calls =
     Demand.write (Demand.store (px 1 0) 5) ∷ Demand.write (Demand.store (px 1 1) 6) ∷ Demand.write (Demand.store (px 2 0) 7) ∷ Demand.write (Demand.clear 2) ∷ Demand.write (Demand.store (px 0 1) 8)
-    ∷ Demand.read (Demand.fetch 0 (px 0 1) []) ∷ Demand.write (Demand.clear 1) ∷ Demand.write (Demand.store (px 1 1) 9) ∷ []
+    ∷ Demand.read (Demand.fetch false 0 (px 0 1) []) ∷ Demand.write (Demand.clear 1) ∷ Demand.write (Demand.store (px 1 1) 9) ∷ []
 
 -- and two reads to make after them
 reads : List Demand.Call
 unfolding px
-reads = Demand.read (Demand.load (px 0 1)) ∷ Demand.read (Demand.fetch 0 (px 0 1) (3 ∷ 3 ∷ 3 ∷ [])) ∷ []
+reads = Demand.read (Demand.load (px 0 1)) ∷ Demand.read (Demand.fetch false 0 (px 0 1) (3 ∷ 3 ∷ 3 ∷ [])) ∷ []
 
 -- The word of a pixel; store, load, clear and sum.
 storing : List Row
@@ -104,16 +105,18 @@ fetching-hold : Hold fetching
 unfolding fetching
 fetching-hold = refl
 
--- Ring fetch: past the edges on either side, W and H that differ, one side no multiple.
+-- Ring fetch: past the edges on either side, W and H that differ, H no multiple of N, W none of a. (More: RingEdges.)
 ringFetching : List Row
 unfolding row is refused plan two px at neg ringFetched ringAnswer
 ringFetching =
     row (ringFetched (two ∷ []) (plan 2 0 1) 2 2 4 0 (at (neg 1) (neg 1)) (8 ∷ 8 ∷ 8 ∷ [])) (is (4 ∷ 2 ∷ 8 ∷ []))
     ∷ row (ringFetched (two ∷ []) (plan 2 0 1) 2 4 8 0 (px 1 6) (8 ∷ 8 ∷ [])) (is (7 ∷ 3 ∷ []))
     ∷ row (ringAnswer (two ∷ []) (plan 2 0 1) 2 4 8 0 (px 1 6) (8 ∷ 8 ∷ [])) (is (2 ∷ []))
-    ∷ row (ringAnswer (two ∷ []) (plan 2 0 1) 2 3 8 0 (px 0 0) (8 ∷ 8 ∷ [])) (refused 18 0)
+    ∷ row (ringAnswer (two ∷ []) (plan 2 0 1) 2 3 8 0 (px 0 0) (8 ∷ 8 ∷ [])) (is (2 ∷ []))
+    ∷ row (ringAnswer (two ∷ []) (plan 2 0 1) 3 2 8 0 (px 0 0) (8 ∷ 8 ∷ [])) (refused 18 0)
     ∷ row (ringAnswer (two ∷ []) (plan 2 0 1) 2 2 4 0 (px 0 0) (8 ∷ [])) (refused 16 0)
-    ∷ row (ringFetched (two ∷ []) (plan 2 0 1) 2 3 8 0 (px 0 0) (8 ∷ 8 ∷ [])) (is (8 ∷ 8 ∷ []))
+    ∷ row (ringFetched (two ∷ []) (plan 2 0 1) 2 3 8 0 (px 0 0) (8 ∷ 8 ∷ [])) (is (1 ∷ 4 ∷ []))
+    ∷ row (ringFetched (two ∷ []) (plan 2 0 1) 3 2 8 0 (px 0 0) (8 ∷ 8 ∷ [])) (is (8 ∷ 8 ∷ []))
     ∷ []
 
 ringFetching-hold : Hold ringFetching

@@ -6,7 +6,7 @@ use lib.ListN.{length}
 use borrow.Author.Needs.{needs}
 use Rattle.scope.specs.Plans.{at}
 use Rattle.scope.specs.Calls.{pictureTest, moved, edgeTest}
-use mathlib.Core.Path.{_≡_, sym, _∙_, ap}
+use mathlib.Core.Path.{_≡_, ap}
 use Rattle.scope.proofs.PlanFacts.{pixel-handed}
 use Rattle.scope.proofs.PlanFacts.{is-plan-iff}
 use Rattle.book.specs.Scan.{outcomeOf}
@@ -41,7 +41,9 @@ edge-answer :
 edge-answer c = let f = begun (c .before) .fits in rw (pixel-handed (f .i) (f .j)) at (c .edge-outcome .ensures)
 
 edge-outcome-requires : tie.Need-edge-outcome-requires
-edge-outcome-requires c κs = (is-plan-iff _ .1 (picture-test-iff _ _ _ _ .0 (shown c .0) .plan), shown c .1)
+edge-outcome-requires c κs =
+    let here = picture-test-iff _ _ _ _ .0 (shown c .0) in
+    (is-plan-iff _ .1 (here .plan), here .H-side .1, shown c .1)
 
 returns-2 : tie.Need-returns-2
 returns-2 c =
