@@ -2,7 +2,7 @@
 -- Assumes nothing.
 use Prim.Native.Nat.{_≤_}
 use mathlib.Core.Path.{_≡_, refl, _∙_}
-use mathlib.Core.Logic.{Iff·trans}
+use mathlib.Core.Logic.{_↔_, Iff·trans}
 use mathlib.Core.Bool.{true}
 use mathlib.Core.List.{[], _∷_}
 use lib.IntN.{ℤ, pos, negsuc, negℤ, _+ℤ_, _*ℤ_, _-ℤ_}
@@ -117,13 +117,16 @@ module _ (p : Plan) (d-least : 1 ≤ p .d) (v : Pixel) where
             refl);
       }
 
+  pub lattice-by-divisors : (Divides (p .d) (v .row) × Divides (p .a) (unslanted p v)) ↔ InLattice p v
+  lattice-by-divisors = (λ (j, i). lattice-of-divisors j i, λ c. (row-of-lattice p c, unslanted-of-lattice c))
+
 -- The test of the lattice says exactly that a pixel is a combination of (a, 0) and (b, d).
 pub lattice-means : LatticeMeans
 unfolding latticeTest
 lattice-means p a-least d-least v =
     Iff·trans
     (and-iff _ _ (divides-iff (p .d) d-least (v .row)) (divides-iff (p .a) a-least (unslanted p v)))
-    (λ (j, i). lattice-of-divisors p d-least v j i, λ c. (row-of-lattice p c, unslanted-of-lattice p d-least v c))
+    (lattice-by-divisors p d-least v)
 
 -- The test does not depend on which of two pixels is taken from the other.
 pub lattice-symmetric :

@@ -9,7 +9,7 @@ use lib.IntN.{ℤ, pos, negsuc, negℤ, _*ℤ_, _-ℤ_}
 use Rattle.integers.specs.Gcd.{Multiple}
 use Rattle.integers.specs.Division.{floorDiv, floorMod}
 use Rattle.integers.proofs.Ring.{ring, linear, _·_, reify}
-use Rattle.integers.proofs.Divisions.{Divides, division, remainder-below, remainder-is, cancel-factor, quotient-is, quotient-of-pos, quotient-of-multiple, divides-multiple, multiple-divides}
+use Rattle.integers.proofs.Divisions.{Divides, division, remainder-below, remainder-zero-iff-divides, quotient-of-multiple, divides-multiple, multiple-divides}
 use Rattle.scope.specs.Plans.{Pixel, at, minus, pixels, banks, Combination, InLattice}
 use Rattle.scope.specs.Banks.{bankOf, wrapped}
 use Rattle.scope.specs.Cycles.{suitsFor, cycles}
@@ -20,7 +20,7 @@ use Rattle.scope.specs.promises.PicturePromises.{RingKeepsBanks}
 use Rattle.scope.specs.declared.Plan.{Plan}
 use Rattle.scope.specs.declared.Pattern.{Pattern}
 use Rattle.checks.proofs.Lists.{mem-map}
-use Rattle.lattice.proofs.Membership.{combination-of-combinations, row-of-lattice}
+use Rattle.lattice.proofs.Membership.{combination-of-combinations, unslanted, lattice-by-divisors}
 use Rattle.lattice.proofs.SameBank.{same-bank-means-lattice, lattice-means-same-bank}
 use Rattle.lattice.proofs.Apart.{fetched-in-cycles}
 
@@ -31,9 +31,22 @@ across W = at (pos W) (pos 0)
 abbrev down : ℕ → Pixel
 down H = at (pos 0) (pos H)
 
--- 0 is a multiple of each side
+-- 0 is a multiple of each number, and z is one where it is s times one
 none-of : (n : ℕ) → pos 0 ≡ pos 0 *ℤ pos n
 none-of n = ring (pos n ∷ []) (search reify depth 40 fits 9000) refl
+
+none-divided : (n : ℕ) → Divides n (pos 0)
+none-divided n = record { times = pos 0; is = none-of n }
+
+once : (n : ℕ) → pos n ≡ pos 1 *ℤ pos n
+once n = ring (pos n ∷ []) (search reify depth 40 fits 9000) refl
+
+divides-times : {g : ℕ} {y z : ℤ} (s : ℤ) → z ≡ s *ℤ y → Divides g y → Divides g z
+divides-times {g} {y} {z} s e w =
+    record {
+      times = s *ℤ w .times;
+      is = linear ((pos 1 · e) ∷ (s · w .is) ∷ []) (ring (y ∷ z ∷ s ∷ w .times ∷ pos g ∷ []) (search reify depth 40 fits 9000) refl);
+    }
 
 -- the lattice has every vector with both coordinates multiples of N: (x × a × d, y × a × d) is x × d - y × b times (a, 0)
 -- and y × a times (b, d)
@@ -54,63 +67,44 @@ abbrev BothSteps : Plan → ℕ → ℕ → Type 0
 BothSteps p W H = InLattice p (across W) × InLattice p (down H)
 
 module _ (p : Plan) (plan : IsPlan p) (W H : ℕ) where
-  -- W = q × a makes (W, 0) q times (a, 0); H = k × d and b × k = s × a make (0, H) k times (b, d) less s times (a, 0)
+  -- document 01's test of the lattice at (W, 0) asks that a divides W less b × (0/d), and at (0, H) that it divides 0 less b × (H/d)
+  at-across : unslanted p (across W) ≡ pos W
+  unfolding at none-divided
+  at-across =
+      linear ((negℤ (pos (p .b)) · quotient-of-multiple (p .d) (plan .d-least) (none-divided (p .d))) ∷ [])
+      (ring (pos W ∷ pos (p .b) ∷ floorDiv (pos 0) (p .d) ∷ []) (search reify depth 40 fits 9000) refl)
+
+  at-down : unslanted p (down H) ≡ negsuc 0 *ℤ pos (p .b * (H / p .d))
+  unfolding at floorDiv
+  at-down = ring (pos (p .b) ∷ pos (H / p .d) ∷ []) (search reify depth 40 fits 9000) refl
+
+  -- the three parts are that test at both steps
   steps-in-lattice : RingAllowed p W H → BothSteps p W H
   unfolding at
-  steps-in-lattice allowed =
-      let (q, W-is) = allowed .W-multiple in
-      let (s, shift-is) = allowed .shift-multiple in
-      let rows-of : Divides (p .d) (pos H) = multiple-divides (p .d) H (allowed .H-multiple) in
-      let k : ℤ = rows-of .times in
-      let k-is : pos (H / p .d) ≡ k = sym (quotient-of-pos H (p .d)) ∙ quotient-of-multiple (p .d) (plan .d-least) rows-of in (
-        record {
-          m = pos q;
-          n = pos 0;
-          columns =
-              linear ((pos 1 · ap pos W-is) ∷ [])
-              (ring (pos W ∷ pos q ∷ pos (p .a) ∷ pos (p .b) ∷ []) (search reify depth 40 fits 9000) refl);
-          rows = ring (pos q ∷ pos (p .d) ∷ []) (search reify depth 40 fits 9000) refl;
-        },
-        record {
-          m = negℤ (pos s);
-          n = k;
-          columns =
-              linear ((negsuc 0 · ap pos shift-is) ∷ (pos (p .b) · k-is) ∷ [])
-              (ring (pos s ∷ k ∷ pos (H / p .d) ∷ pos (p .a) ∷ pos (p .b) ∷ []) (search reify depth 40 fits 9000) refl);
-          rows =
-              linear ((pos 1 · rows-of .is) ∷ [])
-              (ring (pos H ∷ pos s ∷ k ∷ pos (p .d) ∷ []) (search reify depth 40 fits 9000) refl);
-        },
-      )
+  steps-in-lattice allowed = (
+    lattice-by-divisors p (plan .d-least) (across W) .0 (
+      none-divided (p .d),
+      divides-times (pos 1) (at-across ∙ once W) (multiple-divides (p .a) W (allowed .W-multiple)),
+    ),
+    lattice-by-divisors p (plan .d-least) (down H) .0 (
+      multiple-divides (p .d) H (allowed .H-multiple),
+      divides-times (negsuc 0) at-down (multiple-divides (p .a) (p .b * (H / p .d)) (allowed .shift-multiple)),
+    ),
+  )
 
-  -- and the other way round
   steps-in-numbers : BothSteps p W H → RingAllowed p W H
   unfolding at
   steps-in-numbers (c, e) =
-      let no-row : c .n ≡ pos 0 = cancel-factor (p .d) (plan .d-least) (c .n) (pos 0)
-      (linear ((negsuc 0 · c .rows) ∷ []) (ring (c .m ∷ c .n ∷ pos (p .d) ∷ []) (search reify depth 40 fits 9000) refl)) in
-      let k-is : pos (H / p .d) ≡ e .n =
-      sym (quotient-of-pos H (p .d))
-      ∙ quotient-is (p .d) (plan .d-least) (pos H) (e .n) 0 (plan .d-least)
-      (e .rows ∙ ring (e .m ∷ e .n ∷ pos (p .d) ∷ []) (search reify depth 40 fits 9000) refl) in
+      let (row, shift) = lattice-by-divisors p (plan .d-least) (down H) .1 e in
+      let column = lattice-by-divisors p (plan .d-least) (across W) .1 c .1 in
       record {
-        W-multiple =
-            divides-multiple (p .a) W
-            (record {
-              times = c .m;
-              is =
-                  linear ((pos 1 · c .columns) ∷ (pos (p .b) · no-row) ∷ [])
-                  (ring (pos W ∷ c .m ∷ c .n ∷ pos (p .a) ∷ pos (p .b) ∷ []) (search reify depth 40 fits 9000) refl);
-            });
-        H-multiple = divides-multiple (p .d) H (row-of-lattice p e);
+        W-multiple = divides-multiple (p .a) W (divides-times (pos 1) (once W ∙ ap (λ (z : ℤ). pos 1 *ℤ z) (sym at-across)) column);
+        H-multiple = divides-multiple (p .d) H row;
         shift-multiple =
             divides-multiple (p .a) (p .b * (H / p .d))
-            (record {
-              times = negℤ (e .m);
-              is =
-                  linear ((negsuc 0 · e .columns) ∷ (pos (p .b) · k-is) ∷ [])
-                  (ring (e .m ∷ e .n ∷ pos (H / p .d) ∷ pos (p .a) ∷ pos (p .b) ∷ []) (search reify depth 40 fits 9000) refl);
-            });
+            (divides-times (negsuc 0)
+            (linear ((pos 1 · at-down) ∷ [])
+            (ring (unslanted p (down H) ∷ pos (p .b * (H / p .d)) ∷ []) (search reify depth 40 fits 9000) refl)) shift);
       }
 
   -- W = x × N and H = y × N will do
@@ -145,34 +139,29 @@ module _ (p : Plan) (plan : IsPlan p) (W H : ℕ) where
 
     -- a pixel whose coordinates are multiples of the sides wraps to (0, 0), so it is in the lattice if its bank is kept
     kept-in-lattice :
-        (v : Pixel) (x y : ℤ) → v .column ≡ x *ℤ pos W → v .row ≡ y *ℤ pos H → bankOf p (wrapped W H v) ≡ bankOf p v → InLattice p v
+        (v : Pixel) → Divides W (v .column) → Divides H (v .row) → bankOf p (wrapped W H v) ≡ bankOf p v → InLattice p v
     unfolding wrapped minus
-    kept-in-lattice v x y column row kept =
+    kept-in-lattice v column row kept =
         let c = same-bank-means-lattice p plan (wrapped W H v) v kept in
         record {
           m = negℤ (c .m);
           n = negℤ (c .n);
           columns =
-              linear ((negsuc 0 · c .columns) ∷ (pos 1 · ap pos (wraps-to-zero W W-least (v .column) x column)) ∷ [])
+              linear ((negsuc 0 · c .columns) ∷ (pos 1 · ap pos (remainder-zero-iff-divides W W-least (v .column) .1 column)) ∷ [])
               (ring (v .column ∷ c .m ∷ c .n ∷ pos (p .a) ∷ pos (p .b) ∷ pos (floorMod (v .column) W) ∷ []) (search reify depth 40 fits 9000) refl);
           rows =
-              linear ((negsuc 0 · c .rows) ∷ (pos 1 · ap pos (wraps-to-zero H H-least (v .row) y row)) ∷ [])
+              linear ((negsuc 0 · c .rows) ∷ (pos 1 · ap pos (remainder-zero-iff-divides H H-least (v .row) .1 row)) ∷ [])
               (ring (v .row ∷ c .m ∷ c .n ∷ pos (p .d) ∷ pos (floorMod (v .row) H) ∷ []) (search reify depth 40 fits 9000) refl);
         }
-      where
-        wraps-to-zero : (n : ℕ) → 1 ≤ n → (z q : ℤ) → z ≡ q *ℤ pos n → floorMod z n ≡ 0
-        wraps-to-zero n h z q e = remainder-is n h z q 0 h (e ∙ ring (q ∷ pos n ∷ []) (search reify depth 40 fits 9000) refl)
 
     kept-allowed : ((v : Pixel) → bankOf p (wrapped W H v) ≡ bankOf p v) → RingAllowed p W H
     unfolding at
     kept-allowed kept =
+        let own : (n : ℕ) → Divides n (pos n) = λ n. record { times = pos 1; is = once n } in
         steps-in-numbers (
-          kept-in-lattice (across W) (pos 1) (pos 0) (once W) (none-of H) (kept (across W)),
-          kept-in-lattice (down H) (pos 0) (pos 1) (none-of W) (once H) (kept (down H)),
+          kept-in-lattice (across W) (own W) (none-divided H) (kept (across W)),
+          kept-in-lattice (down H) (none-divided W) (own H) (kept (down H)),
         )
-      where
-        once : (n : ℕ) → pos n ≡ pos 1 *ℤ pos n
-        once n = ring (pos n ∷ []) (search reify depth 40 fits 9000) refl
 
 -- a wrapped pixel is inside
 wrapped-inside : (W H : ℕ) → 1 ≤ W → 1 ≤ H → (v : Pixel) → Inside W H (wrapped W H v)

@@ -1,9 +1,9 @@
 -- A list of demand 3's calls in numbers, five to a call, and its replies in numbers, twelve to a call.
 --
 -- A call is its kind (0 a store, 1 a clear, 2 a load, 3 a plain fetch, 4 a ring fetch), its column and row, its word, bank or
--- pattern, and the room of a fetch. A column or row is the last 16 bits of its number in two's complement; the number is below 65536, also those of
--- a clear, which has no use for them. The fourth number of a load, and the fifth of every call but a fetch, are not looked at.
--- Each fetch has the next `room` words of the outputs as "an output of its own".
+-- pattern, and the room of a fetch. A column or row is the last 16 bits of its number in two's complement; the number is below
+-- 65536, also those of a clear, which has no use for them. The fourth number of a load, and the fifth of every call but a fetch,
+-- are not looked at. Each fetch has the next `room` words of the outputs as "an output of its own".
 -- Assumes nothing.
 use Prim.Native.Nat.{ℕ, zero, suc, _+_, _-_, _*_, _/_, _%_, _<_}
 use mathlib.Core.Path.{_≡_}

@@ -1,6 +1,6 @@
 -- Document 01, "Figures to agree with": the starred figures and the examples of the table of refusals, row by row, the figures
--- that document 02 changes or adds, those of its Cards 4 and 5 worked out by hand, and the one theorem that checks the definitions on them
--- by computation. The other files of this folder have more rows.
+-- that document 02 changes or adds, those of its Cards 4 and 5 worked out by hand, and the one theorem that checks the
+-- definitions on them by computation. The other files of this folder have more rows.
 -- Card 1: "The 2 by 2 square of pixels moves from 4, 2, 1 to 2, 0, 2; the other figures in document 01 are unaffected."
 -- Assumes nothing.
 use mathlib.Core.Path.{refl}
