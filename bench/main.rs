@@ -12,6 +12,8 @@ mod cycles;
 mod pictures;
 mod records;
 mod runs;
+mod sums;
+mod tested;
 mod unverified;
 mod words;
 
@@ -161,6 +163,14 @@ fn seconds<const N: usize>(versions: [&dyn Fn() -> u64; N]) -> [f64; N] {
         }
     }
     best
+}
+
+// How long a store takes hangs on where the memory lies, for each version in another way. So it is timed in some places, each made
+// anew while the others are kept, and the best counts.
+fn best_of_places<T, const N: usize>(place: impl Fn() -> T, seconds_at: impl Fn(&T) -> [f64; N]) -> [f64; N] {
+    let places: Vec<T> = (0..8).map(|_| place()).collect();
+    let times = places.iter().map(seconds_at);
+    times.fold([f64::MAX; N], |best, now| std::array::from_fn(|k| best[k].min(now[k])))
 }
 
 fn time(s: f64) -> String {

@@ -1,33 +1,43 @@
-//! The calls on a picture: the proved library beside unverified Rust.
+//! The calls on a picture: the proved library beside unverified Rust. Those on the sums and on whole banks are in sums.rs.
 
 use std::cell::RefCell;
 use std::hint::black_box;
 
-use crate::bankplan::raw::{bankplan_bank, bankplan_clear, bankplan_fetch, bankplan_load};
-use crate::bankplan::raw::{bankplan_ring_fetch, bankplan_store, bankplan_sum};
+use crate::bankplan::raw::{bankplan_bank, bankplan_fetch, bankplan_load, bankplan_ring_fetch};
 use crate::bankplan::{Book as Record, Plan};
-use crate::{block, record, seconds, time, words};
+use crate::{block, record, seconds, sums, time, words};
 
-/// A picture under a plan, with its memory.
+/// A picture under a plan, with its memory and the sums of its banks.
 pub struct Picture {
-    p: Plan,
-    w: u32,
-    h: u32,
-    mem: RefCell<Vec<u16>>,
+    pub p: Plan,
+    pub w: u32,
+    pub h: u32,
+    pub mem: RefCell<Vec<u16>>,
+    pub sums: RefCell<Vec<u64>>,
+}
+
+/// What stands in the entries behind the sums.
+pub const BEHIND: [u64; 2] = [0x5eed, 0xbeef];
+
+/// The words of a picture under a plan.
+pub fn memory(p: &Plan, w: u32, h: u32) -> Vec<u16> {
+    let words = p.a * p.d * w.div_ceil(p.a) * h.div_ceil(p.d);
+    (0..words).map(|k| (k * 40503 % 65521) as u16).collect()
 }
 
 // What a call told: its number, and the value or 0.
 pub type Told = (u64, u64);
 
-fn told<T: Into<u64>>(r: Result<T, u64>) -> Told {
+pub fn told<T: Into<u64>>(r: Result<T, u64>) -> Told {
     r.map_or_else(|n| (n, 0), |x| (0, x.into()))
 }
 
 impl Picture {
     pub fn new(p: Plan, w: u32, h: u32) -> Picture {
-        let words = p.a * p.d * w.div_ceil(p.a) * h.div_ceil(p.d);
-        let mem = RefCell::new((0..words).map(|k| (k * 40503 % 65521) as u16).collect());
-        Picture { p, w, h, mem }
+        let mem = memory(&p, w, h);
+        let depth = mem.len() / (p.a * p.d) as usize;
+        let sums = mem.chunks_exact(depth).map(words::walk).chain(BEHIND).collect();
+        Picture { p, w, h, mem: RefCell::new(mem), sums: RefCell::new(sums) }
     }
 
     fn bank(&self, (i, j): (i16, i16)) -> Told {
@@ -36,29 +46,9 @@ impl Picture {
         (n, answer[0])
     }
 
-    fn store(&self, (i, j): (i16, i16), x: u16) -> Told {
-        let (p, mut mem, mut answer) = (&self.p, self.mem.borrow_mut(), [0; 12]);
-        let (words, m) = (mem.len(), mem.as_mut_ptr());
-        let n = unsafe { bankplan_store(p.a, p.b, p.d, self.w, self.h, m, words, i, j, x, &mut answer) };
-        (n, answer[0])
-    }
-
-    fn load(&self, (i, j): (i16, i16)) -> Told {
+    pub fn load(&self, (i, j): (i16, i16)) -> Told {
         let (p, mem, mut answer) = (&self.p, self.mem.borrow(), [0; 12]);
         let n = unsafe { bankplan_load(p.a, p.b, p.d, self.w, self.h, mem.as_ptr(), mem.len(), i, j, &mut answer) };
-        (n, answer[0])
-    }
-
-    fn clear(&self, k: u64) -> Told {
-        let (p, mut mem, mut answer) = (&self.p, self.mem.borrow_mut(), [0; 12]);
-        let (words, m) = (mem.len(), mem.as_mut_ptr());
-        let n = unsafe { bankplan_clear(p.a, p.b, p.d, self.w, self.h, m, words, k, &mut answer) };
-        (n, answer[0])
-    }
-
-    fn sum(&self, k: u64) -> Told {
-        let (p, mem, mut answer) = (&self.p, self.mem.borrow(), [0; 12]);
-        let n = unsafe { bankplan_sum(p.a, p.b, p.d, self.w, self.h, mem.as_ptr(), mem.len(), k, &mut answer) };
         (n, answer[0])
     }
 
@@ -133,31 +123,34 @@ fn at_left_edge(ring: bool, h: u32) -> Vec<(i16, i16)> {
 
 /// One row: what is done so many times, and the time of one.
 pub fn row(name: &str, times: usize, proved: &dyn Fn() -> u64, unverified: &dyn Fn() -> u64) {
-    let [x, y] = seconds([proved, unverified]).map(|s| s / times as f64);
+    show_row(name, times, seconds([proved, unverified]));
+}
+
+/// The same of times that were taken.
+pub fn show_row(name: &str, times: usize, taken: [f64; 2]) {
+    let [x, y] = taken.map(|s| s / times as f64);
     println!("| {name} | {} | {} | {:.2} |", time(x), time(y), x / y);
 }
 
-fn all(at: &[(i16, i16)], call: impl Fn((i16, i16)) -> u64) -> u64 {
+pub fn all<T: Copy>(at: &[T], call: impl Fn(T) -> u64) -> u64 {
     at.iter().map(|o| call(black_box(*o))).fold(0, u64::wrapping_add)
 }
 
 fn same_words(pic: &Picture, at: &[(i16, i16)]) {
-    let (p, w, h) = (&pic.p, pic.w, pic.h);
+    let (p, w, h, twin) = (&pic.p, pic.w, pic.h, Picture::new(pic.p, pic.w, pic.h));
     for (k, o) in at.iter().enumerate() {
-        let mut mem = pic.mem.borrow().clone();
         assert_eq!(pic.store(*o, k as u16), (0, 0));
-        assert_eq!(told(words::store(p, w, h, &mut mem, *o, k as u16).map(|()| 0u64)), (0, 0));
-        assert_eq!(mem, *pic.mem.borrow());
-        assert_eq!(pic.load(*o), told(words::load(p, w, h, &mem, *o)));
+        assert_eq!(twin.unverified_store(*o, k as u16), (0, 0));
+        pic.is_like(&twin);
+        assert_eq!(pic.load(*o), told(words::load(p, w, h, &pic.mem.borrow(), *o)));
     }
     for o in anywhere() {
         assert_eq!(pic.bank(o), told(words::bank(p, o)));
     }
     for k in [0, u64::from(p.a * p.d) - 1, u64::from(p.a * p.d)] {
-        let mut mem = pic.mem.borrow().clone();
-        assert_eq!(pic.sum(k), told(words::sum(p, w, h, &mem, k)));
-        assert_eq!(pic.clear(k), told(words::clear(p, w, h, &mut mem, k).map(|()| 0u64)));
-        assert_eq!(mem, *pic.mem.borrow());
+        assert_eq!(pic.sum(k), told(words::sum(p, w, h, &twin.mem.borrow(), k)));
+        assert_eq!(pic.clear(k), twin.unverified_clear(k));
+        pic.is_like(&twin);
     }
 }
 
@@ -219,13 +212,14 @@ pub fn pictures(books: &[(&str, &Record, Plan)], timed: bool) {
         let ring = Picture::new(*p, w - w % n, h - h % n);
         let at = positions(w, h);
         same_words(&pic, &at[..50]);
+        sums::same(&pic);
         same_fetches(&pic, r, &at[..50]);
         same_fetches(&ring, r, &at[..50]);
         let edges = [false, true].map(|ring| at_left_edge(ring, h));
         edges.iter().for_each(|at| same_fetches(&ring, r, at));
         if timed {
             if k == 0 {
-                words_table(&pic, &at);
+                sums::words_table(&pic, &at);
             }
             let plan = format!("plan {}, {}, {}", p.a, p.b, p.d);
             fetch_row(&format!("fetch, {name}"), &pic, false, r, &at);
@@ -240,34 +234,7 @@ pub fn pictures(books: &[(&str, &Record, Plan)], timed: bool) {
     }
     same_rings();
     turntables(timed);
-}
-
-fn words_table(pic: &Picture, at: &[(i16, i16)]) {
-    let (p, w, h) = (&pic.p, pic.w, pic.h);
-    row(
-        "store a word",
-        at.len(),
-        &|| all(at, |o| pic.store(o, 9).0),
-        &|| all(at, |o| words::store(black_box(p), w, h, &mut pic.mem.borrow_mut(), o, 9).is_err().into()),
-    );
-    row(
-        "load a word",
-        at.len(),
-        &|| all(at, |o| pic.load(o).1),
-        &|| all(at, |o| words::load(black_box(p), w, h, &pic.mem.borrow(), o).map_or(0, u64::from)),
-    );
-    row(
-        "clear a bank",
-        1,
-        &|| pic.clear(black_box(0)).0,
-        &|| words::clear(black_box(p), w, h, &mut pic.mem.borrow_mut(), black_box(0)).is_err().into(),
-    );
-    row(
-        "sum of a bank",
-        1,
-        &|| pic.sum(black_box(0)).1,
-        &|| words::sum(black_box(p), w, h, &pic.mem.borrow(), black_box(0)).unwrap_or(0),
-    );
+    sums::sizes(timed);
 }
 
 fn bank_row(plan: &str, pic: &Picture) {

@@ -8,7 +8,7 @@ use std::fmt;
 use std::mem::{offset_of, size_of};
 
 /// The version of this file, and of the library that is built from the same tree.
-pub const VERSION: &str = "0.6.0";
+pub const VERSION: &str = "0.7.0";
 
 /// The banks of a plan, the finder's limit and a determinant's size, at most.
 pub const MAX_BANKS: u32 = 1024;
@@ -77,7 +77,7 @@ pub mod raw {
             r: u32, a: u32, b: u32, d: u32, n: usize, out: *mut u8, out_length: usize, answer: &mut [u64; 12],
         ) -> u64;
         pub fn bankplan_store(
-            a: u32, b: u32, d: u32, w: u32, h: u32, mem: *mut u16, mem_length: usize,
+            a: u32, b: u32, d: u32, w: u32, h: u32, mem: *mut u16, mem_length: usize, sums: *mut u64, sums_length: usize,
             i: i16, j: i16, x: u16, answer: &mut [u64; 12],
         ) -> u64;
         pub fn bankplan_load(
@@ -85,10 +85,18 @@ pub mod raw {
             i: i16, j: i16, answer: &mut [u64; 12],
         ) -> u64;
         pub fn bankplan_clear(
-            a: u32, b: u32, d: u32, w: u32, h: u32, mem: *mut u16, mem_length: usize, k: u64, answer: &mut [u64; 12],
+            a: u32, b: u32, d: u32, w: u32, h: u32, mem: *mut u16, mem_length: usize, sums: *mut u64, sums_length: usize,
+            k: u64, answer: &mut [u64; 12],
         ) -> u64;
         pub fn bankplan_sum(
             a: u32, b: u32, d: u32, w: u32, h: u32, mem: *const u16, mem_length: usize, k: u64, answer: &mut [u64; 12],
+        ) -> u64;
+        pub fn bankplan_make_sums(
+            a: u32, b: u32, d: u32, w: u32, h: u32, mem: *const u16, mem_length: usize, sums: *mut u64, sums_length: usize,
+            answer: &mut [u64; 12],
+        ) -> u64;
+        pub fn bankplan_read_sum(
+            a: u32, b: u32, d: u32, sums: *const u64, sums_length: usize, k: u64, answer: &mut [u64; 12],
         ) -> u64;
         pub fn bankplan_fetch(
             columns: &[i8; 1024], rows: &[i8; 1024], used: &[usize; 16], count: usize,
@@ -102,13 +110,14 @@ pub mod raw {
         ) -> u64;
         pub fn bankplan_run_list(
             columns: &[i8; 1024], rows: &[i8; 1024], used: &[usize; 16], count: usize,
-            r: u32, a: u32, b: u32, d: u32, w: u32, h: u32, mem: *mut u16, mem_length: usize,
+            r: u32, a: u32, b: u32, d: u32, w: u32, h: u32,
+            mem: *mut u16, mem_length: usize, sums: *mut u64, sums_length: usize,
             numbers: *const u64, numbers_length: usize, outs: *mut u16, outs_length: usize,
             replies: *mut u64, replies_length: usize, answer: &mut [u64; 12],
         ) -> u64;
         pub fn bankplan_find_and_run(
             columns: &[i8; 1024], rows: &[i8; 1024], used: &[usize; 16], count: usize,
-            r: u32, limit: u32, w: u32, h: u32, mem: *mut u16, mem_length: usize,
+            r: u32, limit: u32, w: u32, h: u32, mem: *mut u16, mem_length: usize, sums: *mut u64, sums_length: usize,
             numbers: *const u64, numbers_length: usize, outs: *mut u16, outs_length: usize,
             replies: *mut u64, replies_length: usize, answer: &mut [u64; 12],
         ) -> u64;
@@ -188,7 +197,12 @@ pub struct Book {
     pub count: usize,
 }
 
-/// A picture's plan and sides; its memory is lent to each call. Sides that are not 1 to 4096 are refused by 12.
+/// A picture's plan and sides; its memory, and the sums of its banks where a call changes or reads them, are lent to each call.
+/// Sides that are not 1 to 4096 are refused by 12.
+///
+/// Entry k of the sums is that of bank k, and entries past N are never touched. From a `make_sums` that was not refused on, each
+/// is the figure that `sum` walks for, as long as the memory and the sums change only through these calls, all under one plan and
+/// one size of picture.
 #[derive(Clone, Copy, Debug, PartialEq, Eq)]
 pub struct Picture {
     pub plan: Plan,
@@ -209,9 +223,9 @@ pub struct PixelRecord {
 /// A call of a list. Any numbers can stand here; a call that they do not suit is refused, and the list goes on.
 #[derive(Clone, Copy, Debug, PartialEq, Eq)]
 pub enum Call {
-    /// Stores a word at a pixel.
+    /// Stores a word at a pixel and keeps its bank's sum.
     Store { pixel: (i16, i16), word: u16 },
-    /// Puts 0 in every word of a bank.
+    /// Puts 0 in every word of a bank and in its sum.
     Clear { bank: u64 },
     /// The word at a pixel.
     Load { pixel: (i16, i16) },
@@ -219,17 +233,25 @@ pub enum Call {
     Fetch { pattern: usize, at: (i16, i16), room: usize },
     /// The same with columns modulo the width and rows modulo the height.
     RingFetch { pattern: usize, at: (i16, i16), room: usize },
+    /// Makes the sums of all banks afresh from the memory.
+    MakeSums,
+    /// The sum of a bank's words, by a walk through them.
+    Sum { bank: u64 },
+    /// The sum that is kept of a bank, by a look-up.
+    ReadSum { bank: u64 },
 }
 
 /// What a call of a list gave.
 #[derive(Clone, Debug, PartialEq, Eq)]
 pub enum Reply {
-    /// A store or a clear was done.
+    /// A store or a clear was done, or the sums were made afresh.
     Done,
     /// The word that a load gave.
     Word(u16),
     /// The words that a fetch or a ring fetch gave, in the book's pixel order.
     Words(Vec<u16>),
+    /// The sum of a bank, walked for or read.
+    Sum(u64),
     /// The call was turned down, and changed nothing.
     Refused(Refused),
 }
@@ -256,6 +278,9 @@ pub const KIND_CLEAR: u64 = 1;
 pub const KIND_LOAD: u64 = 2;
 pub const KIND_FETCH: u64 = 3;
 pub const KIND_RING_FETCH: u64 = 4;
+pub const KIND_MAKE_SUMS: u64 = 5;
+pub const KIND_SUM: u64 = 6;
+pub const KIND_READ_SUM: u64 = 7;
 
 /// A call turned down: document 01's number, 1 to 18, or 19 or 20 of document 02; the place, a byte offset for 1 to 5 and 19 where
 /// the call was given bytes, else 0; and the clash of 10.
@@ -266,7 +291,7 @@ pub struct Refused {
     pub clash: Option<Clash>,
 }
 
-/// The conditions from 1 to 20: document 01's, and the last three of Cards 5, 3 and 4 in document 02.
+/// The conditions from 1 to 20: document 01's, and the last three of Cards 5, 3 and 4 in document 02. Card 6 adds the sums to 13.
 pub const CONDITIONS: [&str; 20] = [
     "book ends early",
     "pattern count not 1-16 or pixel count not 1-64",
@@ -280,7 +305,7 @@ pub const CONDITIONS: [&str; 20] = [
     "plan doesn't suit",
     "not a plan as defined",
     "W or H not 1-4096",
-    "memory shorter than N × depth",
+    "memory shorter than N × depth, or sums shorter than N",
     "pixel outside the picture",
     "bank ≥ N, address ≥ depth, or their pixel outside",
     "output too short",
@@ -404,6 +429,13 @@ impl Plan {
     pub fn bank(self, (i, j): (i16, i16)) -> Result<u64, Refused> {
         told(|t| unsafe { raw::bankplan_bank(self.a, self.b, self.d, i, j, t) }).map(|r| r[0])
     }
+
+    /// The sum that is kept of a bank, by a look-up; `Picture::sum` walks. Refused by 11, 13, 15. It goes by no sides, so 12 is
+    /// never told.
+    pub fn read_sum(self, sums: &[u64], bank: u64) -> Result<u64, Refused> {
+        let Plan { a, b, d } = self;
+        told(|t| unsafe { raw::bankplan_read_sum(a, b, d, sums.as_ptr(), sums.len(), bank, t) }).map(|r| r[0])
+    }
 }
 
 impl Book {
@@ -485,11 +517,12 @@ impl Picture {
         told(|t| unsafe { raw::bankplan_locate(p.a, p.b, p.d, w, h, bank, address, t) }).map(|r| (r[0] as i16, r[1] as i16))
     }
 
-    /// Stores a word at a pixel. Refused by 11, 12, 13, 14.
-    pub fn store(self, mem: &mut [u16], (i, j): (i16, i16), word: u16) -> Result<(), Refused> {
+    /// Stores a word at a pixel; takes the old word off its bank's sum and adds the new one, modulo 2^64. Refused by 11, 12, 13
+    /// (also where the sums are too short), 14.
+    pub fn store(self, mem: &mut [u16], sums: &mut [u64], (i, j): (i16, i16), word: u16) -> Result<(), Refused> {
         let Picture { plan: p, width: w, height: h } = self;
-        let (mem, length) = (mem.as_mut_ptr(), mem.len());
-        told(|t| unsafe { raw::bankplan_store(p.a, p.b, p.d, w, h, mem, length, i, j, word, t) }).map(|_| ())
+        let (mem, words, sums, entries) = (mem.as_mut_ptr(), mem.len(), sums.as_mut_ptr(), sums.len());
+        told(|t| unsafe { raw::bankplan_store(p.a, p.b, p.d, w, h, mem, words, sums, entries, i, j, word, t) }).map(|_| ())
     }
 
     /// The word at a pixel. Refused by 11, 12, 13, 14.
@@ -498,17 +531,25 @@ impl Picture {
         told(|t| unsafe { raw::bankplan_load(p.a, p.b, p.d, w, h, mem.as_ptr(), mem.len(), i, j, t) }).map(|r| r[0] as u16)
     }
 
-    /// Puts 0 in every word of a bank. Refused by 11, 12, 13, 15.
-    pub fn clear(self, mem: &mut [u16], bank: u64) -> Result<(), Refused> {
+    /// Puts 0 in every word of a bank and in its sum. Refused by 11, 12, 13 (also where the sums are too short), 15.
+    pub fn clear(self, mem: &mut [u16], sums: &mut [u64], bank: u64) -> Result<(), Refused> {
         let Picture { plan: p, width: w, height: h } = self;
-        let (mem, length) = (mem.as_mut_ptr(), mem.len());
-        told(|t| unsafe { raw::bankplan_clear(p.a, p.b, p.d, w, h, mem, length, bank, t) }).map(|_| ())
+        let (mem, words, sums, entries) = (mem.as_mut_ptr(), mem.len(), sums.as_mut_ptr(), sums.len());
+        told(|t| unsafe { raw::bankplan_clear(p.a, p.b, p.d, w, h, mem, words, sums, entries, bank, t) }).map(|_| ())
     }
 
-    /// The sum of a bank's words. Refused by 11, 12, 13, 15.
+    /// The sum of a bank's words, by a walk through them; `Plan::read_sum` looks up the one that is kept. Refused by 11, 12, 13, 15.
     pub fn sum(self, mem: &[u16], bank: u64) -> Result<u64, Refused> {
         let Picture { plan: p, width: w, height: h } = self;
         told(|t| unsafe { raw::bankplan_sum(p.a, p.b, p.d, w, h, mem.as_ptr(), mem.len(), bank, t) }).map(|r| r[0])
+    }
+
+    /// Makes the sums of all banks afresh from the memory, whatever they were. Refused by 11, 12, 13 (also where the sums are too
+    /// short).
+    pub fn make_sums(self, mem: &[u16], sums: &mut [u64]) -> Result<(), Refused> {
+        let Picture { plan: p, width: w, height: h } = self;
+        let (mem, words, sums, entries) = (mem.as_ptr(), mem.len(), sums.as_mut_ptr(), sums.len());
+        told(|t| unsafe { raw::bankplan_make_sums(p.a, p.b, p.d, w, h, mem, words, sums, entries, t) }).map(|_| ())
     }
 
     /// Puts the words of pattern n, moved to (i, j), at the start of the output in the book's pixel order, and gives their
@@ -563,6 +604,9 @@ impl Call {
             Call::Load { pixel: (i, j) } => [KIND_LOAD, bits(i), bits(j), 0, 0],
             Call::Fetch { pattern, at: (i, j), room } => [KIND_FETCH, bits(i), bits(j), pattern as u64, room as u64],
             Call::RingFetch { pattern, at: (i, j), room } => [KIND_RING_FETCH, bits(i), bits(j), pattern as u64, room as u64],
+            Call::MakeSums => [KIND_MAKE_SUMS, 0, 0, 0, 0],
+            Call::Sum { bank } => [KIND_SUM, 0, 0, bank, 0],
+            Call::ReadSum { bank } => [KIND_READ_SUM, 0, 0, bank, 0],
         }
     }
 
@@ -591,9 +635,10 @@ impl Reply {
         let at = |k: usize| numbers.get(k).copied().unwrap_or(0);
         match call {
             _ if at(0) != 0 => Reply::Refused(refused(at(0), numbers.get(1..).unwrap_or_default())),
-            Call::Store { .. } | Call::Clear { .. } => Reply::Done,
+            Call::Store { .. } | Call::Clear { .. } | Call::MakeSums => Reply::Done,
             Call::Load { .. } => Reply::Word(at(1) as u16),
             Call::Fetch { .. } | Call::RingFetch { .. } => Reply::Words(out.iter().copied().take(at(1) as usize).collect()),
+            Call::Sum { .. } | Call::ReadSum { .. } => Reply::Sum(at(1)),
         }
     }
 }
@@ -622,10 +667,12 @@ fn made<T>(
 }
 
 impl Picture {
-    /// Makes the calls one after the other, fetches for r, each on the memory as the one before left it, and gives their replies. A
-    /// call that is refused is a reply too, and those behind it are made.
-    pub fn run_list(self, book: &Book, r: u32, mem: &mut [u16], calls: &[Call]) -> Result<Vec<Reply>, NotMade> {
-        made(calls, |numbers, outs, replies| self.run_numbers(book, r, mem, numbers, outs, replies)).map(|((), replies)| replies)
+    /// Makes the calls one after the other, fetches for r, each on the memory and the sums as the one before left them, and gives
+    /// their replies. A call that is refused is a reply too, and those behind it are made.
+    pub fn run_list(self, book: &Book, r: u32, mem: &mut [u16], sums: &mut [u64], calls: &[Call]) -> Result<Vec<Reply>, NotMade> {
+        let make =
+            |numbers: &[u64], outs: &mut [u16], replies: &mut [u64]| self.run_numbers(book, r, mem, sums, numbers, outs, replies);
+        made(calls, make).map(|((), replies)| replies)
     }
 
     /// The same of a list in numbers, five to a call. Each fetch has the next `room` words of the outputs, each call the next
@@ -635,17 +682,20 @@ impl Picture {
         book: &Book,
         r: u32,
         mem: &mut [u16],
+        sums: &mut [u64],
         numbers: &[u64],
         outs: &mut [u16],
         replies: &mut [u64],
     ) -> Result<(), NotMade> {
         let Picture { plan: Plan { a, b, d }, width: w, height: h } = self;
         let Book { columns, rows, used, count } = book;
-        let (mem, words, list, length) = (mem.as_mut_ptr(), mem.len(), numbers.as_ptr(), numbers.len());
+        let (mem, words, sums, entries) = (mem.as_mut_ptr(), mem.len(), sums.as_mut_ptr(), sums.len());
+        let (list, length) = (numbers.as_ptr(), numbers.len());
         let (outs, room, replies, places) = (outs.as_mut_ptr(), outs.len(), replies.as_mut_ptr(), replies.len());
         let call = |t: &mut _| unsafe {
             raw::bankplan_run_list(
-                columns, rows, used, *count, r, a, b, d, w, h, mem, words, list, length, outs, room, replies, places, t,
+                columns, rows, used, *count, r, a, b, d, w, h, mem, words, sums, entries, list, length, outs, room, replies,
+                places, t,
             )
         };
         told(call)?;
@@ -655,17 +705,18 @@ impl Picture {
 
 impl Book {
     /// Finds the plan with the fewest banks within the limit for r and makes the calls under it, as `Picture::run_list` does. Gives
-    /// the plan and the replies. The memory needs N × depth words under that plan, or each call is refused by 13; (width + limit)
-    /// × (height + limit) words are always enough.
+    /// the plan and the replies. The memory needs N × depth words under that plan and the sums N entries, or calls are refused by
+    /// 13. Always enough are (width + limit) × (height + limit) words and limit entries.
     pub fn find_and_run(
         &self,
         r: u32,
         limit: u32,
-        (width, height): (u32, u32),
+        sides: (u32, u32),
         mem: &mut [u16],
+        sums: &mut [u64],
         calls: &[Call],
     ) -> Result<(Plan, Vec<Reply>), NotMade> {
-        made(calls, |numbers, outs, replies| self.find_and_run_numbers(r, limit, (width, height), mem, numbers, outs, replies))
+        made(calls, |numbers, outs, replies| self.find_and_run_numbers(r, limit, sides, mem, sums, numbers, outs, replies))
     }
 
     /// The same of a list in numbers, as for `Picture::run_numbers`. Gives the plan.
@@ -675,16 +726,19 @@ impl Book {
         limit: u32,
         (w, h): (u32, u32),
         mem: &mut [u16],
+        sums: &mut [u64],
         numbers: &[u64],
         outs: &mut [u16],
         replies: &mut [u64],
     ) -> Result<Plan, NotMade> {
         let Book { columns, rows, used, count } = self;
-        let (mem, words, list, length) = (mem.as_mut_ptr(), mem.len(), numbers.as_ptr(), numbers.len());
+        let (mem, words, sums, entries) = (mem.as_mut_ptr(), mem.len(), sums.as_mut_ptr(), sums.len());
+        let (list, length) = (numbers.as_ptr(), numbers.len());
         let (outs, room, replies, places) = (outs.as_mut_ptr(), outs.len(), replies.as_mut_ptr(), replies.len());
         let call = |t: &mut _| unsafe {
             raw::bankplan_find_and_run(
-                columns, rows, used, *count, r, limit, w, h, mem, words, list, length, outs, room, replies, places, t,
+                columns, rows, used, *count, r, limit, w, h, mem, words, sums, entries, list, length, outs, room, replies, places,
+                t,
             )
         };
         Ok(plan_of(told(call)?))

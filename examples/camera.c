@@ -1,7 +1,8 @@
 /*
  * A camera's buffer, from C: a filter of five pixels in a cross, the plan with the fewest banks for it, a picture of 7 by 4 under
- * that plan, what shuffled books, suppliers and wrong positions get, a list of calls made at once, the same filter read in two
- * cycles, and a turntable, whose pixels are fetched around its edges. camera.rs does the same in Rust.
+ * that plan, what shuffled books, suppliers and wrong positions get, the sum of a bank by a look-up and by the walk, a list of
+ * calls made at once, the same filter read in two cycles, and a turntable, whose pixels are fetched around its edges. camera.rs
+ * does the same in Rust.
  *
  *   cc -std=c11 -o target/camera-c examples/camera.c target/staticlib/libcapi.a
  */
@@ -37,10 +38,11 @@ static void show(int calls, const uint64_t *numbers, const uint64_t *replies, co
         const uint64_t *reply = replies + k * BANKPLAN_REPLY_NUMBERS;
         uint64_t kind = numbers[k * BANKPLAN_CALL_NUMBERS];
         int fetch = kind == BANKPLAN_KIND_FETCH || kind == BANKPLAN_KIND_RING_FETCH;
+        int sum = kind == BANKPLAN_KIND_SUM || kind == BANKPLAN_KIND_READ_SUM;
         if (said_for(1, "list", reply[0], reply + 1) != 0)
             continue;
-        printf(kind == BANKPLAN_KIND_LOAD ? "list: word" : fetch ? "list: words" : "list: done");
-        if (kind == BANKPLAN_KIND_LOAD)
+        printf(kind == BANKPLAN_KIND_LOAD ? "list: word" : fetch ? "list: words" : sum ? "list: sum" : "list: done");
+        if (kind == BANKPLAN_KIND_LOAD || sum)
             printf(" %02d", (int)reply[1]);
         for (uint64_t e = 0; fetch && e < reply[1]; e++)
             printf(" %02d", words[e]);
@@ -75,7 +77,7 @@ static int turntable(void) {
     static size_t used[16];
     static uint64_t numbers[CALLS][BANKPLAN_CALL_NUMBERS], replies[CALLS][BANKPLAN_REPLY_NUMBERS];
     uint16_t mem[WIDE * HIGH] = {0}, words[12];
-    uint64_t answer[12];
+    uint64_t sums[12] = {0}, answer[12]; /* the sums of 12 banks, all words of which are 0 */
     if (said("read", bankplan_read_book(bytes, sizeof bytes, columns, rows, used, answer)) != 0)
         return 1;
     for (uint64_t k = 0; k < STORES; k++) {
@@ -84,7 +86,7 @@ static int turntable(void) {
     }
     static const uint64_t fetch[] = {BANKPLAN_KIND_RING_FETCH, 9, 5, 0, 12}; /* pattern 0 at (9, 5) */
     memcpy(numbers[STORES], fetch, sizeof fetch);
-    if (said("turntable", bankplan_find_and_run(columns, rows, used, 1, 1, 1024, WIDE, HIGH, mem, STORES, numbers[0],
+    if (said("turntable", bankplan_find_and_run(columns, rows, used, 1, 1, 1024, WIDE, HIGH, mem, STORES, sums, 12, numbers[0],
                                                 CALLS * BANKPLAN_CALL_NUMBERS, words, 12, replies[0],
                                                 CALLS * BANKPLAN_REPLY_NUMBERS, answer)) != 0)
         return 1;
@@ -101,7 +103,7 @@ int main(void) {
     static int8_t columns[1024], rows[1024];
     static size_t used[16];
     uint16_t words[64];
-    uint64_t answer[12];
+    uint64_t sums[BANKPLAN_MAX_BANKS], answer[12];
 
     /* the book, as a record */
     if (said("read", bankplan_read_book(bytes, sizeof bytes, columns, rows, used, answer)) != 0)
@@ -132,11 +134,18 @@ int main(void) {
     if (mem == NULL)
         return 1;
 
+    /* the sums of the N banks, made from the memory at the start; the stores and clears below keep them */
+    size_t banks = a * d;
+    if (said("make sums", bankplan_make_sums(a, b, d, WIDTH, HEIGHT, mem, length, sums, banks, answer)) != 0)
+        return 1;
+
     /* each pixel gets a word of its own: its row, then its column */
     for (int16_t j = 0; j < HEIGHT; j++)
-        for (int16_t i = 0; i < WIDTH; i++)
-            if (said("store", bankplan_store(a, b, d, WIDTH, HEIGHT, mem, length, i, j, (uint16_t)(10 * j + i), answer)))
+        for (int16_t i = 0; i < WIDTH; i++) {
+            uint16_t word = (uint16_t)(10 * j + i);
+            if (said("store", bankplan_store(a, b, d, WIDTH, HEIGHT, mem, length, sums, banks, i, j, word, answer)) != 0)
                 return 1;
+        }
 
     /* the cross at (3, 2): five words from five banks */
     if (said_for(1, "fetch",
@@ -167,36 +176,44 @@ int main(void) {
              bankplan_ring_fetch(columns, rows, used, count, 1, a, b, d, WIDTH, HEIGHT, mem, length, 0, 0, 0, words, 64, answer),
              answer);
 
-    /* the sum of bank 0, before and after it is cleared */
+    /* the sum of bank 0, by a look-up and by a walk through its words, before and after it is cleared */
     for (int round = 0; round < 2; round++) {
-        if (said("sum", bankplan_sum(a, b, d, WIDTH, HEIGHT, mem, length, 0, answer)) == 0)
-            printf("bank 0: sum %d\n", (int)answer[0]);
-        said("clear", bankplan_clear(a, b, d, WIDTH, HEIGHT, mem, length, 0, answer));
+        if (said("read sum", bankplan_read_sum(a, b, d, sums, banks, 0, answer)) != 0)
+            return 1;
+        uint64_t kept = answer[0];
+        if (said("sum", bankplan_sum(a, b, d, WIDTH, HEIGHT, mem, length, 0, answer)) != 0)
+            return 1;
+        printf("bank 0: sum %d by a look-up, %d by the walk\n", (int)kept, (int)answer[0]);
+        said("clear", bankplan_clear(a, b, d, WIDTH, HEIGHT, mem, length, sums, banks, 0, answer));
     }
 
-    /* four calls in one list: five numbers each, replies of twelve; the fetch has an output of five words */
+    /* six calls in one list: five numbers each, replies of twelve; the fetch has an output of five words */
+    enum { CALLS = 6 };
     static const uint64_t numbers[] = {
+        BANKPLAN_KIND_MAKE_SUMS, 0, 0, 0, 0, /* the sums afresh */
         BANKPLAN_KIND_STORE, 4, 2, 99, 0, /* word 99 at (4, 2) */
         BANKPLAN_KIND_LOAD, (uint16_t)-1, 2, 0, 0, /* the word at (-1, 2) */
         BANKPLAN_KIND_CLEAR, 0, 0, 3, 0, /* bank 3 */
+        BANKPLAN_KIND_READ_SUM, 0, 0, 0, 0, /* the sum of bank 0 */
         BANKPLAN_KIND_FETCH, 3, 2, 0, 5, /* pattern 0 at (3, 2) */
     };
-    uint64_t replies[4 * BANKPLAN_REPLY_NUMBERS];
+    uint64_t replies[CALLS * BANKPLAN_REPLY_NUMBERS];
     if (said("list",
-             bankplan_run_list(columns, rows, used, count, 1, a, b, d, WIDTH, HEIGHT, mem, length, numbers,
-                               4 * BANKPLAN_CALL_NUMBERS, words, 5, replies, 4 * BANKPLAN_REPLY_NUMBERS, answer)) != 0)
+             bankplan_run_list(columns, rows, used, count, 1, a, b, d, WIDTH, HEIGHT, mem, length, sums, banks, numbers,
+                               CALLS * BANKPLAN_CALL_NUMBERS, words, 5, replies, CALLS * BANKPLAN_REPLY_NUMBERS, answer)) != 0)
         return 1;
-    show(4, numbers, replies, words);
+    show(CALLS, numbers, replies, words);
 
-    /* the finder too, and the same list on a memory of 0 */
+    /* the finder too, and the same list on a memory of 0, which the list itself makes the sums of */
     for (size_t k = 0; k < length; k++)
         mem[k] = 0;
     if (said("find and run",
-             bankplan_find_and_run(columns, rows, used, count, 1, 1024, WIDTH, HEIGHT, mem, length, numbers,
-                                   4 * BANKPLAN_CALL_NUMBERS, words, 5, replies, 4 * BANKPLAN_REPLY_NUMBERS, answer)) != 0)
+             bankplan_find_and_run(columns, rows, used, count, 1, 1024, WIDTH, HEIGHT, mem, length, sums, banks, numbers,
+                                   CALLS * BANKPLAN_CALL_NUMBERS, words, 5, replies, CALLS * BANKPLAN_REPLY_NUMBERS,
+                                   answer)) != 0)
         return 1;
     printf("list under plan %d %d %d\n", (int)answer[0], (int)answer[1], (int)answer[2]);
-    show(4, numbers, replies, words);
+    show(CALLS, numbers, replies, words);
     free(mem);
     return two_cycles(columns, rows, used, count) || turntable();
 }

@@ -1,6 +1,7 @@
 //! A camera's buffer, from Rust: a filter of five pixels in a cross, the plan with the fewest banks for it, a picture of 7 by 4
-//! under that plan, what shuffled books, suppliers and wrong positions get, a list of calls made at once, the same filter read in
-//! two cycles, and a turntable, whose pixels are fetched around its edges. camera.c does the same in C.
+//! under that plan, what shuffled books, suppliers and wrong positions get, the sum of a bank by a look-up and by the walk, a list
+//! of calls made at once, the same filter read in two cycles, and a turntable, whose pixels are fetched around its edges. camera.c
+//! does the same in C.
 //!
 //!     rustc --edition 2021 -O --crate-type rlib --out-dir target -L native=target/staticlib -l static=capi bindings/bankplan.rs
 //!     rustc --edition 2021 -O --out-dir target --extern bankplan=target/libbankplan.rlib examples/camera.rs
@@ -32,6 +33,7 @@ fn show(replies: Vec<Reply>) {
         match reply {
             Reply::Done => println!("list: done"),
             Reply::Word(word) => println!("list: word {word:02}"),
+            Reply::Sum(sum) => println!("list: sum {sum:02}"),
             Reply::Words(words) => {
                 println!("list: words {}", words.iter().map(|word| format!("{word:02}")).collect::<Vec<_>>().join(" "))
             }
@@ -62,7 +64,8 @@ fn turntable() -> Result<(), Box<dyn Error>> {
     let store = |(i, j)| Call::Store { pixel: (i, j), word: (100 * j + i) as u16 };
     let mut calls: Vec<Call> = (0..72).map(|k| store((k % 12, k / 12))).collect();
     calls.push(Call::RingFetch { pattern: 0, at: (9, 5), room: 12 });
-    let (plan, mut replies) = Book::new(&[filter])?.find_and_run(1, 1024, (12, 6), &mut [0; 72], &calls)?;
+    // a word to each pixel and the sums of 12 banks, all 0
+    let (plan, mut replies) = Book::new(&[filter])?.find_and_run(1, 1024, (12, 6), &mut [0; 72], &mut [0; 12], &calls)?;
     println!("turntable: plan {} {} {}", plan.a, plan.b, plan.d);
     show(replies.split_off(72));
     Ok(())
@@ -97,10 +100,14 @@ fn main() -> Result<(), Box<dyn Error>> {
     let mut mem = vec![0; (plan.banks() * depth) as usize];
     println!("memory: {} words, {depth} to a bank", mem.len());
 
+    // the sums of the N banks, made from the memory at the start; the stores and clears below keep them
+    let mut sums = vec![0; plan.banks() as usize];
+    picture.make_sums(&mem, &mut sums)?;
+
     // each pixel gets a word of its own: its row, then its column
     for j in 0..4 {
         for i in 0..7 {
-            picture.store(&mut mem, (i, j), (10 * j + i) as u16)?;
+            picture.store(&mut mem, &mut sums, (i, j), (10 * j + i) as u16)?;
         }
     }
 
@@ -129,24 +136,26 @@ fn main() -> Result<(), Box<dyn Error>> {
         say("ring fetch at the corner", refused);
     }
 
-    // the sum of bank 0, before and after it is cleared
+    // the sum of bank 0, by a look-up and by a walk through its words, before and after it is cleared
     for _ in 0..2 {
-        println!("bank 0: sum {}", picture.sum(&mem, 0)?);
-        picture.clear(&mut mem, 0)?;
+        println!("bank 0: sum {} by a look-up, {} by the walk", plan.read_sum(&sums, 0)?, picture.sum(&mem, 0)?);
+        picture.clear(&mut mem, &mut sums, 0)?;
     }
 
-    // four calls in one list
+    // six calls in one list
     let calls = [
+        Call::MakeSums,
         Call::Store { pixel: (4, 2), word: 99 },
         Call::Load { pixel: (-1, 2) },
         Call::Clear { bank: 3 },
+        Call::ReadSum { bank: 0 },
         Call::Fetch { pattern: 0, at: (3, 2), room: 5 },
     ];
-    show(picture.run_list(&book, 1, &mut mem, &calls)?);
+    show(picture.run_list(&book, 1, &mut mem, &mut sums, &calls)?);
 
-    // the finder too, and the same list on a memory of 0
+    // the finder too, and the same list on a memory of 0, which the list itself makes the sums of
     mem.fill(0);
-    let (plan, replies) = book.find_and_run(1, 1024, (7, 4), &mut mem, &calls)?;
+    let (plan, replies) = book.find_and_run(1, 1024, (7, 4), &mut mem, &mut sums, &calls)?;
     println!("list under plan {} {} {}", plan.a, plan.b, plan.d);
     show(replies);
     two_cycles(&book)?;

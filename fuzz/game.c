@@ -2,6 +2,7 @@
 #include "game.h"
 
 enum { MOST = 1 << 16 }; // words of a memory, at most
+static const uint64_t PAST_SUM = 0x0ddba11c0ffee000; // what stands in the entries past the picture's
 
 static uint64_t up(uint64_t n, uint64_t m) { return (n + m - 1) / m; }
 
@@ -73,8 +74,8 @@ void choose_memory(struct game *g, struct feed *f) {
     unsigned more = byte(f);
     bool sides = g->w >= 1 && g->w <= 4096 && g->h >= 1 && g->h <= 4096;
     g->refused = !is_plan(g->p) ? 11 : !sides ? 12 : 0;
+    g->banks = is_plan(g->p) ? g->p.a * g->p.d : 0;
     if (!g->refused) {
-        g->banks = g->p.a * g->p.d;
         g->depth = up(g->w, g->p.a) * up(g->h, g->p.d);
         g->ring = steps_keep_banks(g->p, g->w, g->h);
     }
@@ -86,8 +87,28 @@ void choose_memory(struct game *g, struct feed *f) {
     g->shadow = g->refused ? NULL : calloc((size_t)g->w * g->h, sizeof *g->shadow);
 }
 
+// The sums: an entry to each bank and one behind, all banks' 0; or, if so asked, more behind or one less, and any numbers to begin
+// with.
+void choose_sums(struct game *g, struct feed *f, unsigned how) {
+    unsigned more = how & 128 ? byte(f) : 1;
+    uint64_t start = more != 255 && more & 64 ? eight(f) : 0;
+    g->entries = more == 255 && g->banks ? g->banks - 1 : g->banks + more % 4;
+    g->lent_refused = !g->refused && g->entries < g->banks ? 13 : g->refused;
+    g->sums = lent(g->entries * sizeof *g->sums);
+    for (size_t k = 0; k < g->entries; k++) g->sums[k] = k < g->banks ? start * (k + 1) : PAST_SUM + k;
+    g->kept = lent_copy(g->sums, g->entries * sizeof *g->sums);
+}
+
 unsigned outcome(const struct game *g, unsigned condition, bool holds) {
     return g->refused ? g->refused : holds ? condition : 0;
+}
+
+unsigned lent_outcome(const struct game *g, unsigned condition, bool holds) {
+    return g->lent_refused ? g->lent_refused : holds ? condition : 0;
+}
+
+unsigned read_outcome(const struct game *g, uint64_t k) {
+    return !is_plan(g->p) ? 11 : g->entries < g->banks ? 13 : k >= g->banks ? 15 : 0;
 }
 
 unsigned fetch_number(const struct game *g, size_t n, int i, int j, size_t room, bool ring, size_t clash[CLASH_LENGTH]) {
@@ -105,4 +126,36 @@ unsigned fetch_number(const struct game *g, size_t n, int i, int j, size_t room,
 uint16_t fetched_word(const struct game *g, size_t n, size_t m, int i, int j, bool ring) {
     int x = i + g->r.columns[64 * n + m], y = j + g->r.rows[64 * n + m];
     return ring ? *pixel(g, (int)floor_mod(x, g->w), (int)floor_mod(y, g->h)) : *pixel(g, x, y);
+}
+
+void plain_store(struct game *g, int i, int j, uint16_t word) {
+    uint64_t *sum = g->kept + plain_bank(g->p, i, j);
+    *sum = *sum - *pixel(g, i, j) + word;
+    *pixel(g, i, j) = word;
+}
+
+void plain_clear(struct game *g, uint64_t k) {
+    for (uint32_t j = 0; j < g->h; j++)
+        for (uint32_t i = 0; i < g->w; i++)
+            if (plain_bank(g->p, i, j) == k) *pixel(g, i, j) = 0;
+    g->kept[k] = 0;
+}
+
+uint64_t plain_sum(const struct game *g, uint64_t k) {
+    uint64_t sum = 0;
+    for (uint32_t j = 0; j < g->h; j++)
+        for (uint32_t i = 0; i < g->w; i++)
+            if (plain_bank(g->p, i, j) == k) sum += *pixel(g, i, j);
+    return sum;
+}
+
+void plain_make(struct game *g) {
+    for (uint64_t k = 0; k < g->banks; k++) g->kept[k] = 0;
+    for (uint32_t j = 0; j < g->h; j++)
+        for (uint32_t i = 0; i < g->w; i++) g->kept[plain_bank(g->p, i, j)] += *pixel(g, i, j);
+    g->made = true;
+}
+
+void must_keep(const struct game *g) {
+    for (size_t k = 0; k < g->entries; k++) MUST(g->sums[k] == g->kept[k]);
 }

@@ -1,17 +1,18 @@
-// Target 3: lists of calls on a picture, against a plain array from pixel to word.
+// Target 3: lists of calls on a picture, against a plain array from pixel to word and what the sums must be.
 #include "game.h"
 
 static void store(struct game *g, struct feed *f) {
     int16_t i = coordinate(f), j = coordinate(f);
     uint16_t word = two(f);
-    unsigned no = outcome(g, 14, !inside(g, i, j));
-    TOLD(t, bankplan_store(PICTURE(g), i, j, word, answer));
+    unsigned no = lent_outcome(g, 14, !inside(g, i, j));
+    TOLD(t, bankplan_store(PICTURE(g), SUMS(g), i, j, word, answer));
     if (no) {
         must_refuse(t, no);
-        return;
+    } else {
+        MUST(t.number == 0 && t.values == 0);
+        plain_store(g, i, j, word);
     }
-    MUST(t.number == 0 && t.values == 0);
-    *pixel(g, i, j) = word;
+    must_keep(g);
 }
 
 static void load(const struct game *g, struct feed *f) {
@@ -27,20 +28,43 @@ static void bank(struct game *g, struct feed *f) {
     uint64_t k = number(f);
     bool clear = byte(f) % 2;
     unsigned no = outcome(g, 15, k >= g->banks);
-    uint64_t sum = 0;
-    for (uint32_t j = 0; !no && j < g->h; j++)
-        for (uint32_t i = 0; i < g->w; i++)
-            if (plain_bank(g->p, i, j) == k) {
-                sum += *pixel(g, i, j);
-                if (clear) *pixel(g, i, j) = 0;
-            }
     TOLD(s, bankplan_sum(PICTURE(g), k, answer));
     if (no) must_refuse(s, no);
-    else MUST(s.number == 0 && s.values == 1 && s.row[0] == sum);
+    else MUST(s.number == 0 && s.values == 1 && s.row[0] == plain_sum(g, k));
     if (!clear) return;
-    TOLD(c, bankplan_clear(PICTURE(g), k, answer));
-    if (no) must_refuse(c, no);
-    else MUST(c.number == 0 && c.values == 0);
+    no = lent_outcome(g, 15, k >= g->banks);
+    TOLD(c, bankplan_clear(PICTURE(g), SUMS(g), k, answer));
+    if (no) {
+        must_refuse(c, no);
+    } else {
+        MUST(c.number == 0 && c.values == 0);
+        plain_clear(g, k);
+    }
+    must_keep(g);
+}
+
+static void make_sums(struct game *g) {
+    unsigned no = lent_outcome(g, 0, false);
+    TOLD(t, bankplan_make_sums(PICTURE(g), SUMS(g), answer));
+    if (no) {
+        must_refuse(t, no);
+    } else {
+        MUST(t.number == 0 && t.values == 0);
+        plain_make(g);
+    }
+    must_keep(g);
+}
+
+// The sum that is kept of a bank; once they were made afresh it is the walk's figure.
+static void read_sum(const struct game *g, struct feed *f) {
+    uint64_t k = number(f);
+    unsigned no = read_outcome(g, k);
+    TOLD(t, bankplan_read_sum(PLAN(g), SUMS(g), k, answer));
+    if (no) must_refuse(t, no);
+    else MUST(t.number == 0 && t.values == 1 && t.row[0] == g->kept[k]);
+    if (no || !g->made) return;
+    TOLD(s, bankplan_sum(PICTURE(g), k, answer));
+    MUST(s.number == 0 && s.row[0] == t.row[0]);
 }
 
 // Bank, depth and address of a pixel, and the pixel of that bank and address.
@@ -128,7 +152,7 @@ static void fill(const struct game *g, struct feed *f) {
 }
 
 static void step(struct game *g, struct feed *f) {
-    switch (byte(f) % 11) {
+    switch (byte(f) % 13) {
     case 0:
     case 1: store(g, f); break;
     case 2: load(g, f); break;
@@ -139,6 +163,8 @@ static void step(struct game *g, struct feed *f) {
     case 7: fetch(g, f, true); break;
     case 8: fill(g, f); break;
     case 9: run(g, f); break;
+    case 11: make_sums(g); break;
+    case 12: read_sum(g, f); break;
     default: {
         size_t n = number(f), room = byte(f) % 67;
         cycles(&g->r, g->record_refused, g->cycles, g->p, n, room);
@@ -146,7 +172,15 @@ static void step(struct game *g, struct feed *f) {
     }
 }
 
-// After the list: every word last stored in its place, the other words of the picture 0, the rest as at the start.
+// The sum of the words of bank k in the memory.
+static uint64_t walked(const struct game *g, size_t k) {
+    uint64_t sum = 0;
+    for (size_t i = k * g->depth; i < (k + 1) * g->depth; i++) sum += g->memory[i];
+    return sum;
+}
+
+// After the list: every word last stored in its place, the other words of the picture 0, the rest as at the start. The sums are as
+// they must be; once they were made afresh each is that of its bank's words.
 static void after(const struct game *g) {
     uint64_t sum = 0, stored = 0;
     uint64_t picture = g->refused ? 0 : g->banks * g->depth;
@@ -159,6 +193,8 @@ static void after(const struct game *g) {
     MUST(sum == stored);
     for (size_t k = g->banks * g->depth; k < g->words; k++) MUST(g->memory[k] == PAST);
     for (size_t k = 0; g->refused == 13 && k < g->words; k++) MUST(g->memory[k] == 0);
+    must_keep(g);
+    for (size_t k = 0; g->made && k < g->banks; k++) MUST(g->sums[k] == walked(g, k));
 }
 
 int LLVMFuzzerTestOneInput(const uint8_t *data, size_t size) {
@@ -171,9 +207,12 @@ int LLVMFuzzerTestOneInput(const uint8_t *data, size_t size) {
     choose_plan(&g, &f, how);
     choose_sides(&g, &f, how);
     choose_memory(&g, &f);
+    choose_sums(&g, &f, how);
     for (int steps = 0; f.left > 0 && steps < 200; steps++) step(&g, &f);
     after(&g);
     give_back(g.memory, g.words * sizeof *g.memory);
+    give_back(g.sums, g.entries * sizeof *g.sums);
+    give_back(g.kept, g.entries * sizeof *g.kept);
     free(g.shadow);
     drop_record(&g.r);
     return 0;

@@ -1,5 +1,5 @@
-// Some calls made as one list: its answer, replies and outputs by the plain array from pixel to word. The memory is looked at when
-// all calls of the input are made.
+// Some calls made as one list: its answer, replies and outputs by the plain array from pixel to word, and the sums behind it. The
+// memory is looked at when all calls of the input are made.
 #include "game.h"
 
 enum { MOST_CALLS = 12, MOST_NUMBERS = (MOST_CALLS + 1) * BANKPLAN_CALL_NUMBERS };
@@ -14,10 +14,10 @@ struct list {
 
 // A number at an edge of what a call can have, or any.
 static uint64_t edge(struct feed *f) {
-    static const uint64_t edges[15] = {0,     1,     2,     3,          4,          5,          64,            65, 32767,
-                                       32768, 65535, 65536, 1ull << 32, 1ull << 63, UINT64_MAX};
-    unsigned x = byte(f) % 16;
-    return x < 15 ? edges[x] : number(f);
+    static const uint64_t edges[17] = {0,  1,     2,     3,     4,     5,          7,          8,         64,
+                                       65, 32767, 32768, 65535, 65536, 1ull << 32, 1ull << 63, UINT64_MAX};
+    unsigned x = byte(f) % 18;
+    return x < 17 ? edges[x] : number(f);
 }
 
 // The words of outputs that a call takes up: those of a fetch, plain or around the ring.
@@ -25,10 +25,11 @@ static uint64_t room_of(const uint64_t *call) {
     return call[0] == BANKPLAN_KIND_FETCH || call[0] == BANKPLAN_KIND_RING_FETCH ? call[4] : 0;
 }
 
-// A call's numbers; now and then one of them is at an edge. The highest bit of a fetch's room is for a ring fetch.
+// A call's numbers; now and then it is one of the sums', or one of its numbers is at an edge. The highest bit of a fetch's room is
+// for a ring fetch.
 static uint64_t draw_call(struct feed *f, uint64_t *call) {
     unsigned how = byte(f);
-    call[0] = how & 3;
+    call[0] = (how >> 2 & 7) == 6 ? BANKPLAN_KIND_MAKE_SUMS + (how & 3) % 3 : how & 3;
     call[1] = (uint16_t)coordinate(f);
     call[2] = (uint16_t)coordinate(f);
     call[3] = call[0] == BANKPLAN_KIND_STORE ? two(f) : number(f);
@@ -70,7 +71,7 @@ static unsigned plain_fault(const struct list *x, uint64_t *place) {
     for (; x->length - at >= BANKPLAN_CALL_NUMBERS; at += BANKPLAN_CALL_NUMBERS) {
         const uint64_t *call = x->numbers + at;
         *place = at;
-        if (call[0] > 4 || call[1] > 65535 || call[2] > 65535 || (call[0] == 0 && call[3] > 65535)) return BANKPLAN_NOT_CALLS;
+        if (call[0] > 7 || call[1] > 65535 || call[2] > 65535 || (call[0] == 0 && call[3] > 65535)) return BANKPLAN_NOT_CALLS;
         *place = 0;
         if (room_of(call) > room) return BANKPLAN_OUTPUT;
         room -= room_of(call);
@@ -80,35 +81,59 @@ static unsigned plain_fault(const struct list *x, uint64_t *place) {
     return x->places / BANKPLAN_REPLY_NUMBERS < x->length / BANKPLAN_CALL_NUMBERS ? BANKPLAN_OUTPUT : 0;
 }
 
-static void clear_pixels(struct game *g, uint64_t bank) {
-    for (uint32_t j = 0; j < g->h; j++)
-        for (uint32_t i = 0; i < g->w; i++)
-            if (plain_bank(g->p, i, j) == bank) *pixel(g, i, j) = 0;
+// A call on whole banks: its reply.
+static void plain_bank_call(struct game *g, const uint64_t *call, uint64_t reply[BANKPLAN_REPLY_NUMBERS]) {
+    uint64_t k = call[3];
+    switch (call[0]) {
+    case BANKPLAN_KIND_CLEAR:
+        reply[0] = lent_outcome(g, 15, k >= g->banks);
+        if (!reply[0]) plain_clear(g, k);
+        break;
+    case BANKPLAN_KIND_MAKE_SUMS:
+        reply[0] = lent_outcome(g, 0, false);
+        if (!reply[0]) plain_make(g);
+        break;
+    case BANKPLAN_KIND_SUM:
+        reply[0] = outcome(g, 15, k >= g->banks);
+        if (!reply[0]) reply[1] = plain_sum(g, k);
+        break;
+    default:
+        reply[0] = read_outcome(g, k);
+        if (!reply[0]) reply[1] = g->kept[k];
+    }
+}
+
+// A fetch on the plain array: its reply and its words; how many there are.
+static size_t plain_fetch(const struct game *g, const uint64_t *call, int i, int j, uint64_t reply[BANKPLAN_REPLY_NUMBERS],
+                          uint16_t words[64]) {
+    size_t n = call[3], clash[CLASH_LENGTH];
+    bool ring = call[0] == BANKPLAN_KIND_RING_FETCH;
+    reply[0] = fetch_number(g, n, i, j, call[4], ring, clash);
+    if (reply[0] == 10) reply[2] = n;
+    for (uint32_t m = 0; reply[0] == 10 && m <= g->cycles; m++) reply[3 + m] = clash[m];
+    if (reply[0]) return 0;
+    reply[1] = g->r.used[n];
+    for (size_t m = 0; m < reply[1]; m++) words[m] = fetched_word(g, n, m, i, j, ring);
+    return reply[1];
 }
 
 // A call on the plain array: its reply and, of a fetch, its words; how many there are.
 static size_t plain_call(struct game *g, const uint64_t *call, uint64_t reply[BANKPLAN_REPLY_NUMBERS], uint16_t words[64]) {
     int i = (int16_t)(uint16_t)call[1], j = (int16_t)(uint16_t)call[2];
-    size_t n = call[3], clash[CLASH_LENGTH];
-    bool outside = !inside(g, i, j), ring = call[0] == BANKPLAN_KIND_RING_FETCH;
     memset(reply, 0, BANKPLAN_REPLY_NUMBERS * sizeof *reply);
-    if (call[0] == BANKPLAN_KIND_CLEAR) {
-        reply[0] = outcome(g, 15, n >= g->banks);
-        if (!reply[0]) clear_pixels(g, n);
-    } else if (call[0] < BANKPLAN_KIND_FETCH) {
-        reply[0] = outcome(g, 14, outside);
-        if (!reply[0] && call[0] == BANKPLAN_KIND_STORE) *pixel(g, i, j) = (uint16_t)n;
-        if (!reply[0] && call[0] == BANKPLAN_KIND_LOAD) reply[1] = *pixel(g, i, j);
-    } else {
-        reply[0] = fetch_number(g, n, i, j, call[4], ring, clash);
-        if (reply[0] == 10) reply[2] = n;
-        for (uint32_t m = 0; reply[0] == 10 && m <= g->cycles; m++) reply[3 + m] = clash[m];
-        if (reply[0]) return 0;
-        reply[1] = g->r.used[n];
-        for (size_t m = 0; m < reply[1]; m++) words[m] = fetched_word(g, n, m, i, j, ring);
-        return reply[1];
+    switch (call[0]) {
+    case BANKPLAN_KIND_STORE:
+        reply[0] = lent_outcome(g, 14, !inside(g, i, j));
+        if (!reply[0]) plain_store(g, i, j, (uint16_t)call[3]);
+        return 0;
+    case BANKPLAN_KIND_LOAD:
+        reply[0] = outcome(g, 14, !inside(g, i, j));
+        if (!reply[0]) reply[1] = *pixel(g, i, j);
+        return 0;
+    case BANKPLAN_KIND_FETCH:
+    case BANKPLAN_KIND_RING_FETCH: return plain_fetch(g, call, i, j, reply, words);
+    default: plain_bank_call(g, call, reply); return 0;
     }
-    return 0;
 }
 
 // The list was made: its replies one after the other, each fetch's words at the start of its room, the rest as it was.
@@ -138,11 +163,12 @@ static struct told make(const struct game *g, const struct list *x, unsigned lim
     TOLD(f, bankplan_find(RECORD(&g->r), g->cycles, limit, answer));
     *found = f;
     if (f.number != 0 || (f.row[0] == g->p.a && f.row[1] == g->p.b && f.row[2] == g->p.d)) {
-        TOLD(t, bankplan_find_and_run(RECORD(&g->r), g->cycles, limit, g->w, g->h, g->memory, g->words, LIST(x), answer));
+        TOLD(t, bankplan_find_and_run(RECORD(&g->r), g->cycles, limit, g->w, g->h, g->memory, g->words, SUMS(g), LIST(x),
+                                      answer));
         return t;
     }
     *found = (struct told){0};
-    TOLD(t, bankplan_run_list(RECORD(&g->r), g->cycles, PICTURE(g), LIST(x), answer));
+    TOLD(t, bankplan_run_list(RECORD(&g->r), g->cycles, PICTURE(g), SUMS(g), LIST(x), answer));
     return t;
 }
 
@@ -156,7 +182,7 @@ void run(struct game *g, struct feed *f) {
     if (finder) {
         t = make(g, &x, limit, &found);
     } else {
-        TOLD(u, bankplan_run_list(RECORD(&g->r), g->cycles, PICTURE(g), LIST(&x), answer));
+        TOLD(u, bankplan_run_list(RECORD(&g->r), g->cycles, PICTURE(g), SUMS(g), LIST(&x), answer));
         t = u;
     }
     if (found.number) { // the finder's refusal before all that is wrong with the list
@@ -170,6 +196,7 @@ void run(struct game *g, struct feed *f) {
         for (int k = 0; k < found.values; k++) MUST(t.row[k] == found.row[k]);
         must_be_made(g, &x);
     }
+    must_keep(g);
     give_back(x.numbers, x.length * sizeof *x.numbers);
     give_back(x.outs, x.room * sizeof *x.outs);
     give_back(x.replies, x.places * sizeof *x.replies);

@@ -42,6 +42,13 @@
  * A picture's memory is mem_length 16-bit words, and the output of a fetch is such words too. Bank k has the words k * depth to
  * (k + 1) * depth - 1; the words from N * depth on are never touched.
  *
+ * The sums of a picture's banks are sums_length 64-bit numbers: entry k is that of bank k, and the entries from N on are never
+ * touched. A store takes the old word off its bank's entry and adds the new one, modulo 2^64. A clear sets the bank's entry to 0.
+ * bankplan_make_sums makes all N afresh from the memory, for start-up; bankplan_read_sum tells one by a look-up; bankplan_sum
+ * walks through the bank's words and is not lent the sums. From a bankplan_make_sums that was not refused on, each entry is the
+ * figure that bankplan_sum tells, as long as the memory and the sums change only through calls of this library, all under one
+ * plan and one size of picture. Where it is not so, an entry is only what the calls made of it.
+ *
  * A record list is list_length records of 12 bytes: column, row, bank and address at the offsets 0, 2, 4 and 8.
  *
  * What is lent. A pointer with a length points to that many elements, an array parameter to as many as stand in its brackets.
@@ -65,9 +72,9 @@ extern "C" {
 
 /* The version of this header, and of the library that is built from the same tree. */
 #define BANKPLAN_VERSION_MAJOR 0
-#define BANKPLAN_VERSION_MINOR 6
+#define BANKPLAN_VERSION_MINOR 7
 #define BANKPLAN_VERSION_PATCH 0
-#define BANKPLAN_VERSION "0.6.0"
+#define BANKPLAN_VERSION "0.7.0"
 
 /* The limits of documents 01 and 02, and how long the arrays are that go with them. */
 enum bankplan_limit {
@@ -84,7 +91,8 @@ enum bankplan_limit {
 };
 
 /* Why a call was turned down: each refusal's name, number and text. The number and the text are those of document 01, and of
-   Cards 5, 3 and 4 of document 02 for 18, 19 and 20. Two texts hold signs that are not ASCII, × and ≥; they are UTF-8. */
+   Cards 5, 3 and 4 of document 02 for 18, 19 and 20; Card 6 adds the sums to 13. Two texts hold signs that are not ASCII, × and
+   ≥; they are UTF-8. */
 #define BANKPLAN_REFUSALS(X)                                                         \
     X(BANKPLAN_ENDS, 1, "book ends early")                                           \
     X(BANKPLAN_COUNT, 2, "pattern count not 1-16 or pixel count not 1-64")           \
@@ -98,7 +106,7 @@ enum bankplan_limit {
     X(BANKPLAN_UNSUITED, 10, "plan doesn't suit")                                    \
     X(BANKPLAN_NOT_PLAN, 11, "not a plan as defined")                                \
     X(BANKPLAN_SIDES, 12, "W or H not 1-4096")                                       \
-    X(BANKPLAN_MEMORY, 13, "memory shorter than N × depth")                          \
+    X(BANKPLAN_MEMORY, 13, "memory shorter than N × depth, or sums shorter than N")  \
     X(BANKPLAN_OUTSIDE, 14, "pixel outside the picture")                             \
     X(BANKPLAN_CELL, 15, "bank ≥ N, address ≥ depth, or their pixel outside")        \
     X(BANKPLAN_OUTPUT, 16, "output too short")                                       \
@@ -186,23 +194,36 @@ uint64_t bankplan_locate(uint32_t a, uint32_t b, uint32_t d, uint32_t w, uint32_
 
 /* ---- pictures */
 
-/* Stores the word x at a pixel. Refused by 11, 12, 13, 14. Tells nothing.
-   Lent: the word at the pixel's bank and address is x, the rest of mem stays; on a refusal all of it does. */
+/* Stores the word x at a pixel and keeps its bank's sum. Refused by 11, 12, 13 (mem or sums too short), 14. Tells nothing.
+   Lent: the word at the pixel's bank and address is x, and the bank's entry of sums is what it was, less the old word, plus x,
+   modulo 2^64. The rest of mem and of sums stays; on a refusal all of both does. */
 uint64_t bankplan_store(uint32_t a, uint32_t b, uint32_t d, uint32_t w, uint32_t h, uint16_t *mem, size_t mem_length,
-                        int16_t i, int16_t j, uint16_t x, uint64_t answer[12]);
+                        uint64_t *sums, size_t sums_length, int16_t i, int16_t j, uint16_t x, uint64_t answer[12]);
 
 /* Loads the word at a pixel. Refused by 11, 12, 13, 14. Tells the word. */
 uint64_t bankplan_load(uint32_t a, uint32_t b, uint32_t d, uint32_t w, uint32_t h, const uint16_t *mem, size_t mem_length,
                        int16_t i, int16_t j, uint64_t answer[12]);
 
-/* Clears bank k. Refused by 11, 12, 13, 15 (k not below N). Tells nothing.
-   Lent: each word of the bank is 0, the rest of mem stays; on a refusal all of it does. */
+/* Clears bank k and its sum. Refused by 11, 12, 13 (mem or sums too short), 15 (k not below N). Tells nothing.
+   Lent: each word of the bank is 0, and so is its entry of sums. The rest of mem and of sums stays; on a refusal all of both
+   does. */
 uint64_t bankplan_clear(uint32_t a, uint32_t b, uint32_t d, uint32_t w, uint32_t h, uint16_t *mem, size_t mem_length,
-                        uint64_t k, uint64_t answer[12]);
+                        uint64_t *sums, size_t sums_length, uint64_t k, uint64_t answer[12]);
 
-/* Adds up the words of bank k, exactly. Refused by 11, 12, 13, 15 (k not below N). Tells the sum. */
+/* Adds up the words of bank k, exactly. Refused by 11, 12, 13, 15 (k not below N). Tells the sum. This is the walk. */
 uint64_t bankplan_sum(uint32_t a, uint32_t b, uint32_t d, uint32_t w, uint32_t h, const uint16_t *mem, size_t mem_length,
                       uint64_t k, uint64_t answer[12]);
+
+/* Makes the sums of all banks afresh from the memory, whatever they were. Refused by 11, 12, 13 (mem or sums too short). Tells
+   nothing.
+   Lent: entry k of sums is the sum of bank k's words, for each k below N. The rest of sums stays; on a refusal all of it does. */
+uint64_t bankplan_make_sums(uint32_t a, uint32_t b, uint32_t d, uint32_t w, uint32_t h, const uint16_t *mem, size_t mem_length,
+                            uint64_t *sums, size_t sums_length, uint64_t answer[12]);
+
+/* Reads the sum that is kept of bank k: a look-up, in the same time for every bank and picture. Refused by 11, 13 (sums too
+   short), 15 (k not below N). Tells the sum. It is given no sides and no memory, so it is never refused by 12. */
+uint64_t bankplan_read_sum(uint32_t a, uint32_t b, uint32_t d, const uint64_t *sums, size_t sums_length, uint64_t k,
+                           uint64_t answer[12]);
 
 /* Fetches pattern n of a book with (0, 0) moved to (i, j), for r. Refused by 2, 3, 4, 19 in book order, 20, 11, 12, 13, 17, by 10
    with the clash where the plan does not suit pattern n for r, 14 where any of its pixels is outside, 16. Tells the count of
@@ -224,19 +245,21 @@ uint64_t bankplan_ring_fetch(const int8_t columns[1024], const int8_t rows[1024]
 /* ---- lists of calls */
 
 /*
- * Two functions carry out a list of stores, clears, loads, fetches and ring fetches, each call on the memory as the one before
- * left it. The list is numbers, five to a call:
+ * Two functions carry out a list of calls, each on the memory and the sums as the one before left them. A call is a store, a
+ * clear, a load, a fetch, a ring fetch, or one of bankplan_make_sums, bankplan_sum and bankplan_read_sum. The list is numbers,
+ * five to a call:
  *
- *   number       store    clear         load     fetch, ring fetch
- *   0: kind      0        1             2        3, 4
- *   1: column    column   below 65536   column   column of the position
- *   2: row       row      below 65536   row      row of the position
- *   3: what      word     bank          any      pattern number
- *   4: room      any      any           any      words of its output
+ *   number       store    clear, sum,   load     fetch,               make sums
+ *                         read sum               ring fetch
+ *   0: kind      0        1, 6, 7       2        3, 4                 5
+ *   1: column    column   below 65536   column   column of position   below 65536
+ *   2: row       row      below 65536   row      row of position      below 65536
+ *   3: what      word     bank          any      pattern number       any
+ *   4: room      any      any           any      words of its output  any
  *
  * A column or a row is 16 bits in two's complement, in a number below 65536: (uint16_t)-1 is 65535, which is -1. A word is below
- * 65536 too. Banks, pattern numbers and rooms may be any numbers. "Any" is not looked at; a clear's column and row must only be
- * below 65536. What is said of fetches below holds for ring fetches too.
+ * 65536 too. Banks, pattern numbers and rooms may be any numbers. "Any" is not looked at; "below 65536" is all that is tested of
+ * such a number. What is said of fetches below holds for ring fetches too.
  *
  * The fetches' outputs stand in `outs`, in the list's order: the first fetch has the first `room` words, the next one the words
  * behind them, and so on. Each puts its words at the start of its own; the rest of outs stays.
@@ -244,11 +267,12 @@ uint64_t bankplan_ring_fetch(const int8_t columns[1024], const int8_t rows[1024]
  * The replies stand in `replies` in the list's order, twelve numbers to a call. The first is the number that the single call
  * returns, the others are what it puts into its answer, and 0 for what it leaves there:
  *
- *   store or clear, not refused    0, then 0
- *   load, not refused              0, the word, then 0
- *   fetch, not refused             0, the count of words, then 0
- *   refused                        the refusal's number, its place (0), then 0
- *   refused by 10                  10, 0, the pattern's number, the numbers of the clash's r + 1 pixels, then 0
+ *   store, clear or make sums, not refused    0, then 0
+ *   load, not refused                         0, the word, then 0
+ *   fetch, not refused                        0, the count of words, then 0
+ *   sum or read sum, not refused              0, the sum, then 0
+ *   refused                                   the refusal's number, its place (0), then 0
+ *   refused by 10                             10, 0, the pattern's number, the numbers of the clash's r + 1 pixels, then 0
  *
  * A refused call is no fault of the list: the calls behind it are carried out. What stands in replies behind the last reply
  * stays.
@@ -260,7 +284,10 @@ enum bankplan_kind {
     BANKPLAN_KIND_CLEAR = 1,
     BANKPLAN_KIND_LOAD = 2,
     BANKPLAN_KIND_FETCH = 3,
-    BANKPLAN_KIND_RING_FETCH = 4
+    BANKPLAN_KIND_RING_FETCH = 4,
+    BANKPLAN_KIND_MAKE_SUMS = 5,
+    BANKPLAN_KIND_SUM = 6,     /* the walk */
+    BANKPLAN_KIND_READ_SUM = 7 /* the look-up */
 };
 
 /* How many numbers a call and a reply have; and what a function returns for numbers that are no list of calls. Document 01 has
@@ -277,23 +304,25 @@ enum bankplan_list {
      16     outs has not the room of all fetches, or replies has not twelve numbers to a call. The place is 0.
    The list is tested from its start on, the five numbers of a call before its room; then what is left at the end, then the
    replies' length.
-   Lent: mem, outs and replies as said above; where the list was not carried out all of them stay. */
+   After a make-sums in the list that was not refused, each of the N sums is the figure of bankplan_sum, to the end of the list.
+   Lent: mem, sums, outs and replies as said above; where the list was not carried out all of them stay. */
 uint64_t bankplan_run_list(const int8_t columns[1024], const int8_t rows[1024], const size_t used[16], size_t count, uint32_t r,
                            uint32_t a, uint32_t b, uint32_t d, uint32_t w, uint32_t h, uint16_t *mem, size_t mem_length,
-                           const uint64_t *numbers, size_t numbers_length, uint16_t *outs, size_t outs_length,
-                           uint64_t *replies, size_t replies_length, uint64_t answer[12]);
+                           uint64_t *sums, size_t sums_length, const uint64_t *numbers, size_t numbers_length, uint16_t *outs,
+                           size_t outs_length, uint64_t *replies, size_t replies_length, uint64_t answer[12]);
 
 /* Finds the plan with the fewest banks, at most limit, for a book and r, and carries out a list of calls under it. Refused by 2,
    3, 4, 19 in book order, 6, 20, 7 where there is no plan; then 255 and 16 as above. Tells a, b, d.
-   The memory is to have N * depth words under the plan that is found, or each call is refused by 13; (w + limit) * (h + limit)
-   words are always enough. If these N * depth words are 0, each word that is fetched or loaded is the one last stored at its
-   pixel, or 0 where there is none since the last clear of its bank (demand 3 of document 01). The pixels of a ring fetch are the
-   wrapped ones.
+   The memory is to have N * depth words under the plan that is found, and the sums N entries, or calls are refused by 13. Always
+   enough are (w + limit) * (h + limit) words and limit entries. If these N * depth words are 0, each word that is fetched or
+   loaded is the one last stored at its pixel, or 0 where there is none since the last clear of its bank (demand 3 of document
+   01). The pixels of a ring fetch are the wrapped ones.
    Lent: as above; where there is no plan or the list was not carried out all of it stays. */
 uint64_t bankplan_find_and_run(const int8_t columns[1024], const int8_t rows[1024], const size_t used[16], size_t count,
                                uint32_t r, uint32_t limit, uint32_t w, uint32_t h, uint16_t *mem, size_t mem_length,
-                               const uint64_t *numbers, size_t numbers_length, uint16_t *outs, size_t outs_length,
-                               uint64_t *replies, size_t replies_length, uint64_t answer[12]);
+                               uint64_t *sums, size_t sums_length, const uint64_t *numbers, size_t numbers_length,
+                               uint16_t *outs, size_t outs_length, uint64_t *replies, size_t replies_length,
+                               uint64_t answer[12]);
 
 /* ---- record lists */
 

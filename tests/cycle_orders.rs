@@ -1,7 +1,7 @@
 //! Card 4 of document 02: where r stands in the order of the checks, by every set of broken conditions of the calls that take r and
 //! no picture, and r at its edges and far off in every call that takes it. Fetches with broken conditions are in pictures.rs.
 
-use crate::calls::guard;
+use crate::calls::{guard, wrong_sums};
 use crate::classes::is_cycles;
 use crate::cycles::{ask_cycles, written, AROUND};
 use crate::library::{self, Plan, Record};
@@ -61,13 +61,15 @@ fn finds(t: &mut Tally) {
             if first != 255 && first != 16 {
                 t.same(what, library::find(&book, own, limit).number, first);
             }
-            let numbers = [if broken.contains(&255) { 5 } else { 2 }, 0, 0, 0, 0];
+            let numbers = [if broken.contains(&255) { 8 } else { 2 }, 0, 0, 0, 0];
             let (mut mem, mut outs, mut replies) = (guard(400), guard(4), [7; 12]);
+            let mut sums = wrong_sums(20);
             let places = 12 - usize::from(broken.contains(&16));
-            let got = library::find_and_run(&book, own, limit, 7, 4, &mut mem, &numbers, &mut outs, &mut replies[..places]);
+            let lent = (&mut mem, &mut sums, &mut outs, &mut replies[..places]);
+            let got = library::find_and_run(&book, own, limit, 7, 4, lent.0, lent.1, &numbers, lent.2, lent.3);
             t.same(what, got.number, first);
-            // a load changes neither the memory nor the outputs
-            t.same(what, (mem, outs, replies != [7; 12]), (guard(400), guard(4), first == 0));
+            // a load changes neither the memory nor the sums nor the outputs
+            t.same(what, (mem, sums, outs, replies != [7; 12]), (guard(400), wrong_sums(20), guard(4), first == 0));
         }
     }
 }
@@ -137,8 +139,8 @@ fn list_of(t: &mut Tally, book: &Record, r: u32, p: Plan, number: u64) {
     let calls = [[0, 3, 2, 8, 0], [3, 3, 2, 0, 5], [2, 3, 2, 0, 0], [3, 3, 2, 9, 5], [4, 3, 2, 0, 5], [4, 3, 2, 9, 5]];
     let numbers = calls.concat();
     // a memory that is long enough for every plan of the cross
-    let lent = Lent { plan: p, w: 7, h: 4, words: 64 };
-    let case = Case { record: book, r, lent, numbers: &numbers, outs: 20, replies: 72 };
+    let lent = Lent { plan: p, w: 7, h: 4, words: 64, entries: 16 };
+    let case = Case { record: book, r, lent, numbers: &numbers, outs: 20, replies: 72, content: 0 };
     let (got, left) = case.ask(t);
     t.same(|| format!("a list, {r}"), got, told(0, &[]));
     let first: Vec<u64> = left.replies[..72].iter().copied().step_by(12).collect();

@@ -1,7 +1,7 @@
 //! Fetches: patterns at corners and edges, rings, suppliers' plans, and memories of any content. Which sides make a ring is in
 //! rings.rs.
 
-use crate::calls::{first_difference, Call, Kind, Picture};
+use crate::calls::{first_difference, wrong_sums, Call, Kind, Picture};
 use crate::classes::suits_for;
 use crate::finds::random_book;
 use crate::library::{self, Plan, Record};
@@ -197,9 +197,9 @@ fn any_content() -> Tally {
         if random.from_to(0, 1) == 0 {
             (w, h) = (turns.0 * random.from_to(1, 3), turns.1 * random.from_to(1, 2));
         }
-        let g = Lent { plan: p, w: w as u32, h: h as u32, words: 0 };
+        let g = Lent::new(p, w as u32, h as u32);
         let mut memory: Vec<u16> = (0..g.size() as i64 + random.from_to(0, 3)).map(|_| random.next() as u16).collect();
-        let mut wanted = memory.clone();
+        let (mut wanted, mut sums) = (memory.clone(), wrong_sums(g.entries));
         let v = (random.from_to(0, w - 1) as i16, random.from_to(0, h - 1) as i16);
         let (k, x) = (random.from_to(0, n - 1) as usize, random.next() as u16);
         let (at, bank) = (g.place_of(wide(v)), k * g.depth() as usize..(k + 1) * g.depth() as usize);
@@ -223,10 +223,10 @@ fn any_content() -> Tally {
                 t.same(|| what("ring fetch"), (fetched, out), (told(0, &[count as u64]), words(&wrapped(&pixels, w, h))));
             }
         }
-        t.same(|| what("store"), library::store(p, g.w, g.h, &mut memory, v, x), told(0, &[]));
+        t.same(|| what("store"), library::store(p, g.w, g.h, &mut memory, &mut sums, v, x), told(0, &[]));
         wanted[at] = x;
         t.same(|| what("store"), first_difference(&memory, &wanted), None);
-        t.same(|| what("clear"), library::clear(p, g.w, g.h, &mut memory, k as u64), told(0, &[]));
+        t.same(|| what("clear"), library::clear(p, g.w, g.h, &mut memory, &mut sums, k as u64), told(0, &[]));
         wanted[bank].fill(0);
         t.same(|| what("clear"), first_difference(&memory, &wanted), None);
     }

@@ -2,7 +2,7 @@
 // may touch, or heap blocks of just their size, and is given legal things, edges and any numbers at all. What is asked here
 // needs no second version of the library: numbers that a call can give, nothing changed that may not change, the same answer
 // to the same question. That the answers are right is asked elsewhere, but for the order of pixels (hard_order.c), the order of the
-// checks about r and of a ring fetch (hard_cycles.c), and which ring fetches are served (hard_rings.c).
+// checks about r and of a ring fetch (hard_cycles.c), which ring fetches are served (hard_rings.c), and the sums (hard_sums.c).
 #define _GNU_SOURCE
 #include <signal.h>
 #include <stdio.h>
@@ -45,7 +45,8 @@ static void lend_all(const struct call *c, const struct input *x) {
     } all[SLOTS] = {
         [BOOK] = {x->book, x->book_length},       [COLUMNS] = {x->columns, sizeof x->columns},
         [ROWS] = {x->rows, sizeof x->rows},       [USED] = {x->used, sizeof x->used},
-        [MEMORY] = {memory_words, 2 * x->words},  [OUTPUT] = {before, room},
+        [MEMORY] = {memory_words, 2 * x->words},  [SUMS] = {sum_numbers, x->entries * sizeof *sum_numbers},
+        [OUTPUT] = {before, room},
         [LIST] = {x->list, x->list_length * sizeof *x->list},
         [NUMBERS] = {x->numbers, x->numbers_length * sizeof *x->numbers},
         [REPLIES] = {before, x->replies_length * sizeof(uint64_t)},
@@ -53,6 +54,14 @@ static void lend_all(const struct call *c, const struct input *x) {
     };
     for (int s = 0; s < SLOTS; s++)
         if ((c->reads | c->writes | BIT(ANSWER)) & BIT(s)) lend(s, all[s].content, all[s].size, !(c->reads & BIT(s)));
+}
+
+// Entries past N of the sums are unknown; so are all where they are made afresh, and all but the one that is read.
+static void make_sums_unknown(enum which c, const struct input *x) {
+    size_t all = x->entries * sizeof(uint64_t), own = x->bank < x->entries ? x->bank * sizeof(uint64_t) : 0;
+    if (c == MAKE_SUMS) lent_unknown(SUMS, 0, all);
+    if (c == READ_SUM) lent_unknown(SUMS, 0, own), lent_unknown(SUMS, own + sizeof(uint64_t), all);
+    lent_unknown(SUMS, banks_of(x) * sizeof(uint64_t), all);
 }
 
 // What a call is lent to be filled, a record's unused entries and the words past a picture's are unknown to valgrind.
@@ -70,9 +79,10 @@ static void make_unknown(const struct call *c, const struct input *x) {
     }
     for (size_t k = 0; c->writes & BIT(LIST) && k < x->list_length; k++)
         lent_unknown(LIST, k * sizeof *x->list + offsetof(bankplan_pixel_record, bank), (k + 1) * sizeof *x->list);
-    if (!((c->reads | c->writes) & BIT(MEMORY))) return;
+    if (!((c->reads | c->writes) & (BIT(MEMORY) | BIT(SUMS)))) return;
     x = under_plan((enum which)(c - calls), x);
-    if (is_picture(x)) lent_unknown(MEMORY, 2 * words_needed(x), 2 * x->words);
+    if ((c->reads | c->writes) & BIT(SUMS)) make_sums_unknown((enum which)(c - calls), x);
+    if ((c->reads | c->writes) & BIT(MEMORY) && is_picture(x)) lent_unknown(MEMORY, 2 * words_needed(x), 2 * x->words);
 }
 
 // The answer: what a refusal or the call tells at its start, the rest untouched.
@@ -159,9 +169,10 @@ static void guard_pages(uint64_t how_many) {
         now = calls[c].name;
         if (given[c] != calls[c].numbers) say_wrong("some number of this call never came", given[c]);
     }
-    now = calls[RUN_LIST].name;
-    if (replied[0] != calls[FETCH].numbers) say_wrong("some number of a fetch never came in a reply", replied[0]);
-    if (replied[1] != calls[RING_FETCH].numbers) say_wrong("some number of a ring fetch never came in a reply", replied[1]);
+    for (int k = 0; k < KINDS; k++) {
+        now = calls[of_kind[k]].name;
+        if (replied[k] != calls[of_kind[k]].numbers) say_wrong("some number of this call never came in a reply", replied[k]);
+    }
 }
 
 int main(int count, char **words) {

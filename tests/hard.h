@@ -8,7 +8,7 @@
 #include "../include/bankplan.h"
 
 // Everything that a call can be lent.
-enum slot { BOOK, COLUMNS, ROWS, USED, MEMORY, OUTPUT, LIST, NUMBERS, REPLIES, ANSWER, SLOTS };
+enum slot { BOOK, COLUMNS, ROWS, USED, MEMORY, SUMS, OUTPUT, LIST, NUMBERS, REPLIES, ANSWER, SLOTS };
 
 // Where a lent buffer stands: up to a page that nobody may touch, from such a page on, or in a heap block of its size.
 enum way { END, BEGIN, HEAP };
@@ -16,6 +16,7 @@ enum way { END, BEGIN, HEAP };
 enum { ANSWER_LENGTH = 12 }; // numbers of an answer
 enum { MOST_CALLS = 40 };   // calls of a list, at most
 enum { SMALL = 8192, MOST_WORDS = 22 << 20 }; // bytes of a small slot; words of the largest picture's memory, and some
+enum { MOST_ENTRIES = 2048 };                  // entries of the sums, at most
 
 // hard_lend.c
 void lend_by(enum way way);
@@ -41,7 +42,7 @@ struct input {
     size_t book_length;
     int8_t columns[1024], rows[1024];
     size_t used[16];
-    size_t words, write_room, cycles_room, fetch_room;
+    size_t words, entries, write_room, cycles_room, fetch_room; // entries: of the sums
     bankplan_pixel_record list[100];
     size_t list_length;
     uint64_t numbers[(MOST_CALLS + 1) * BANKPLAN_CALL_NUMBERS]; // a list of calls, the words of its outputs, its replies
@@ -68,14 +69,21 @@ struct call {
 #define NO_LIST BIT(30) // 255
 enum which {
     NORMAL_FORM, BANK, DEPTH, ADDRESS, LOCATE, READ_BOOK, PATTERN_PART, WRITE_BOOK, TEST_RECORD,
-    FIND, CHECK, WRITE_CYCLES, STORE, LOAD, CLEAR, SUM, FETCH, RING_FETCH, FILL_RECORDS,
+    FIND, CHECK, WRITE_CYCLES, STORE, LOAD, CLEAR, SUM, MAKE_SUMS, READ_SUM, FETCH, RING_FETCH, FILL_RECORDS,
     RUN_LIST, FIND_AND_RUN, CALLS
 };
 enum { RECORD = BIT(COLUMNS) | BIT(ROWS) | BIT(USED) };
 extern const struct call calls[CALLS];
 size_t output_size(enum which c, const struct input *x);
 const struct input *under_plan(enum which c, const struct input *x); // with the plan that the call goes by
-extern unsigned replied[2];                                          // the numbers that fetches and ring fetches in lists gave
+
+// hard_lists.c
+enum { KINDS = BANKPLAN_KIND_READ_SUM + 1 };
+extern const enum which of_kind[KINDS]; // the single call of each kind
+extern unsigned replied[KINDS];         // the numbers that each kind of call gave in lists
+size_t calls_in(const struct input *x);
+uint64_t room_of(const uint64_t *call);
+bool as_single_calls(const struct input *x); // whether a list left what its single calls leave
 
 // hard.c
 unsigned bit_of(uint64_t number); // of a number that some call can give; of another none that any has
@@ -86,7 +94,8 @@ void try_all(const struct input *x);
 // hard_cases.c
 void all_cases(uint64_t how_many, bool large);
 void cross(struct input *x); // the cross of five pixels, r = 1, and all else 0
-void five_calls(struct input *x, uint64_t i, uint64_t j);
+enum { EIGHT_CALLS = 8 * BANKPLAN_CALL_NUMBERS };
+void eight_calls(struct input *x, uint64_t i, uint64_t j); // one of each kind
 
 // hard_order.c
 void every_order(struct input *x, bool all);
@@ -97,8 +106,12 @@ void every_cycle(struct input *x);
 // hard_rings.c
 void every_ring(struct input *x, bool all);
 
+// hard_sums.c
+void every_sum(struct input *x, bool all);
+
 // hard_input.c
 extern uint16_t *memory_words; // what stands in every memory that is lent
+extern uint64_t sum_numbers[MOST_ENTRIES]; // and in the sums
 void inputs_begin(uint64_t seed);
 uint64_t any_number(void); // edges, small ones, and any
 uint64_t below(uint64_t bound);
@@ -109,4 +122,6 @@ void damaged_book(struct input *x);
 bool is_picture(const struct input *x); // whether plan and sides are legal
 uint64_t depth_of(const struct input *x);
 uint64_t words_needed(const struct input *x);
+uint64_t banks_of(const struct input *x); // 0 where the plan is none
+void just_enough(struct input *x);        // the words and the entries that the picture needs
 #endif

@@ -8,6 +8,7 @@
 #define PLAN_ARGUMENTS x->a, x->b, x->d
 #define SIDES x->w, x->h
 #define MEMORY_ARGUMENTS lent(MEMORY), x->words
+#define SUMS_ARGUMENTS lent(SUMS), x->entries
 
 static uint64_t normal_form(const struct input *x) {
     return bankplan_normal_form(x->v[0], x->v[1], x->v[2], x->v[3], lent(ANSWER));
@@ -53,17 +54,58 @@ static uint64_t write_cycles(const struct input *x) {
                                             lent(ANSWER));
     return number == 0 && !are_cycles(x, lent(OUTPUT)) ? 99 : number;
 }
+// The bank of a pixel of the picture, and where its word stands.
+static uint64_t bank_at(const struct input *x) {
+    int64_t q = x->j / x->d, column = (x->i - x->b * q) % x->a;
+    return x->j % x->d * x->a + (column < 0 ? column + x->a : column);
+}
+static uint64_t word_at(const struct input *x) {
+    return bank_at(x) * depth_of(x) + x->j / x->d * ((x->w + x->a - 1) / x->a) + x->i / x->a;
+}
+// The sum of a bank's words as they were lent.
+static uint64_t walk(const struct input *x, uint64_t k) {
+    uint64_t total = 0, deep = depth_of(x);
+    for (uint64_t e = 0; e < deep; e++) total += memory_words[k * deep + e];
+    return total;
+}
+
+// These give 99, which no call gives, if a word or a sum is another than it must be.
 static uint64_t store(const struct input *x) {
-    return bankplan_store(PLAN_ARGUMENTS, SIDES, MEMORY_ARGUMENTS, x->i, x->j, x->word, lent(ANSWER));
+    const uint64_t *sums = lent(SUMS);
+    const uint16_t *words = lent(MEMORY);
+    uint64_t number = bankplan_store(PLAN_ARGUMENTS, SIDES, MEMORY_ARGUMENTS, SUMS_ARGUMENTS, x->i, x->j, x->word, lent(ANSWER));
+    if (number != 0) return number;
+    uint64_t k = bank_at(x), at = word_at(x);
+    return words[at] != x->word || sums[k] != sum_numbers[k] - memory_words[at] + x->word ? 99 : 0;
 }
 static uint64_t load(const struct input *x) {
     return bankplan_load(PLAN_ARGUMENTS, SIDES, MEMORY_ARGUMENTS, x->i, x->j, lent(ANSWER));
 }
 static uint64_t clear(const struct input *x) {
-    return bankplan_clear(PLAN_ARGUMENTS, SIDES, MEMORY_ARGUMENTS, x->bank, lent(ANSWER));
+    const uint64_t *sums = lent(SUMS);
+    const uint16_t *words = lent(MEMORY);
+    uint64_t number = bankplan_clear(PLAN_ARGUMENTS, SIDES, MEMORY_ARGUMENTS, SUMS_ARGUMENTS, x->bank, lent(ANSWER));
+    if (number != 0) return number;
+    for (uint64_t e = 0, deep = depth_of(x); e < deep; e++)
+        if (words[x->bank * deep + e] != 0) return 99;
+    return sums[x->bank] != 0 ? 99 : 0;
 }
 static uint64_t sum(const struct input *x) {
-    return bankplan_sum(PLAN_ARGUMENTS, SIDES, MEMORY_ARGUMENTS, x->bank, lent(ANSWER));
+    const uint64_t *answer = lent(ANSWER);
+    uint64_t number = bankplan_sum(PLAN_ARGUMENTS, SIDES, MEMORY_ARGUMENTS, x->bank, lent(ANSWER));
+    return number == 0 && answer[0] != walk(x, x->bank) ? 99 : number;
+}
+static uint64_t make_sums(const struct input *x) {
+    const uint64_t *sums = lent(SUMS);
+    uint64_t number = bankplan_make_sums(PLAN_ARGUMENTS, SIDES, MEMORY_ARGUMENTS, SUMS_ARGUMENTS, lent(ANSWER));
+    for (uint64_t k = 0; number == 0 && k < banks_of(x); k++)
+        if (sums[k] != walk(x, k)) return 99;
+    return number;
+}
+static uint64_t read_sum(const struct input *x) {
+    const uint64_t *answer = lent(ANSWER);
+    uint64_t number = bankplan_read_sum(PLAN_ARGUMENTS, SUMS_ARGUMENTS, x->bank, lent(ANSWER));
+    return number == 0 && answer[0] != sum_numbers[x->bank] ? 99 : number;
 }
 
 // Whether the words are those that loads give at the pixels, wrapped; those of a plain fetch are inside.
@@ -116,60 +158,6 @@ const struct input *under_plan(enum which c, const struct input *x) {
     return &found;
 }
 
-unsigned replied[2];
-static size_t calls_in(const struct input *x) { return x->numbers_length / BANKPLAN_CALL_NUMBERS; }
-static bool is_ring(const uint64_t *call) { return call[0] == BANKPLAN_KIND_RING_FETCH; }
-static bool is_fetch(const uint64_t *call) { return call[0] == BANKPLAN_KIND_FETCH || is_ring(call); }
-static uint64_t room_of(const uint64_t *call) { return is_fetch(call) ? call[4] : 0; }
-
-// The call of five numbers by its own function, and its reply.
-static void single_call(const struct input *x, const uint64_t *call, uint16_t *mem, uint16_t *out, uint64_t *reply) {
-    int16_t i = (int16_t)(uint16_t)call[1], j = (int16_t)(uint16_t)call[2];
-    memset(reply, 0, BANKPLAN_REPLY_NUMBERS * sizeof *reply);
-    uint64_t answer[ANSWER_LENGTH] = {0}, number = 0;
-    switch (call[0]) {
-    case BANKPLAN_KIND_STORE:
-        number = bankplan_store(PLAN_ARGUMENTS, SIDES, mem, x->words, i, j, (uint16_t)call[3], answer);
-        break;
-    case BANKPLAN_KIND_CLEAR: number = bankplan_clear(PLAN_ARGUMENTS, SIDES, mem, x->words, call[3], answer); break;
-    case BANKPLAN_KIND_LOAD: number = bankplan_load(PLAN_ARGUMENTS, SIDES, mem, x->words, i, j, answer); break;
-    case BANKPLAN_KIND_FETCH:
-        number = bankplan_fetch(x->columns, x->rows, x->used, x->count, x->r, PLAN_ARGUMENTS, SIDES, mem, x->words, call[3],
-                                i, j, out, call[4], answer);
-        break;
-    default:
-        number = bankplan_ring_fetch(x->columns, x->rows, x->used, x->count, x->r, PLAN_ARGUMENTS, SIDES, mem, x->words,
-                                     call[3], i, j, out, call[4], answer);
-    }
-    reply[0] = number;
-    memcpy(reply + 1, answer, (BANKPLAN_REPLY_NUMBERS - 1) * sizeof *reply);
-}
-
-// Whether a list left what its single calls leave: replies, outputs, and the picture's words.
-static bool as_single_calls(const struct input *x) {
-    static uint16_t outs[SMALL / 2];
-    const uint64_t *replies = lent(REPLIES);
-    uint64_t reply[BANKPLAN_REPLY_NUMBERS];
-    uint16_t *mem = malloc(2 * x->words + 2);
-    size_t at = 0, needed = words_needed(x);
-    bool same = mem != NULL;
-    memcpy(mem, memory_words, 2 * x->words);
-    memset(outs, 0xee, sizeof outs);
-    for (size_t k = 0; k < calls_in(x); k++) {
-        const uint64_t *call = x->numbers + k * BANKPLAN_CALL_NUMBERS;
-        single_call(x, call, mem, outs + at, reply);
-        if (reply[0] == 0 && room_of(call)) same &= lent_known(OUTPUT, 2 * at, 2 * (at + reply[1]));
-        if (is_fetch(call)) replied[is_ring(call)] |= bit_of(reply[0]);
-        same &= memcmp(replies + k * BANKPLAN_REPLY_NUMBERS, reply, sizeof reply) == 0;
-        at += room_of(call);
-    }
-    lent_known_again(OUTPUT);
-    same &= memcmp(lent(OUTPUT), outs, 2 * x->outs_room) == 0;
-    same &= needed > x->words || memcmp(lent(MEMORY), mem, 2 * needed) == 0;
-    free(mem);
-    return same;
-}
-
 #define LIST_ARGUMENTS \
     lent(NUMBERS), x->numbers_length, lent(OUTPUT), x->outs_room, lent(REPLIES), x->replies_length, lent(ANSWER)
 // 99, which no call gives, if the single calls leave something else or a fault is not told at the start of a call.
@@ -180,19 +168,22 @@ static uint64_t judged_list(enum which c, const struct input *x, uint64_t number
 }
 static uint64_t run_list(const struct input *x) {
     return judged_list(
-        RUN_LIST, x, bankplan_run_list(RECORD_ARGUMENTS, x->r, PLAN_ARGUMENTS, SIDES, MEMORY_ARGUMENTS, LIST_ARGUMENTS));
+        RUN_LIST, x,
+        bankplan_run_list(RECORD_ARGUMENTS, x->r, PLAN_ARGUMENTS, SIDES, MEMORY_ARGUMENTS, SUMS_ARGUMENTS, LIST_ARGUMENTS));
 }
 static uint64_t find_and_run(const struct input *x) {
     return judged_list(
-        FIND_AND_RUN, x, bankplan_find_and_run(RECORD_ARGUMENTS, x->r, x->limit, SIDES, MEMORY_ARGUMENTS, LIST_ARGUMENTS));
+        FIND_AND_RUN, x,
+        bankplan_find_and_run(RECORD_ARGUMENTS, x->r, x->limit, SIDES, MEMORY_ARGUMENTS, SUMS_ARGUMENTS, LIST_ARGUMENTS));
 }
 
-// The whole picture, the rooms of all fetches, the replies of all calls.
+// The whole picture, the sums of its banks, the rooms of all fetches, the replies of all calls.
 static struct range by_list(enum which c, enum slot s, const struct input *x) {
     const struct input *own = under_plan(c, x);
-    uint64_t rooms = 0, needed = words_needed(own);
+    uint64_t rooms = 0, needed = words_needed(own), banks = banks_of(own);
     for (size_t k = 0; k < calls_in(x); k++) rooms += room_of(x->numbers + k * BANKPLAN_CALL_NUMBERS);
     if (s == MEMORY) return (struct range){0, needed <= x->words ? 2 * needed : 0};
+    if (s == SUMS) return (struct range){0, banks <= x->entries ? banks * sizeof(uint64_t) : 0};
     if (s == OUTPUT) return (struct range){0, 2 * rooms};
     return (struct range){0, calls_in(x) * BANKPLAN_REPLY_NUMBERS * sizeof(uint64_t)};
 }
@@ -217,16 +208,20 @@ static struct range fetched(enum slot s, const struct input *x, const uint64_t *
     (void)s, (void)x;
     return (struct range){0, 2 * answer[0]};
 }
+static struct range entry(uint64_t k) { return (struct range){k * sizeof(uint64_t), (k + 1) * sizeof(uint64_t)}; }
 static struct range one_word(enum slot s, const struct input *x, const uint64_t *answer) {
-    (void)s, (void)answer;
-    int64_t q = x->j / x->d, column = (x->i - x->b * q) % x->a;
-    uint64_t k = x->j % x->d * x->a + (column < 0 ? column + x->a : column);
-    uint64_t at = k * depth_of(x) + q * ((x->w + x->a - 1) / x->a) + x->i / x->a;
-    return (struct range){2 * at, 2 * at + 2};
+    (void)answer;
+    if (s == SUMS) return entry(bank_at(x));
+    return (struct range){2 * word_at(x), 2 * word_at(x) + 2};
 }
 static struct range one_bank(enum slot s, const struct input *x, const uint64_t *answer) {
-    (void)s, (void)answer;
+    (void)answer;
+    if (s == SUMS) return entry(x->bank);
     return (struct range){2 * x->bank * depth_of(x), 2 * (x->bank + 1) * depth_of(x)};
+}
+static struct range all_sums(enum slot s, const struct input *x, const uint64_t *answer) {
+    (void)s, (void)answer;
+    return (struct range){0, banks_of(x) * sizeof(uint64_t)};
 }
 static struct range records(enum slot s, const struct input *x, const uint64_t *answer) {
     (void)s, (void)answer;
@@ -240,7 +235,7 @@ enum {
     IN_FETCH = IN_RECORD | BIT(20) | IN_PICTURE | BIT(17) | BIT(10) | BIT(16),
     IN_CYCLES = IN_RECORD | BIT(20) | BIT(11) | BIT(17) | BIT(10) | BIT(16),
     IN_LIST = BIT(16) | NO_LIST,
-    BY_LIST = BIT(MEMORY) | BIT(OUTPUT) | BIT(REPLIES),
+    BY_LIST = BIT(MEMORY) | BIT(SUMS) | BIT(OUTPUT) | BIT(REPLIES),
 };
 
 const struct call calls[CALLS] = {
@@ -256,10 +251,12 @@ const struct call calls[CALLS] = {
     [FIND] = {"find", BIT(0) | IN_RECORD | BIT(6) | BIT(20) | BIT(7), 3, RECORD, 0, find, NULL},
     [CHECK] = {"check", BIT(0) | IN_RECORD | BIT(20) | BIT(8) | BIT(9) | BIT(10), 4, RECORD, 0, check, NULL},
     [WRITE_CYCLES] = {"write_cycles", BIT(0) | IN_CYCLES, 1, RECORD, BIT(OUTPUT), write_cycles, written},
-    [STORE] = {"store", BIT(0) | IN_PICTURE | BIT(14), 0, 0, BIT(MEMORY), store, one_word},
+    [STORE] = {"store", BIT(0) | IN_PICTURE | BIT(14), 0, 0, BIT(MEMORY) | BIT(SUMS), store, one_word},
     [LOAD] = {"load", BIT(0) | IN_PICTURE | BIT(14), 1, BIT(MEMORY), 0, load, NULL},
-    [CLEAR] = {"clear", BIT(0) | IN_PICTURE | BIT(15), 0, 0, BIT(MEMORY), clear, one_bank},
+    [CLEAR] = {"clear", BIT(0) | IN_PICTURE | BIT(15), 0, 0, BIT(MEMORY) | BIT(SUMS), clear, one_bank},
     [SUM] = {"sum", BIT(0) | IN_PICTURE | BIT(15), 1, BIT(MEMORY), 0, sum, NULL},
+    [MAKE_SUMS] = {"make_sums", BIT(0) | IN_PICTURE, 0, BIT(MEMORY), BIT(SUMS), make_sums, all_sums},
+    [READ_SUM] = {"read_sum", BIT(0) | BIT(11) | BIT(13) | BIT(15), 1, BIT(SUMS), 0, read_sum, NULL},
     [FETCH] = {"fetch", BIT(0) | IN_FETCH | BIT(14), 1, RECORD | BIT(MEMORY), BIT(OUTPUT), fetch, fetched},
     [RING_FETCH] = {"ring_fetch", BIT(0) | IN_FETCH | BIT(18), 1, RECORD | BIT(MEMORY), BIT(OUTPUT), ring_fetch, fetched},
     [FILL_RECORDS] = {"fill_records", BIT(0) | BIT(11) | BIT(12) | BIT(14), 0, 0, BIT(LIST), fill_records, records},

@@ -80,11 +80,13 @@ static void every_number(struct input *x) {
     try_call(DEPTH, x);
 }
 
-// The calls on a picture, at its first and last pixel and bank, with a memory of just its size and one word less.
+// The calls on a picture, at its first and last pixel and bank, with a memory and sums of just their size, one word less, and one
+// entry less.
 static void every_memory_call(struct input *x, bool one_less) {
-    for (int k = 0; k < 4; k++) {
-        uint64_t needed = words_needed(x); // 0 where the plan is none
-        x->words = needed - (k == 3 && one_less && needed);
+    for (int k = 0; k < 5; k++) {
+        just_enough(x); // nothing where the plan is none
+        x->words -= k == 3 && one_less && x->words;
+        x->entries -= k == 4 && one_less && x->entries;
         x->i = (int16_t)(k % 2 ? x->w - 1 : 0);
         x->j = (int16_t)(k % 2 ? x->h - 1 : 0);
         x->bank = k % 2 ? x->a * x->d - 1 : k == 2 ? x->a * x->d : 0;
@@ -119,7 +121,7 @@ static void every_fetch(struct input *x) {
     const int16_t ends[] = {-32768, -1, 0, 1, 9, 10, 4096, 32767};
     cross(x);
     x->a = 5, x->b = 2, x->d = 1, x->w = 10, x->h = 15;
-    x->words = words_needed(x);
+    just_enough(x);
     for (int k = 0; k < 64; k++) {
         x->i = ends[k % 8];
         x->j = ends[k / 8];
@@ -152,38 +154,40 @@ static void both_lists(struct input *x) {
     try_call(FIND_AND_RUN, x);
 }
 
-// Store, load, fetch, ring fetch and clear at these pixels, with just the room that they need.
-void five_calls(struct input *x, uint64_t i, uint64_t j) {
-    const uint64_t numbers[] = {BANKPLAN_KIND_STORE, i, j, 77, 0, BANKPLAN_KIND_LOAD,       i, j, 0, 0,
-                                BANKPLAN_KIND_FETCH, 3, 2, 0,  5, BANKPLAN_KIND_RING_FETCH, i, j, 0, 5,
-                                BANKPLAN_KIND_CLEAR, 0, 0, 0,  0};
+// A call of each kind at these pixels, with just the room that they need.
+void eight_calls(struct input *x, uint64_t i, uint64_t j) {
+    const uint64_t numbers[EIGHT_CALLS] = {BANKPLAN_KIND_STORE,     i, j, 77, 0, BANKPLAN_KIND_LOAD,       i, j, 0, 0,
+                                           BANKPLAN_KIND_FETCH,     3, 2, 0,  5, BANKPLAN_KIND_RING_FETCH, i, j, 0, 5,
+                                           BANKPLAN_KIND_CLEAR,     0, 0, 0,  0, BANKPLAN_KIND_SUM,        0, 0, 1, 0,
+                                           BANKPLAN_KIND_MAKE_SUMS, 0, 0, 0,  0, BANKPLAN_KIND_READ_SUM,   0, 0, 1, 0};
     memcpy(x->numbers, numbers, sizeof numbers);
-    x->numbers_length = 25, x->outs_room = 10, x->replies_length = 5 * BANKPLAN_REPLY_NUMBERS;
+    x->numbers_length = EIGHT_CALLS, x->outs_room = 10, x->replies_length = 8 * BANKPLAN_REPLY_NUMBERS;
 }
 
 // Lists of calls with every length, room and count of replies, and with edge values at every place.
 static void every_run(struct input *x, bool all) {
-    const uint64_t edges[] = {0, 1, 2, 3, 4, 5, 6, 7, 32768, 65535, 65536, 1ull << 32, 1ull << 63, UINT64_MAX - 4, UINT64_MAX};
+    const uint64_t edges[] = {0, 1, 2, 3, 4, 5, 6, 7, 8, 32768, 65535, 65536, 1ull << 32, 1ull << 63, UINT64_MAX - 4, UINT64_MAX};
     const uint32_t limits[] = {5, 1024, 4, 0, 1025};
     cross(x);
     x->a = 5, x->b = 2, x->d = 1, x->w = 7, x->h = 4, x->limit = 5;
-    for (x->words = 38; x->words <= 42; x->words++) {
-        five_calls(x, 6, 3);
-        both_lists(x);
-    }
-    x->words = words_needed(x);
-    for (x->numbers_length = 0; x->numbers_length <= 25; x->numbers_length++)
+    for (x->words = 38; x->words <= 42; x->words++)
+        for (x->entries = 3; x->entries <= 7; x->entries++) {
+            eight_calls(x, 6, 3);
+            both_lists(x);
+        }
+    just_enough(x);
+    for (x->numbers_length = 0; x->numbers_length <= EIGHT_CALLS; x->numbers_length++)
         for (x->outs_room = 0; x->outs_room <= 11; x->outs_room += all ? 1 : 5)
-            for (x->replies_length = 0; x->replies_length <= 62; x->replies_length += all ? 1 : 6) both_lists(x);
+            for (x->replies_length = 0; x->replies_length <= 98; x->replies_length += all ? 1 : 7) both_lists(x);
     x->w = 10, x->h = 5; // a ring
-    x->words = words_needed(x);
-    for (int k = 0; k < 25 * 15; k++) {
-        five_calls(x, 0, 0);
-        x->numbers[k / 15] = edges[k % 15];
+    just_enough(x);
+    for (int k = 0; k < EIGHT_CALLS * 16; k++) {
+        eight_calls(x, 0, 0);
+        x->numbers[k / 16] = edges[k % 16];
         both_lists(x);
     }
     for (int k = 0; k < 5; k++) {
-        five_calls(x, 0, 0);
+        eight_calls(x, 0, 0);
         x->limit = limits[k];
         both_lists(x);
     }
@@ -198,7 +202,7 @@ static void large_pictures(struct input *x) {
     for (int k = 0; k < 5; k++) {
         x->a = plans[k][0], x->b = plans[k][1], x->d = plans[k][2];
         every_memory_call(x, false);
-        five_calls(x, 4095, 4095);
+        eight_calls(x, 4095, 4095);
         try_call(RUN_LIST, x);
     }
 }
@@ -223,6 +227,7 @@ void all_cases(uint64_t how_many, bool large) {
     every_order(&x, large);
     every_cycle(&x);
     every_ring(&x, large);
+    every_sum(&x, large);
     if (large) large_pictures(&x);
     for (uint64_t k = 0; k < how_many; k++) {
         any_input(&x);

@@ -13,9 +13,9 @@ static void sound(struct input *x) {
     x->a = 5, x->b = 2, x->d = 1, x->w = 10, x->h = 10, x->limit = 1024;
     x->i = x->j = 4;
     x->v[0] = 5, x->v[2] = 2, x->v[3] = 1;
-    x->words = words_needed(x);
+    just_enough(x);
     x->fetch_room = x->cycles_room = 5;
-    five_calls(x, 3, 2);
+    eight_calls(x, 3, 2);
 }
 
 // Every call that takes r gives this number. A list is carried out whatever r is; its fetches are asked as single calls.
@@ -40,7 +40,7 @@ static void every_room(struct input *x) {
     sound(x);
     for (int k = 0; k < 4; k++) {
         x->a = plans[k][0], x->b = plans[k][1], x->d = plans[k][2];
-        x->words = words_needed(x);
+        just_enough(x);
         for (x->r = 1; x->r <= 8; x->r++)
             for (x->cycles_room = 0; x->cycles_room <= 7; x->cycles_room++) {
                 uint64_t number = plans[k][3] > x->r ? 10 : x->cycles_room < 5 ? 16 : 0;

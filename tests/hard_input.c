@@ -5,6 +5,7 @@
 #include "hard.h"
 
 uint16_t *memory_words;
+uint64_t sum_numbers[MOST_ENTRIES];
 static uint64_t state;
 
 static uint64_t next(void) {
@@ -21,6 +22,9 @@ void inputs_begin(uint64_t seed) {
     if (memory_words) return;
     memory_words = malloc(MOST_WORDS * sizeof *memory_words);
     for (size_t k = 0; k < MOST_WORDS; k++) memory_words[k] = (uint16_t)(k * 40503 >> 3 | 1);
+    // at both ends of 64 bits, and any
+    for (size_t k = 0; k < MOST_ENTRIES; k++)
+        sum_numbers[k] = k % 4 == 0 ? k + 1 : k % 4 == 1 ? UINT64_MAX - k : k * 0x9e3779b97f4a7c15;
 }
 
 uint64_t any_number(void) {
@@ -68,9 +72,13 @@ static uint32_t any_side(uint32_t step) {
     }
 }
 
-bool is_picture(const struct input *x) {
+uint64_t banks_of(const struct input *x) {
     bool plan = x->a >= 1 && x->d >= 1 && x->b < x->a && (uint64_t)x->a * x->d <= 1024;
-    return plan && x->w >= 1 && x->w <= 4096 && x->h >= 1 && x->h <= 4096;
+    return plan ? x->a * x->d : 0;
+}
+
+bool is_picture(const struct input *x) {
+    return banks_of(x) && x->w >= 1 && x->w <= 4096 && x->h >= 1 && x->h <= 4096;
 }
 
 uint64_t depth_of(const struct input *x) {
@@ -78,6 +86,21 @@ uint64_t depth_of(const struct input *x) {
 }
 
 uint64_t words_needed(const struct input *x) { return is_picture(x) ? x->a * x->d * depth_of(x) : 0; }
+
+void just_enough(struct input *x) {
+    x->words = words_needed(x);
+    x->entries = banks_of(x);
+}
+
+// As many entries as there are banks, one less, or more; or any small count.
+static size_t any_entries(size_t banks) {
+    switch (below(8)) {
+    case 0: return banks ? banks - 1 : 0;
+    case 1: return banks + 1 + below(9);
+    case 2: return below(3) * below(200);
+    default: return banks;
+    }
+}
 
 // Sides, and a memory of just the size, of one word more or less, or of any small size.
 static void any_picture(struct input *x) {
@@ -92,6 +115,7 @@ static void any_picture(struct input *x) {
     case 2: x->words = below(3) * below(200); break;
     default: x->words = needed;
     }
+    x->entries = any_entries(banks_of(x));
     x->bank = below(3) ? below(banks ? banks : 1) : below(2) ? banks : any_number();
     x->address = below(3) && is_picture(x) ? below(depth_of(x)) : any_number();
 }
@@ -207,12 +231,13 @@ static void any_list(struct input *x) {
 static uint64_t any_call(const struct input *x, uint64_t *call) {
     uint64_t pattern = below(4) ? below(3) : any_number(), banks = x->a * x->d;
     size_t needed = pattern < 16 && x->used[pattern] <= 64 ? x->used[pattern] : 0;
-    call[0] = below(60) ? below(5) : any_number();
+    call[0] = below(60) ? below(KINDS) : any_number();
     for (int k = 1; k < 3; k++) call[k] = below(60) ? (uint16_t)any_coordinate() : any_number();
     call[3] = any_number();
     call[4] = any_number();
     if (call[0] == BANKPLAN_KIND_STORE) call[3] = below(60) ? (uint16_t)next() : any_number();
-    if (call[0] == BANKPLAN_KIND_CLEAR && below(3)) call[3] = below(banks ? banks : 1);
+    bool of_bank = call[0] == BANKPLAN_KIND_CLEAR || call[0] == BANKPLAN_KIND_SUM || call[0] == BANKPLAN_KIND_READ_SUM;
+    if (of_bank && below(3)) call[3] = below(banks ? banks : 1);
     if (call[0] != BANKPLAN_KIND_FETCH && call[0] != BANKPLAN_KIND_RING_FETCH) return 0;
     call[3] = pattern;
     call[4] = below(60) ? needed + (below(4) ? 0 : below(20)) - (needed && below(4) == 0) : any_number();

@@ -42,7 +42,7 @@ static uint8_t *view(int file, size_t room, int rights) {
 }
 
 static void map_slot(enum slot s) {
-    size_t room = s == MEMORY ? MOST_WORDS * sizeof(uint16_t) : SMALL;
+    size_t room = s == MEMORY ? MOST_WORDS * sizeof(uint16_t) : s == SUMS ? MOST_ENTRIES * sizeof(uint64_t) : SMALL;
     int file = memfd_create("hard", 0);
     if (file < 0 || ftruncate(file, (off_t)room) != 0) fail("memfd_create");
     slots[s].room = room;

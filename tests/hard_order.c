@@ -57,7 +57,7 @@ static void every_book_call(struct input *x, uint64_t number, uint64_t place) {
     try_told(WRITE_BOOK, x, number, 0);
     try_told(FIND, x, number, 0);
     try_told(CHECK, x, number, 0);
-    five_calls(x, 0, 0);
+    eight_calls(x, 0, 0);
     try_told(RUN_LIST, x, 0, 0); // its fetches are refused, not the list
     if (number == 0) return;
     try_told(FETCH, x, number, 0); // before 11: the plan is 0, 0, 0

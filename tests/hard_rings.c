@@ -27,7 +27,7 @@ static void one_pixel(struct input *x) {
     memcpy(x->numbers, numbers, sizeof numbers);
     x->numbers_length = 15, x->outs_room = 3, x->replies_length = 3 * BANKPLAN_REPLY_NUMBERS;
     x->used[0] = x->fetch_room = 1;
-    x->words = words_needed(x);
+    just_enough(x);
 }
 
 // A ring fetch at the corners and far off. 17 and 13 come before 18, and 18 before 16.

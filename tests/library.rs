@@ -84,20 +84,31 @@ pub fn write_cycles(book: &Record, r: u32, p: Plan, n: usize, out: &mut [u8]) ->
     told(|t| unsafe { bankplan_write_cycles(columns, rows, used, *count, r, p.a, p.b, p.d, n, out, room, t) })
 }
 
-pub fn store(p: Plan, w: u32, h: u32, mem: &mut [u16], v: (i16, i16), x: u16) -> Told {
-    told(|t| unsafe { bankplan_store(p.a, p.b, p.d, w, h, mem.as_mut_ptr(), mem.len(), v.0, v.1, x, t) })
+pub fn store(p: Plan, w: u32, h: u32, mem: &mut [u16], sums: &mut [u64], v: (i16, i16), x: u16) -> Told {
+    let (mem, words, sums, entries) = (mem.as_mut_ptr(), mem.len(), sums.as_mut_ptr(), sums.len());
+    told(|t| unsafe { bankplan_store(p.a, p.b, p.d, w, h, mem, words, sums, entries, v.0, v.1, x, t) })
 }
 
 pub fn load(p: Plan, w: u32, h: u32, mem: &[u16], v: (i16, i16)) -> Told {
     told(|t| unsafe { bankplan_load(p.a, p.b, p.d, w, h, mem.as_ptr(), mem.len(), v.0, v.1, t) })
 }
 
-pub fn clear(p: Plan, w: u32, h: u32, mem: &mut [u16], bank: u64) -> Told {
-    told(|t| unsafe { bankplan_clear(p.a, p.b, p.d, w, h, mem.as_mut_ptr(), mem.len(), bank, t) })
+pub fn clear(p: Plan, w: u32, h: u32, mem: &mut [u16], sums: &mut [u64], bank: u64) -> Told {
+    let (mem, words, sums, entries) = (mem.as_mut_ptr(), mem.len(), sums.as_mut_ptr(), sums.len());
+    told(|t| unsafe { bankplan_clear(p.a, p.b, p.d, w, h, mem, words, sums, entries, bank, t) })
 }
 
 pub fn sum(p: Plan, w: u32, h: u32, mem: &[u16], bank: u64) -> Told {
     told(|t| unsafe { bankplan_sum(p.a, p.b, p.d, w, h, mem.as_ptr(), mem.len(), bank, t) })
+}
+
+pub fn make_sums(p: Plan, w: u32, h: u32, mem: &[u16], sums: &mut [u64]) -> Told {
+    let (mem, words, sums, entries) = (mem.as_ptr(), mem.len(), sums.as_mut_ptr(), sums.len());
+    told(|t| unsafe { bankplan_make_sums(p.a, p.b, p.d, w, h, mem, words, sums, entries, t) })
+}
+
+pub fn read_sum(p: Plan, sums: &[u64], bank: u64) -> Told {
+    told(|t| unsafe { bankplan_read_sum(p.a, p.b, p.d, sums.as_ptr(), sums.len(), bank, t) })
 }
 
 /// Fetches pattern n of a record, moved to o; the count of words is told.
@@ -129,13 +140,14 @@ pub fn ring_fetch(
 /// Makes a list of calls in numbers under a plan.
 #[rustfmt::skip]
 pub fn run_list(
-    book: &Record, r: u32, p: Plan, w: u32, h: u32, mem: &mut [u16], numbers: &[u64], outs: &mut [u16], replies: &mut [u64],
+    book: &Record, r: u32, p: Plan, w: u32, h: u32, mem: &mut [u16], sums: &mut [u64],
+    numbers: &[u64], outs: &mut [u16], replies: &mut [u64],
 ) -> Told {
     let Record { columns, rows, used, count } = book;
     told(|t| unsafe {
         bankplan_run_list(
-            columns, rows, used, *count, r, p.a, p.b, p.d, w, h, mem.as_mut_ptr(), mem.len(), numbers.as_ptr(), numbers.len(),
-            outs.as_mut_ptr(), outs.len(), replies.as_mut_ptr(), replies.len(), t,
+            columns, rows, used, *count, r, p.a, p.b, p.d, w, h, mem.as_mut_ptr(), mem.len(), sums.as_mut_ptr(), sums.len(),
+            numbers.as_ptr(), numbers.len(), outs.as_mut_ptr(), outs.len(), replies.as_mut_ptr(), replies.len(), t,
         )
     })
 }
@@ -143,13 +155,14 @@ pub fn run_list(
 /// Finds a plan within the limit and makes a list of calls under it; the plan is told.
 #[rustfmt::skip]
 pub fn find_and_run(
-    book: &Record, r: u32, limit: u32, w: u32, h: u32, mem: &mut [u16], numbers: &[u64], outs: &mut [u16], replies: &mut [u64],
+    book: &Record, r: u32, limit: u32, w: u32, h: u32, mem: &mut [u16], sums: &mut [u64],
+    numbers: &[u64], outs: &mut [u16], replies: &mut [u64],
 ) -> Told {
     let Record { columns, rows, used, count } = book;
     told(|t| unsafe {
         bankplan_find_and_run(
-            columns, rows, used, *count, r, limit, w, h, mem.as_mut_ptr(), mem.len(), numbers.as_ptr(), numbers.len(),
-            outs.as_mut_ptr(), outs.len(), replies.as_mut_ptr(), replies.len(), t,
+            columns, rows, used, *count, r, limit, w, h, mem.as_mut_ptr(), mem.len(), sums.as_mut_ptr(), sums.len(),
+            numbers.as_ptr(), numbers.len(), outs.as_mut_ptr(), outs.len(), replies.as_mut_ptr(), replies.len(), t,
         )
     })
 }

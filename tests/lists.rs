@@ -64,7 +64,7 @@ impl List {
 
     pub fn kind(&self, step: usize, random: &mut Random) -> Kind {
         let first = step < CALLS / 4;
-        match random.from_to(0, 39) {
+        match random.from_to(0, 43) {
             0..=9 => Kind::Store,
             10..=29 if first => Kind::Store,
             // not often, since it takes the words away
@@ -73,6 +73,9 @@ impl List {
             18..=21 => Kind::Sum,
             22..=31 if self.rings => Kind::Ring,
             22 => Kind::Ring,
+            // not often, so that sums that began wrong stay so for some time
+            40 => Kind::MakeSums,
+            41..=43 => Kind::ReadSum,
             _ => Kind::Fetch,
         }
     }
@@ -136,10 +139,19 @@ impl List {
         if random.from_to(0, 9) == 0 { any } else { next.unwrap_or(any) }
     }
 
+    // Entries of the sums that are enough.
+    pub fn entries(&self, random: &mut Random) -> usize {
+        self.picture.lent.entries + random.one_of(&[0, 0, 1, 5, GUARD - 8])
+    }
+
     // A call that is legal, as far as the picture and the plan allow it.
     pub fn legal(&self, kind: Kind, random: &mut Random) -> Call {
         let mut c = Call::new(kind, self.picture.lent);
         c.lent.words += random.one_of(&[0, 0, 1, 5, GUARD - 8]);
+        c.lent.entries = self.entries(random);
+        if !kind.takes_sums() && random.from_to(0, 3) == 0 {
+            c.lent.entries = random.one_of(&[0, self.picture.lent.entries - 1]);
+        }
         c.v = self.pixel(random);
         c.x = if random.from_to(0, 5) == 0 { random.one_of(&[0, 1, 65535]) } else { random.next() as u16 };
         c.k = bank_of(c.lent.plan, wide(c.v)) as u64;
@@ -154,6 +166,16 @@ impl List {
             c.room = t.len() + random.one_of(&[0, 0, 1, 7]);
         }
         c
+    }
+
+    // The memory, or the sums where the call is lent them, are too short.
+    fn shorten(&self, c: &mut Call, random: &mut Random) {
+        let too_few = |most: usize, random: &mut Random| random.one_of(&[0, most / 2, most - 1, most - 1]);
+        if c.kind == Kind::ReadSum || c.kind.takes_sums() && random.from_to(0, 1) == 0 {
+            c.lent.entries = too_few(self.picture.lent.entries, random);
+        } else {
+            c.lent.words = too_few(self.picture.lent.words, random);
+        }
     }
 
     // One of the call's refusals is brought about, if the picture and the plan allow it.
@@ -174,10 +196,7 @@ impl List {
                 0 => c.lent.w = random.one_of(&[0, 4097, u32::MAX]),
                 _ => c.lent.h = random.one_of(&[0, 4097, u32::MAX]),
             },
-            13 => {
-                let size = self.picture.lent.words;
-                c.lent.words = random.one_of(&[0, size / 2, size - 1, size - 1]);
-            }
+            13 => self.shorten(c, random),
             17 => c.n = random.one_of(&[self.book.len(), self.book.len() + 1, 16, 65536, usize::MAX]),
             10 => {
                 let p = self.picture.lent.plan;
@@ -197,7 +216,7 @@ impl List {
 }
 
 // Each number that a call can give was given by it, and about a third of the calls were refused.
-fn reached(t: &mut Tally, numbers: &[[u64; 21]; 6], lists: usize) {
+fn reached(t: &mut Tally, numbers: &[[u64; 21]; 8], lists: usize) {
     for kind in KINDS {
         for &number in [0].iter().chain(kind.refusals()) {
             t.same(|| format!("{kind:?} never gave {number}"), numbers[kind as usize][number as usize] > 0, true);
@@ -219,7 +238,7 @@ fn drawn(t: &mut Tally, counts: [usize; 5], lists: usize) {
 pub fn lists(subject: &'static str, seed: u64, lists: usize, way: Way, cycles: &[u32]) -> Tally {
     let mut t = Tally::new(subject);
     let mut random = Random::new(seed);
-    let mut numbers = [[0; 21]; 6];
+    let mut numbers = [[0; 21]; 8];
     let (mut reads, mut met) = (0, 0);
     let mut counts = [0; 5];
     for number in 1..=lists {
@@ -241,6 +260,7 @@ pub fn lists(subject: &'static str, seed: u64, lists: usize, way: Way, cycles: &
             }
         }
         t.same(|| format!("memory after list {number}, {:?}", list.picture.lent), list.picture.wrong_word(), None);
+        t.same(|| format!("sums after list {number}, {:?}", list.picture.lent), list.picture.wrong_sum(), None);
         counts.iter_mut().zip(list.counted).for_each(|(n, is)| *n += usize::from(is));
         reads += list.picture.reads;
         met += list.picture.met;

@@ -29,6 +29,10 @@ mod run_edges;
 mod runs;
 mod search;
 mod shuffles;
+mod sum_edges;
+mod sum_figures;
+mod sum_lists;
+mod sums;
 mod wrapper;
 mod wrapper_lists;
 
@@ -112,6 +116,7 @@ fn main() {
     tallies.extend(cycles::run());
     tallies.extend(pictures::run());
     tallies.extend(rings::run());
+    tallies.extend(sums::run());
     tallies.extend(runs::run());
     tallies.push(records::run());
     tallies.extend(wrapper::run());

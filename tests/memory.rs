@@ -1,5 +1,5 @@
-//! Document 01's calls on a picture again, on a plain map from pixel to word. It shares no code with
-//! the library, only the types that the answers are compared in.
+//! Document 01's calls on a picture again, on a plain map from pixel to word, and the sums of Card 6 of document 02, counted again
+//! from the words each time. It shares no code with the library, only the types that the answers are compared in.
 
 use crate::classes::{clash_under, is_cycles};
 use crate::library::{Plan, Record, Told};
@@ -8,14 +8,16 @@ use crate::search::bank_of;
 use crate::{told, wide};
 use std::cell::OnceCell;
 use std::collections::HashMap;
+use std::ops::Range;
 
-/// What every call on a picture is given: a plan, two sides and a number of words.
+/// What every call on a picture is given: a plan, two sides, a number of words, and a number of entries for the sums.
 #[derive(Clone, Copy, Debug, PartialEq)]
 pub struct Lent {
     pub plan: Plan,
     pub w: u32,
     pub h: u32,
     pub words: usize,
+    pub entries: usize,
 }
 
 fn refuse<T>(number: u64) -> Result<T, Told> {
@@ -48,6 +50,12 @@ pub fn turns(p: Plan) -> (i64, i64) {
 }
 
 impl Lent {
+    /// A picture with just the words and the entries that it needs.
+    pub fn new(plan: Plan, w: u32, h: u32) -> Lent {
+        let bare = Lent { plan, w, h, words: 0, entries: 0 };
+        Lent { words: bare.size(), entries: bare.banks() as usize, ..bare }
+    }
+
     pub fn banks(&self) -> i64 {
         i64::from(self.plan.a) * i64::from(self.plan.d)
     }
@@ -77,15 +85,34 @@ impl Lent {
         keeps_banks(self.plan, (self.w.into(), 0)) && keeps_banks(self.plan, (0, self.h.into()))
     }
 
+    fn are_sides(&self) -> bool {
+        (1..=4096).contains(&self.w) && (1..=4096).contains(&self.h)
+    }
+
+    /// Whether there is a picture that the memory holds.
+    pub fn is_held(&self) -> bool {
+        is_plan(self.plan) && self.are_sides() && self.size() <= self.words
+    }
+
     // 11, 12, 13
     fn test(&self) -> Result<(), Told> {
         if !is_plan(self.plan) {
             return refuse(11);
         }
-        if !(1..=4096).contains(&self.w) || !(1..=4096).contains(&self.h) {
+        if !self.are_sides() {
             return refuse(12);
         }
         if self.words < self.size() { refuse(13) } else { Ok(()) }
+    }
+
+    // "A sums buffer shorter than N is a case of 13, tested with the memory"
+    fn test_sums(&self) -> Result<(), Told> {
+        if (self.entries as i64) < self.banks() { refuse(13) } else { Ok(()) }
+    }
+
+    // 15
+    fn test_bank(&self, k: u64) -> Result<(), Told> {
+        if k >= self.banks() as u64 { refuse(15) } else { Ok(()) }
     }
 }
 
@@ -99,36 +126,65 @@ pub fn wrapped(t: &Pattern, w: i64, h: i64) -> Pattern {
     t.iter().map(|v| (v.0.rem_euclid(w), v.1.rem_euclid(h))).collect()
 }
 
-/// The words last stored in one picture, under one plan; a pixel without an entry has 0.
+/// The words last stored in one picture, under one plan, and the sums of its banks.
 pub struct Stored {
     of: Lent,
     words: HashMap<(i64, i64), u16>,
+    // what stood in the picture's words at the start, now 0 where it was stored over or cleared; nothing where all was 0
+    start: Vec<u16>,
+    // how far each sum is above that of its bank's words, modulo 2^64: no store changes that
+    above: Vec<u64>,
     // whether its ring fetches are allowed, once it was looked at
     ring: OnceCell<bool>,
 }
 
 impl Stored {
-    pub fn new(of: Lent) -> Stored {
-        Stored { of, words: HashMap::new(), ring: OnceCell::new() }
+    /// With what stands in the memory and in the sums at the start.
+    pub fn new(of: Lent, memory: &[u16], sums: &[u64]) -> Stored {
+        let picture = if of.is_held() { &memory[..of.size()] } else { &[] };
+        let start = if picture.iter().all(|&x| x == 0) { Vec::new() } else { picture.to_vec() };
+        let banks = if is_plan(of.plan) { of.banks() as usize } else { 0 };
+        let mut stored = Stored { of, words: HashMap::new(), start, above: vec![0; banks], ring: OnceCell::new() };
+        for (k, &sum) in sums.iter().enumerate().take(banks) {
+            stored.above[k] = sum.wrapping_sub(stored.walk(k));
+        }
+        stored
     }
 
     fn word(&self, v: (i64, i64)) -> u16 {
-        self.words.get(&v).copied().unwrap_or(0)
+        let at_start = || if self.start.is_empty() { 0 } else { self.start[self.of.place_of(v)] };
+        self.words.get(&v).copied().unwrap_or_else(at_start)
+    }
+
+    // Where a bank stands in what is left of the start.
+    fn stretch(&self, k: usize) -> Range<usize> {
+        let depth = if self.start.is_empty() { 0 } else { self.of.depth() as usize };
+        k * depth..(k + 1) * depth
+    }
+
+    // The sum of a bank's words.
+    fn walk(&self, k: usize) -> u64 {
+        let stored = self.words.iter().filter(|(&v, _)| bank_of(self.of.plan, v) as usize == k).map(|(_, &x)| x);
+        stored.chain(self.start[self.stretch(k)].iter().copied()).map(u64::from).sum()
     }
 
     // A call that is not refused is one on this picture.
     fn test(&self, g: &Lent) -> Result<(), Told> {
         g.test()?;
-        assert_eq!(Lent { words: 0, ..*g }, Lent { words: 0, ..self.of });
+        assert_eq!((g.plan, g.w, g.h), (self.of.plan, self.of.w, self.of.h));
         Ok(())
     }
 
     pub fn store(&mut self, g: &Lent, v: (i16, i16), x: u16) -> Result<(), Told> {
         self.test(g)?;
+        g.test_sums()?;
         if !g.has(wide(v)) {
             return refuse(14);
         }
         self.words.insert(wide(v), x);
+        if !self.start.is_empty() {
+            self.start[g.place_of(wide(v))] = 0;
+        }
         Ok(())
     }
 
@@ -139,19 +195,37 @@ impl Stored {
 
     pub fn clear(&mut self, g: &Lent, k: u64) -> Result<(), Told> {
         self.test(g)?;
-        if k >= g.banks() as u64 {
-            return refuse(15);
-        }
+        g.test_sums()?;
+        g.test_bank(k)?;
         self.words.retain(|&v, _| bank_of(g.plan, v) as u64 != k);
+        let bank = self.stretch(k as usize);
+        self.start[bank].fill(0);
+        self.above[k as usize] = 0;
         Ok(())
     }
 
     pub fn sum(&self, g: &Lent, k: u64) -> Result<u64, Told> {
         self.test(g)?;
-        if k >= g.banks() as u64 {
-            return refuse(15);
+        g.test_bank(k)?;
+        Ok(self.walk(k as usize))
+    }
+
+    pub fn make_sums(&mut self, g: &Lent) -> Result<(), Told> {
+        self.test(g)?;
+        g.test_sums()?;
+        self.above.fill(0);
+        Ok(())
+    }
+
+    /// It goes by no sides and no memory.
+    pub fn read_sum(&self, g: &Lent, k: u64) -> Result<u64, Told> {
+        if !is_plan(g.plan) {
+            return refuse(11);
         }
-        Ok(self.words.iter().filter(|(&v, _)| bank_of(g.plan, v) as u64 == k).map(|(_, &x)| u64::from(x)).sum())
+        g.test_sums()?;
+        g.test_bank(k)?;
+        assert_eq!(g.plan, self.of.plan);
+        Ok(self.above[k as usize].wrapping_add(self.walk(k as usize)))
     }
 
     /// A fetch, or a ring fetch, of pattern n for r moved to o, for an output of the given room.
@@ -187,10 +261,27 @@ impl Stored {
         Ok(pixels.iter().map(|&v| self.word(v)).collect())
     }
 
-    /// The memory as it must stand: as at the start, but for each stored word at its place.
-    pub fn put_into(&self, memory: &mut [u16]) {
+    /// The memory as it must stand, put over the one of the start: each stored word at its place.
+    pub fn put_words(&self, memory: &mut [u16]) {
+        memory[..self.start.len()].copy_from_slice(&self.start);
         for (&v, &x) in &self.words {
             memory[self.of.place_of(v)] = x;
+        }
+    }
+
+    /// The sums as they must stand, put over those of the start; too few of them have not changed.
+    pub fn put_sums(&self, sums: &mut [u64]) {
+        if self.of.entries < self.above.len() {
+            return;
+        }
+        sums[..self.above.len()].copy_from_slice(&self.above);
+        for (at, &x) in self.start.iter().enumerate() {
+            let sum = &mut sums[at / self.of.depth() as usize];
+            *sum = sum.wrapping_add(x.into());
+        }
+        for (&v, &x) in &self.words {
+            let sum = &mut sums[bank_of(self.of.plan, v) as usize];
+            *sum = sum.wrapping_add(x.into());
         }
     }
 }

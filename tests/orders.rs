@@ -15,7 +15,7 @@ use crate::{program, told, Random, Tally};
 
 // A fetch that nothing refuses: the plan suits every pattern, and the sides are those of a ring.
 fn fetch(kind: Kind) -> Call {
-    let lent = Lent { plan: plan(32, 0, 32), w: 64, h: 32, words: 64 * 32 };
+    let lent = Lent::new(plan(32, 0, 32), 64, 32);
     Call { v: (16, 16), ..Call::new(kind, lent) }
 }
 
@@ -55,13 +55,14 @@ fn record_refused(t: &mut Tally, r: &Record, number: u64) {
         for cycles in [1, 2, 0, 9] {
             t.same(|| what("find"), library::find(r, cycles, limit), refused.clone());
         }
-        let (mut mem, mut outs, mut replies) = ([5; 64], [6; 8], [7; 12]);
+        let (mut mem, mut sums, mut outs, mut replies) = ([5; 64], [4; 64], [6; 8], [7; 12]);
         // lists that are one, and numbers that are none
-        for numbers in [[3, 0, 0, 0, 8], [4, 0, 0, 0, 8], [5, 0, 0, 0, 8]] {
-            let got = library::find_and_run(r, 1, limit, 8, 8, &mut mem, &numbers, &mut outs, &mut replies);
+        for numbers in [[3, 0, 0, 0, 8], [4, 0, 0, 0, 8], [5, 0, 0, 0, 8], [8, 0, 0, 0, 8]] {
+            let got = library::find_and_run(r, 1, limit, 8, 8, &mut mem, &mut sums, &numbers, &mut outs, &mut replies);
             t.same(|| what("find_and_run"), got, refused.clone());
         }
-        t.same(|| what("what find_and_run was lent"), (mem, outs, replies), ([5; 64], [6; 8], [7; 12]));
+        let lent = (mem, sums, outs, replies);
+        t.same(|| what("what find_and_run was lent"), lent, ([5; 64], [4; 64], [6; 8], [7; 12]));
     }
     for (x, y) in [((32, 0), (0, 32)), ((2, 1), (4, 2)), ((32, 0), (0, 33)), ((1, 0), (0, 1))] {
         for cycles in [1, 2, 0, 9] {
@@ -92,8 +93,8 @@ fn fetches_refused(t: &mut Tally, r: &Record, number: u64) {
         for which in 0..10 {
             let mut c = fetch(kind);
             break_fetch(&mut c, which);
-            let (mut mem, mut out) = (vec![0; c.lent.words], guard(c.room));
-            t.same(|| what(&format!("{c:?}")), way(r, &c, &mut mem, &mut out), refused.clone());
+            let (mut mem, mut sums, mut out) = (vec![0; c.lent.words], vec![5; c.lent.entries], guard(c.room));
+            t.same(|| what(&format!("{c:?}")), way(r, &c, &mut mem, &mut sums, &mut out), refused.clone());
             t.same(|| what("a fetch's output"), out, guard(c.room));
         }
     }
@@ -116,7 +117,7 @@ fn record_taken(t: &mut Tally, r: &Record, bytes: &[u8]) {
         for (which, number) in numbers.into_iter().enumerate() {
             let mut c = fetch(kind);
             break_fetch(&mut c, which);
-            let told = by_library(r, &c, &mut vec![0; c.lent.words], &mut vec![0; c.room]);
+            let told = by_library(r, &c, &mut vec![0; c.lent.words], &mut [], &mut vec![0; c.room]);
             t.same(|| what(&format!("{c:?}")), told.number, number);
         }
     }

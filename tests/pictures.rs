@@ -1,5 +1,5 @@
 //! The calls on a picture: document 01's figures, the order of the checks, and both sides of each edge. Where patterns lie is in
-//! fetches.rs, the random lists are in lists.rs.
+//! fetches.rs, the random lists are in lists.rs, what is said of the sums alone is in sums.rs.
 
 use crate::books::fill_unused;
 use crate::calls::{by_library, Call, Kind, Picture, Way, KINDS};
@@ -8,6 +8,7 @@ use crate::memory::Lent;
 use crate::oracle::{self, Pattern};
 use crate::runs::by_list;
 use crate::search::plan;
+use crate::wrapper::by_wrapper;
 use crate::{fetches, lists, told, Random, Tally};
 
 pub fn cross() -> Pattern {
@@ -32,24 +33,25 @@ fn figures() -> Tally {
     let book = record(&[vec![(0, 0)]]);
     let p = plan(5, 2, 1);
     // plan 5, 2, 1, W = 7, H = 4: (6,3) is bank 0, address 7 of 8
-    let mut memory = vec![0; 40];
+    let (mut memory, mut sums) = (vec![0; 40], [0; 12]);
     let mut wanted = memory.clone();
     wanted[7] = 65535;
-    t.same(|| "store".into(), library::store(p, 7, 4, &mut memory, (6, 3), 65535), told(0, &[]));
+    t.same(|| "store".into(), library::store(p, 7, 4, &mut memory, &mut sums, (6, 3), 65535), told(0, &[]));
     t.same(|| "(6,3)".into(), memory.clone(), wanted);
     t.same(|| "load".into(), library::load(p, 7, 4, &memory, (6, 3)), told(0, &[65535]));
     t.same(|| "sum".into(), library::sum(p, 7, 4, &memory, 0), told(0, &[65535]));
     // 65535 everywhere: the word of bank 4, address 1 is no pixel's
     for v in (0..28).map(|k| (k % 7, k / 7)) {
-        t.same(|| format!("{v:?}"), library::store(p, 7, 4, &mut memory, v, 65535), told(0, &[]));
+        t.same(|| format!("{v:?}"), library::store(p, 7, 4, &mut memory, &mut sums, v, 65535), told(0, &[]));
     }
     t.same(|| "bank 4, address 1".into(), (memory[33], memory.iter().filter(|&&x| x == 65535).count()), (0, 28));
     let before = memory.clone();
-    t.same(|| "clear".into(), library::clear(p, 7, 4, &mut memory, 4), told(0, &[]));
+    t.same(|| "clear".into(), library::clear(p, 7, 4, &mut memory, &mut sums, 4), told(0, &[]));
     t.same(|| "bank 4".into(), memory, [&before[..32], &[0; 8]].concat());
     // plan 6, 4, 2: the bank of (-1,-1) is 9; on a ring of 12 by 12 it is (11,11)
     let (mut memory, mut out) = (vec![0; 144], [0; 1]);
-    t.same(|| "store".into(), library::store(plan(6, 4, 2), 12, 12, &mut memory, (11, 11), 77), told(0, &[]));
+    let stored = library::store(plan(6, 4, 2), 12, 12, &mut memory, &mut sums, (11, 11), 77);
+    t.same(|| "store".into(), stored, told(0, &[]));
     t.same(|| "bank 9".into(), library::sum(plan(6, 4, 2), 12, 12, &memory, 9), told(0, &[77]));
     let ring = library::ring_fetch(&book, 1, plan(6, 4, 2), 12, 12, &memory, 0, (-1, -1), &mut out);
     t.same(|| "(-1,-1)".into(), (ring, out), (told(0, &[1]), [77]));
@@ -66,8 +68,8 @@ fn figures() -> Tally {
     t.same(|| "table, 14".into(), library::fetch(&book, 1, p, 7, 5, &memory, 0, (7, 0), &mut out), told(14, &[0]));
     t.same(|| "table, 14".into(), library::load(p, 7, 4, &memory, (7, 0)), told(14, &[0]));
     t.same(|| "table, 15".into(), library::sum(p, 7, 4, &memory, 5), told(15, &[0]));
-    t.same(|| "table, 15".into(), library::clear(p, 7, 4, &mut memory, 5), told(15, &[0]));
-    t.same(|| "table, 13".into(), library::store(p, 7, 4, &mut [], (0, 0), 1), told(13, &[0]));
+    t.same(|| "table, 15".into(), library::clear(p, 7, 4, &mut memory, &mut sums, 5), told(15, &[0]));
+    t.same(|| "table, 13".into(), library::store(p, 7, 4, &mut [], &mut sums, (0, 0), 1), told(13, &[0]));
     t.same(|| "table, 12".into(), library::load(p, 0, 4, &memory, (0, 0)), told(12, &[0]));
     t.same(|| "table, 11".into(), library::load(plan(0, 0, 1), 7, 4, &memory, (0, 0)), told(11, &[0]));
     t
@@ -82,8 +84,18 @@ const RINGS: [((u32, u32), (u32, u32), [(i64, i64, i64); 2]); 3] = [
     ((10, 10), (10, 7), [(5, 2, 1), (2, 1, 1)]),
 ];
 
+// Whether the memory and whether the sums are too short, where 13 is broken. A call that is not lent the one or the other does not
+// ask for it.
+fn shorts(kind: Kind) -> &'static [(bool, bool)] {
+    match kind {
+        Kind::ReadSum => &[(false, true), (true, true)],
+        _ if kind.takes_sums() => &[(true, false), (false, true), (true, true)],
+        _ => &[(true, false), (true, true)],
+    }
+}
+
 // A call on the cross with these conditions broken, and the first of them in the order of the checks.
-fn broken_call(t: &mut Tally, kind: Kind, way: Way, r: u32, ring: usize, broken: &[u64]) {
+fn broken_call(t: &mut Tally, kind: Kind, way: Way, r: u32, ring: usize, broken: &[u64], short: (bool, bool)) {
     let (sides, others, plans) = RINGS[ring];
     let (a, b, d) = plans[usize::from(broken.contains(&10))];
     let (w, h) = if broken.contains(&18) { others } else { sides };
@@ -101,7 +113,10 @@ fn broken_call(t: &mut Tally, kind: Kind, way: Way, r: u32, ring: usize, broken:
             20 => c.r = if r == 1 { 0 } else { 9 },
             11 => c.lent.plan.b = a as u32,
             12 => c.lent.h = 4097,
-            13 => c.lent.words = 1,
+            13 => {
+                c.lent.words = if short.0 { 1 } else { c.lent.words };
+                c.lent.entries -= usize::from(short.1);
+            }
             14 => c.v = if kind == Kind::Fetch { (0, 1) } else { (-1, 1) },
             15 => c.k = 5,
             16 => c.room = 4,
@@ -124,17 +139,22 @@ fn order() -> Tally {
         let refusals = kind.refusals();
         for set in 0..1 << refusals.len() {
             let broken: Vec<u64> = (0..refusals.len()).filter(|k| set >> k & 1 == 1).map(|k| refusals[k]).collect();
-            for way in [by_library, by_list] {
+            let shorts = if broken.contains(&13) { shorts(kind) } else { &[(false, false)] };
+            for way in [by_library, by_list, by_wrapper] {
                 for ring in 0..if kind == Kind::Ring { 3 } else { 1 } {
-                    broken_call(&mut t, kind, way, 1, ring, &broken);
-                    if kind.fetches() {
-                        broken_call(&mut t, kind, way, 2, ring, &broken);
+                    for r in 1..if kind.fetches() { 3 } else { 2 } {
+                        shorts.iter().for_each(|&short| broken_call(&mut t, kind, way, r, ring, &broken, short));
                     }
                 }
             }
         }
     }
-    // in book order; every pattern of the book is tested, what is behind them is not
+    book_order(&mut t);
+    t
+}
+
+// In book order; every pattern of the book is tested, what is behind them is not.
+fn book_order(t: &mut Tally) {
     let mut picture = Picture::new(plan(5, 2, 1), 10, 10);
     let sound = record(&[cross(), cross()]);
     for kind in [Kind::Fetch, Kind::Ring] {
@@ -142,7 +162,7 @@ fn order() -> Tally {
         let mut case = |damage: fn(&mut Record), number| {
             let mut book = sound.clone();
             damage(&mut book);
-            expect(&mut t, c, number, &book, &mut picture);
+            expect(t, c, number, &book, &mut picture);
         };
         case(|r| (r.used[0], r.columns[0]) = (65, 16), 2);
         case(|r| (r.rows[4], r.used[1]) = (-17, 0), 3);
@@ -159,7 +179,6 @@ fn order() -> Tally {
         case(|r| (r.count, r.used[1], r.columns[64]) = (1, 65, 16), 0);
         case(|r| (r.columns[5], r.rows[5], r.used[2]) = (-128, 127, usize::MAX), 0);
     }
-    t
 }
 
 fn edges() -> Tally {
@@ -175,12 +194,14 @@ fn edges() -> Tally {
         let fine = |kind| if kind == Kind::Ring && n >= 100 { 18 } else { 0 };
         for kind in KINDS {
             let c = Call::new(kind, picture.lent);
-            for (words, number) in [(size, fine(kind)), (size + 1, fine(kind)), (size - 1, 13), (0, 13)] {
+            // a call that reads a sum goes by no memory and no sides
+            let by_memory = |number| if kind == Kind::ReadSum { 0 } else { number };
+            for (words, number) in [(size, fine(kind)), (size + 1, fine(kind)), (size - 1, by_memory(13)), (0, by_memory(13))] {
                 expect(&mut t, Call { lent: Lent { words, ..c.lent }, ..c }, number, &book, &mut picture);
             }
             let sides = [(0, 1), (1, 0), (4097, 1), (1, 4097), (u32::MAX, 1), (65537, 65537), (1 << 31, 1 << 31)];
             for (w, h) in sides {
-                expect(&mut t, Call { lent: Lent { w, h, ..c.lent }, ..c }, 12, &book, &mut picture);
+                expect(&mut t, Call { lent: Lent { w, h, ..c.lent }, ..c }, by_memory(12), &book, &mut picture);
             }
             let (most, half) = (u32::MAX, 65536);
             let near = [(0, 0, 1), (1, 0, 0), (5, 5, 1), (1025, 0, 1), (1, 0, 1025), (41, 0, 25)];
@@ -188,7 +209,7 @@ fn edges() -> Tally {
                 expect(&mut t, Call { lent: Lent { plan: Plan { a, b, d }, ..c.lent }, ..c }, 11, &book, &mut picture);
             }
         }
-        for kind in [Kind::Clear, Kind::Sum] {
+        for kind in [Kind::Clear, Kind::Sum, Kind::ReadSum] {
             let n = u64::from(n);
             for (k, number) in [(n - 1, 0), (n, 15), (n + 1, 15), (1 << 32, 15), (1 << 54, 15), (1 << 63, 15), (u64::MAX, 15)] {
                 expect(&mut t, Call { k, ..Call::new(kind, picture.lent) }, number, &book, &mut picture);
@@ -215,7 +236,7 @@ fn edges() -> Tally {
     t
 }
 
-// Long sides: 4096 by 1 and 1 by 4096, and the largest picture, whose bank of 65535s under 1, 0, 1 has a sum beyond 32 bits.
+// Long sides: 4096 by 1 and 1 by 4096, and the largest picture.
 fn longest() -> Tally {
     let mut t = Tally::new("the longest sides and the largest sums");
     let book = record(&[vec![(0, 0)], vec![(-16, 15)]]);
@@ -228,28 +249,40 @@ fn longest() -> Tally {
                 }
             }
         }
-        let mut lent = Lent { plan: p, w: 4096, h: 4096, words: 0 };
-        lent.words = lent.size();
-        let (depth, banks) = (lent.depth() as u64, lent.banks() as u64);
-        let mut memory = vec![65535; lent.words];
-        for k in [0, banks - 1] {
-            t.same(|| format!("{p:?} {k}"), library::sum(p, 4096, 4096, &memory, k), told(0, &[65535 * depth]));
-        }
-        let at = lent.place_of((4095, 4095));
-        let stored = library::store(p, 4096, 4096, &mut memory, (4095, 4095), 1);
-        t.same(|| format!("{p:?} last pixel"), (stored, memory[at]), (told(0, &[]), 1));
-        let mut out = [0; 1];
-        let fetched = library::fetch(&book, 1, p, 4096, 4096, &memory, 1, (4111, 4080), &mut out);
-        t.same(|| format!("{p:?} last pixel"), (fetched, out), (told(0, &[1]), [1]));
-        t.same(|| format!("{p:?}"), memory.iter().filter(|&&x| x != 65535).count(), 1);
-        let k = at as u64 / depth;
-        t.same(|| format!("{p:?} {k}"), library::sum(p, 4096, 4096, &memory, k), told(0, &[65535 * (depth - 1) + 1]));
-        t.same(|| format!("{p:?} {k}"), library::clear(p, 4096, 4096, &mut memory, k).number, 0);
-        let (from, to) = ((k * depth) as usize, ((k + 1) * depth) as usize);
-        let cleared = memory.iter().enumerate().all(|(at, &x)| (x == 0) == (from..to).contains(&at));
-        t.same(|| format!("{p:?}, bank {k} is cleared"), cleared, true);
+        largest(&mut t, &book, p);
     }
     t
+}
+
+// The largest picture, whose bank of 65535s under 1, 0, 1 has a sum beyond 32 bits, walked for, kept and made afresh.
+fn largest(t: &mut Tally, book: &Record, p: Plan) {
+    let lent = Lent::new(p, 4096, 4096);
+    let (depth, banks) = (lent.depth() as u64, lent.banks() as u64);
+    let mut memory = vec![65535; lent.words];
+    for k in [0, banks - 1] {
+        t.same(|| format!("{p:?} {k}"), library::sum(p, 4096, 4096, &memory, k), told(0, &[65535 * depth]));
+    }
+    let made = |memory: &[u16]| {
+        let mut sums = vec![1; lent.entries];
+        (library::make_sums(p, 4096, 4096, memory, &mut sums), sums)
+    };
+    let mut sums = vec![65535 * depth; lent.entries];
+    t.same(|| format!("{p:?} made afresh"), made(&memory), (told(0, &[]), sums.clone()));
+    let at = lent.place_of((4095, 4095));
+    let stored = library::store(p, 4096, 4096, &mut memory, &mut sums, (4095, 4095), 1);
+    t.same(|| format!("{p:?} last pixel"), (stored, memory[at]), (told(0, &[]), 1));
+    let mut out = [0; 1];
+    let fetched = library::fetch(book, 1, p, 4096, 4096, &memory, 1, (4111, 4080), &mut out);
+    t.same(|| format!("{p:?} last pixel"), (fetched, out), (told(0, &[1]), [1]));
+    t.same(|| format!("{p:?}"), memory.iter().filter(|&&x| x != 65535).count(), 1);
+    let k = at as u64 / depth;
+    t.same(|| format!("{p:?} {k}"), library::sum(p, 4096, 4096, &memory, k), told(0, &[65535 * (depth - 1) + 1]));
+    t.same(|| format!("{p:?} {k}"), library::read_sum(p, &sums, k), told(0, &[65535 * (depth - 1) + 1]));
+    t.same(|| format!("{p:?} {k}"), library::clear(p, 4096, 4096, &mut memory, &mut sums, k).number, 0);
+    t.same(|| format!("{p:?} made afresh"), made(&memory), (told(0, &[]), sums));
+    let (from, to) = ((k * depth) as usize, ((k + 1) * depth) as usize);
+    let cleared = memory.iter().enumerate().all(|(at, &x)| (x == 0) == (from..to).contains(&at));
+    t.same(|| format!("{p:?}, bank {k} is cleared"), cleared, true);
 }
 
 pub fn run() -> Vec<Tally> {

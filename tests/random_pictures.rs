@@ -62,7 +62,7 @@ pub fn sides(random: &mut Random, p: Plan) -> (u32, u32) {
             8 if tries < 2 => (random.from_to(1, 3), long),
             _ => (side(random, a), side(random, d)),
         };
-        let g = Lent { plan: p, w: w as u32, h: h as u32, words: 0 };
+        let g = Lent::new(p, w as u32, h as u32);
         if w <= 4096 && h <= 4096 && g.size() <= most {
             return (g.w, g.h);
         }

@@ -28,9 +28,9 @@ fn rooms(t: &mut Tally, ring: &Edges, other: &Edges) {
     ring.not_made(t, &[[4, 3, 2, 0, 5], [4, 3, 2, 0, MOST - 4]], 5, 16, 0);
     ring.not_made(t, &[[4, 3, 2, 0, 1 << 63], [4, 3, 2, 0, 1 << 63]], 5, 16, 0);
     // the earlier fault tells; in one call the numbers before the room
-    ring.not_made(t, &[[5, 0, 0, 0, 0], [4, 0, 0, 0, 9]], 5, 255, 0);
-    ring.not_made(t, &[[4, 0, 0, 0, 9], [5, 0, 0, 0, 0]], 5, 16, 0);
-    ring.not_made(t, &[[4, 0, 0, 0, 5], [5, 0, 0, 0, 0]], 5, 255, 5);
+    ring.not_made(t, &[[8, 0, 0, 0, 0], [4, 0, 0, 0, 9]], 5, 255, 0);
+    ring.not_made(t, &[[4, 0, 0, 0, 9], [8, 0, 0, 0, 0]], 5, 16, 0);
+    ring.not_made(t, &[[4, 0, 0, 0, 5], [8, 0, 0, 0, 0]], 5, 255, 5);
     ring.not_made(t, &[[4, 65536, 0, 0, 9]], 5, 255, 0);
     ring.not_made(t, &[[4, 0, 65536, 0, MOST]], 5, 255, 0);
     for left in 1..5 {
@@ -52,12 +52,11 @@ fn two_faults(t: &mut Tally) {
     let rows = [((2, 0, 1), 7, 4), ((2, 0, 2), 6, 5), ((2, 1, 1), 6, 3), ((2, 1, 2), 8, 2), ((1, 0, 3), 3, 1)];
     for ((a, b, d), w, h) in rows {
         let p = plan(a, b, d);
-        let mut lent = Lent { plan: p, w, h, words: 0 };
-        lent.words = lent.size();
+        let lent = Lent::new(p, w, h);
         // the cross clashes under each of these plans, and the pair under the last; no room; no such pattern
         let numbers = [[4, 3, 2, 0, 5], [4, 3, 2, 1, 2], [4, 3, 2, 1, 0], [4, 3, 2, 2, 5], [4, 65535, 4096, 1, 2]].concat();
         let mut ask = |r: u32, lent: Lent, wanted: [u64; 5]| {
-            let case = Case { record: &book, r, lent, numbers: &numbers, outs: 14, replies: 60 };
+            let case = Case { record: &book, r, lent, numbers: &numbers, outs: 14, replies: 60, content: 0 };
             let (got, left) = case.ask(t);
             t.same(|| format!("{case:?}"), got, told(0, &[]));
             let first: Vec<u64> = left.replies[..60].iter().copied().step_by(12).collect();
@@ -74,14 +73,14 @@ fn two_faults(t: &mut Tally) {
     }
 }
 
-// A list with all numbers of its replies, its outputs and its memory written out: each ring fetch has an output of its own, and
-// gives what was stored last at the wrapped pixels.
+// A list with all numbers of its replies, its outputs, its memory and its sums written out: each ring fetch has an output of its
+// own, and gives what was stored last at the wrapped pixels.
 fn written_out(t: &mut Tally, ring: &Edges) {
     let stores = [[0, 9, 4, 7, 0], [0, 0, 0, 8, 0], [0, 0, 4, 9, 0]];
     let around = [[4, 65535, 65535, 0, 6], [4, 65535, 65535, 0, 4], [4, 10, 5, 0, 5]];
     let after = [[1, 0, 0, 0, 0], [0, 0, 4, 3, 0], [4, 0, 0, 0, 5], [3, 0, 0, 0, 5], [4, 0, 0, 1, 1]];
     let numbers = [&stores[..], &around, &after].concat().concat();
-    let case = Case { record: &ring.book, r: 1, lent: ring.lent, numbers: &numbers, outs: 26, replies: 132 };
+    let case = Case { record: &ring.book, r: 1, lent: ring.lent, numbers: &numbers, outs: 26, replies: 132, content: 0 };
     let starts: [&[u64]; 11] = [&[0], &[0], &[0], &[0, 5], &[16, 0], &[0, 5], &[0], &[0], &[0, 5], &[14, 0], &[17, 0]];
     let replies: Vec<u64> = starts.iter().flat_map(|row| [row, &[0; 12][row.len()..]].concat()).collect();
     let mut wanted = case.start();
@@ -90,6 +89,9 @@ fn written_out(t: &mut Tally, ring: &Edges) {
     wanted.outs[10..20].copy_from_slice(&[9, 0, 8, 0, 0, 3, 0, 0, 0, 0]);
     // (9, 4) is bank 1, address 9, and (0, 4) bank 2, address 8, at depth 10
     (wanted.memory[19], wanted.memory[28]) = (7, 3);
+    // bank 0 is cleared, the sum of bank 1 was 2^64 - 2, and 9 went in and out of that of bank 2
+    wanted.sums[..2].copy_from_slice(&[0, 5]);
+    wanted.sums[2] = wanted.sums[2].wrapping_add(3);
     let (got, found) = (case.ask(t), case.ask_finder(t, 1024));
     t.same(|| "run_list, written out".into(), got, (told(0, &[]), wanted.clone()));
     t.same(|| "find_and_run, written out".into(), found, (told(0, &[5, 2, 1]), wanted));
@@ -101,8 +103,8 @@ fn turntable(t: &mut Tally) {
     let book = record(&[vec![(0, 0), (1, 0), (0, 1), (1, 1)]]);
     let numbers = [[0, 11, 5, 4, 0], [0, 0, 5, 5, 0], [0, 11, 0, 6, 0], [0, 0, 0, 7, 0], [4, 11, 5, 0, 4]].concat();
     for (h, number, words) in [(6, 0, [4, 5, 6, 7]), (5, 18, [0; 4])] {
-        let lent = Lent { plan: plan(6, 0, 2), w: 12, h, words: 72 };
-        let case = Case { record: &book, r: 1, lent, numbers: &numbers, outs: 4, replies: 60 };
+        let lent = Lent { words: 72, ..Lent::new(plan(6, 0, 2), 12, h) };
+        let case = Case { record: &book, r: 1, lent, numbers: &numbers, outs: 4, replies: 60, content: 0 };
         for (_, left) in [case.ask(t), case.ask_finder(t, 1024)] {
             t.same(|| format!("the turntable, H = {h}"), left.replies[48], number);
             let outs = if number == 0 { words.to_vec() } else { case.start().outs[..4].to_vec() };

@@ -110,8 +110,7 @@ pub fn run() -> Tally {
     turntable(&mut t);
     let book = record(&[vec![(0, 0)]]);
     for ((a, b, d), w, h, number) in ROWS {
-        let mut lent = Lent { plan: plan(a, b, d), w, h, words: 0 };
-        lent.words = lent.size();
+        let lent = Lent::new(plan(a, b, d), w, h);
         t.same(|| format!("brute force, {lent:?}"), lent.is_ring(), number == 0);
         let memory = vec![7; lent.words];
         let ask = |room: usize, n: usize, words: usize| -> Told {

@@ -66,7 +66,7 @@ fn every_plan() -> Tally {
         let whole = right.iter().chain(&down).all(|&pixels| pixels == 0 || pixels == banks.n * banks.n);
         t.same(|| format!("{p:?}: a step parts all pixels or none"), whole, true);
         for (w, h) in (1..=60).flat_map(|w| (1..=60).map(move |h| (w, h))) {
-            let g = Lent { plan: p, w, h, words: 0 };
+            let g = Lent::new(p, w, h);
             let ring = right[w as usize - 1] == 0 && down[h as usize - 1] == 0;
             ask_one(&mut t, &book, g, &memory, ((2 * w + h) as i16 - 70, 40 - (3 * h + w) as i16), ring);
             allowed += u64::from(ring);
@@ -94,7 +94,7 @@ fn large_plans() -> Tally {
         let right: Vec<(i64, bool)> = sides(turns(p).0).map(|w| (w, keeps(w, 0))).collect();
         let down: Vec<(i64, bool)> = sides(turns(p).1).map(|h| (h, keeps(0, h))).collect();
         for (&(w, to_right), &(h, to_below)) in right.iter().flat_map(|w| down.iter().map(move |h| (w, h))) {
-            let g = Lent { plan: p, w: w as u32, h: h as u32, words: 0 };
+            let g = Lent::new(p, w as u32, h as u32);
             let (at, mut out) = (g.place_of((w - 1, h - 1)), [9]);
             memory[at] = 7;
             let got = library::ring_fetch(&book, 1, p, g.w, g.h, &memory[..g.size()], 0, (-1, -1), &mut out);
@@ -125,8 +125,7 @@ fn draw(t: &mut Tally, random: &mut Random) -> Option<Drawn> {
     let p = if random.from_to(0, 1) == 0 { found(t, &book, r, &patterns) } else { legal_plan(random) };
     let n = patterns.iter().rposition(|pattern| suits_for(r, p, pattern))?;
     let (w, h) = (turns(p).0 * random.from_to(1, 4), turns(p).1 * random.from_to(1, 4));
-    let mut lent = Lent { plan: p, w: w as u32, h: h as u32, words: 0 };
-    lent.words = lent.size();
+    let lent = Lent::new(p, w as u32, h as u32);
     // some pixel is near an edge, now and then
     let q = random.one_of(&patterns[n]);
     let mut along = |side: i64, q: i64| match random.from_to(0, 5) {
@@ -141,7 +140,7 @@ fn draw(t: &mut Tally, random: &mut Random) -> Option<Drawn> {
 impl Drawn {
     // The places that the words come from, as the words tell them, and the cycles, by the library.
     fn ask(&self, t: &mut Tally) -> (Vec<usize>, Vec<u8>) {
-        let (Lent { plan: p, w, h, words }, count) = (self.lent, self.pattern.len());
+        let (Lent { plan: p, w, h, words, .. }, count) = (self.lent, self.pattern.len());
         let (mut out, mut cycles) = (vec![0; count], vec![0; count]);
         let got = library::ring_fetch(&self.book, self.r, p, w, h, &numbered(words), self.n, self.v, &mut out);
         t.same(|| format!("{self:?}"), got, told(0, &[count as u64]));

@@ -1,25 +1,28 @@
 //! A list of calls in numbers: what it must give by the map of what was stored, and what the library gives for it, by run_list,
 //! by find_and_run, and by the functions for single calls.
 
-use crate::calls::{by_library, guard, wanted, Call, Kind};
+use crate::calls::{by_library, guard, wanted, wrong_sums, Call, Kind};
 use crate::library::{self, Plan, Record, Told};
 use crate::memory::{Lent, Stored};
-use crate::oracle::is_plan;
-use crate::{told, wide, Tally};
+use crate::{told, wide, Random, Tally};
 
 /// The kinds of calls in a list, by their numbers.
-pub const KINDS: [Kind; 5] = [Kind::Store, Kind::Clear, Kind::Load, Kind::Fetch, Kind::Ring];
+pub const KINDS: [Kind; 8] =
+    [Kind::Store, Kind::Clear, Kind::Load, Kind::Fetch, Kind::Ring, Kind::MakeSums, Kind::Sum, Kind::ReadSum];
 
-/// A call's five numbers; those that it has no use for are as given, a clear's column and row in 16 bits.
+/// A call's five numbers; those that it has no use for are as given, the column and row of a call without a pixel in 16 bits.
 pub fn numbers_of(c: &Call, unused: u64) -> [u64; 5] {
     let (i, j) = (wide(c.v).0.rem_euclid(65536) as u64, wide(c.v).1.rem_euclid(65536) as u64);
+    let of_bank = |kind: u64| [kind, unused % 65536, unused % 65521, c.k, unused];
     match c.kind {
         Kind::Store => [0, i, j, c.x.into(), unused],
-        Kind::Clear => [1, unused % 65536, unused % 65521, c.k, unused],
+        Kind::Clear => of_bank(1),
         Kind::Load => [2, i, j, unused, unused],
         Kind::Fetch => [3, i, j, c.n as u64, c.room as u64],
         Kind::Ring => [4, i, j, c.n as u64, c.room as u64],
-        Kind::Sum => unreachable!("no call of a list"),
+        Kind::MakeSums => [5, unused % 65536, unused % 65521, unused, unused],
+        Kind::Sum => of_bank(6),
+        Kind::ReadSum => of_bank(7),
     }
 }
 
@@ -35,7 +38,7 @@ fn call_of(x: &[u64], r: u32, lent: Lent) -> Call {
 fn fault(numbers: &[u64], outs: usize, replies: usize) -> Option<Told> {
     let mut room = outs as u64;
     for (k, x) in numbers.chunks(5).enumerate() {
-        if x.len() < 5 || x[0] > 4 || x[1] > 65535 || x[2] > 65535 || x[0] == 0 && x[3] > 65535 {
+        if x.len() < 5 || x[0] > 7 || x[1] > 65535 || x[2] > 65535 || x[0] == 0 && x[3] > 65535 {
             return Some(told(255, &[5 * k as u64]));
         }
         let own = if x[0] == 3 || x[0] == 4 { x[4] } else { 0 };
@@ -60,20 +63,27 @@ const BEHIND: usize = 8;
 #[derive(Clone, Debug, PartialEq)]
 pub struct Buffers {
     pub memory: Vec<u16>,
+    pub sums: Vec<u64>,
     pub outs: Vec<u16>,
     pub replies: Vec<u64>,
 }
 
+// The first place in which the two differ.
+fn place<T: PartialEq>(a: &[T], b: &[T]) -> Option<usize> {
+    (0..a.len()).find(|&k| a[k] != b[k])
+}
+
 impl Buffers {
-    // The first place of each in which the two differ.
-    fn difference(&self, other: &Buffers) -> Option<[Option<usize>; 3]> {
-        let replies = (0..self.replies.len()).find(|&k| self.replies[k] != other.replies[k]);
-        let words = |a: &[u16], b: &[u16]| (0..a.len()).find(|&k| a[k] != b[k]);
-        (self != other).then(|| [words(&self.memory, &other.memory), words(&self.outs, &other.outs), replies])
+    // The first place of memory, sums, outputs and replies in which the two differ.
+    fn difference(&self, other: &Buffers) -> Option<[Option<usize>; 4]> {
+        let words = |a: &Vec<u16>, b: &Vec<u16>| place(a, b);
+        let (memory, outs) = (words(&self.memory, &other.memory), words(&self.outs, &other.outs));
+        (self != other).then(|| [memory, place(&self.sums, &other.sums), outs, place(&self.replies, &other.replies)])
     }
 }
 
-/// A list, with the words of its outputs and the numbers of its replies.
+/// A list, with the words of its outputs and the numbers of its replies. Where `content` is 0 the picture's words are 0 at the
+/// start, else they and the sums are drawn from it.
 #[derive(Clone, Debug)]
 pub struct Case<'a> {
     pub record: &'a Record,
@@ -82,18 +92,22 @@ pub struct Case<'a> {
     pub numbers: &'a [u64],
     pub outs: usize,
     pub replies: usize,
+    pub content: u64,
 }
 
 impl Case<'_> {
-    /// The memory is 0 where the picture's words are, and anything elsewhere.
+    /// The memory is 0 where the picture's words are, or of any content, and anything elsewhere.
     pub fn start(&self) -> Buffers {
-        let g = self.lent;
-        let sides = (1..=4096).contains(&g.w) && (1..=4096).contains(&g.h);
-        let size = if is_plan(g.plan) && sides && g.size() <= g.words { g.size() } else { 0 };
-        let mut memory = guard(g.words + BEHIND);
-        memory[..size].fill(0);
+        let (g, mut random) = (self.lent, Random::new(self.content));
+        let (mut memory, mut sums) = (guard(g.words + BEHIND), wrong_sums(g.entries + BEHIND));
+        if self.content != 0 {
+            memory.fill_with(|| random.next() as u16);
+            sums.fill_with(|| random.next());
+        } else if g.is_held() {
+            memory[..g.size()].fill(0);
+        }
         let replies = (0..(self.replies + BEHIND) as u64).map(|k| k.wrapping_mul(0x9e37_79b9_7f4a_7c15) | 1).collect();
-        Buffers { memory, outs: guard(self.outs + BEHIND), replies }
+        Buffers { memory, sums, outs: guard(self.outs + BEHIND), replies }
     }
 
     fn calls(&self) -> impl Iterator<Item = Call> + '_ {
@@ -106,22 +120,25 @@ impl Case<'_> {
         if let Some(fault) = fault(self.numbers, self.outs, self.replies) {
             return (fault, left);
         }
-        let (mut stored, mut at) = (Stored::new(self.lent), 0);
+        let (mut stored, mut at) = (Stored::new(self.lent, &left.memory, &left.sums), 0);
         for (k, c) in self.calls().enumerate() {
             let answer = wanted(&mut stored, self.record, &c, &mut left.outs[at..at + c.room]);
             let told = answer.map_or_else(|refused| refused, |row| told(0, &row));
             left.replies[12 * k..12 * k + 12].copy_from_slice(&row(&told));
             at += c.room;
         }
-        stored.put_into(&mut left.memory);
+        stored.put_words(&mut left.memory);
+        stored.put_sums(&mut left.sums);
         (told(0, &[]), left)
     }
 
     // By the library's functions for single calls, of a list that is one.
     fn by_calls(&self) -> Buffers {
         let (mut left, mut at) = (self.start(), 0);
+        let Lent { words, entries, .. } = self.lent;
         for (k, c) in self.calls().enumerate() {
-            let told = by_library(self.record, &c, &mut left.memory[..self.lent.words], &mut left.outs[at..at + c.room]);
+            let (mem, sums) = (&mut left.memory[..words], &mut left.sums[..entries]);
+            let told = by_library(self.record, &c, mem, sums, &mut left.outs[at..at + c.room]);
             left.replies[12 * k..12 * k + 12].copy_from_slice(&row(&told));
             at += c.room;
         }
@@ -129,11 +146,10 @@ impl Case<'_> {
     }
 
     // By the library's function for a list, given the rest of what it is lent.
-    fn by(&self, make: impl Fn(&mut [u16], &[u64], &mut [u16], &mut [u64]) -> Told) -> (Told, Buffers) {
+    fn by(&self, make: impl Fn(&mut [u16], &mut [u64], &mut [u16], &mut [u64]) -> Told) -> (Told, Buffers) {
         let mut b = self.start();
-        let (mem, outs, replies) =
-            (&mut b.memory[..self.lent.words], &mut b.outs[..self.outs], &mut b.replies[..self.replies]);
-        (make(mem, self.numbers, outs, replies), b)
+        let (mem, sums) = (&mut b.memory[..self.lent.words], &mut b.sums[..self.lent.entries]);
+        (make(mem, sums, &mut b.outs[..self.outs], &mut b.replies[..self.replies]), b)
     }
 
     fn same(&self, t: &mut Tally, how: &str, got: (Told, Buffers), wanted: (Told, &Buffers)) {
@@ -146,8 +162,8 @@ impl Case<'_> {
     pub fn ask(&self, t: &mut Tally) -> (Told, Buffers) {
         let (told, left) = self.wanted();
         let Lent { plan, w, h, .. } = self.lent;
-        let make = |mem: &mut [u16], numbers: &[u64], outs: &mut [u16], replies: &mut [u64]| {
-            library::run_list(self.record, self.r, plan, w, h, mem, numbers, outs, replies)
+        let make = |mem: &mut [u16], sums: &mut [u64], outs: &mut [u16], replies: &mut [u64]| {
+            library::run_list(self.record, self.r, plan, w, h, mem, sums, self.numbers, outs, replies)
         };
         self.same(t, "run_list", self.by(make), (told.clone(), &left));
         if told.number == 0 {
@@ -167,8 +183,8 @@ impl Case<'_> {
             wanted = found;
         }
         let Lent { w, h, .. } = self.lent;
-        let make = |mem: &mut [u16], numbers: &[u64], outs: &mut [u16], replies: &mut [u64]| {
-            library::find_and_run(self.record, self.r, limit, w, h, mem, numbers, outs, replies)
+        let make = |mem: &mut [u16], sums: &mut [u64], outs: &mut [u16], replies: &mut [u64]| {
+            library::find_and_run(self.record, self.r, limit, w, h, mem, sums, self.numbers, outs, replies)
         };
         own.same(t, &format!("find_and_run, limit {limit}"), own.by(make), (wanted.clone(), &left));
         (wanted, left)

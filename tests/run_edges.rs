@@ -1,5 +1,5 @@
 //! Lists of calls in numbers at their edges. The answers and replies are stated here, and compared with the brute force too. More
-//! of ring fetches is in ring_edges.rs.
+//! of ring fetches is in ring_edges.rs, more of the sums in sum_edges.rs.
 
 use crate::library::Record;
 use crate::memory::Lent;
@@ -18,14 +18,12 @@ pub struct Edges {
 
 impl Edges {
     pub fn new(w: u32, h: u32) -> Edges {
-        let mut lent = Lent { plan: plan(5, 2, 1), w, h, words: 0 };
-        lent.words = lent.size();
-        Edges { book: record(&[cross()]), lent }
+        Edges { book: record(&[cross()]), lent: Lent::new(plan(5, 2, 1), w, h) }
     }
 
     /// A list with its number and place, as run_list and find_and_run must tell them; it gives the first number of each reply.
     pub fn list(&self, t: &mut Tally, numbers: &[u64], outs: usize, replies: usize, number: u64, place: u64) -> Vec<u64> {
-        let case = Case { record: &self.book, r: 1, lent: self.lent, numbers, outs, replies };
+        let case = Case { record: &self.book, r: 1, lent: self.lent, numbers, outs, replies, content: 0 };
         let (got, left) = case.ask(t);
         let wanted = told(number, if number == 0 { &[] } else { std::slice::from_ref(&place) });
         t.same(|| format!("{case:?}"), got, wanted.clone());
@@ -40,7 +38,7 @@ impl Edges {
     /// A list that is made with just the room that it needs; not with a word or a number less.
     pub fn made(&self, t: &mut Tally, calls: &[[u64; 5]], replies: &[u64]) {
         let numbers = calls.concat();
-        let outs = calls.iter().map(|c| if c[0] >= 3 { c[4] as usize } else { 0 }).sum();
+        let outs = calls.iter().map(|c| if c[0] == 3 || c[0] == 4 { c[4] as usize } else { 0 }).sum();
         let room = 12 * calls.len();
         let got = self.list(t, &numbers, outs, room, 0, 0);
         t.same(|| format!("the replies of {calls:?}"), got, replies.to_vec());
@@ -61,20 +59,20 @@ impl Edges {
 // Numbers at both sides of what a call can have.
 fn numbers(t: &mut Tally, e: &Edges) {
     e.made(t, &[], &[]);
-    // kinds: after three loads, and before another fault
-    for kind in [5, 6, 255, 256, 260, 65536, 1 << 32, (1 << 32) + 4, 1 << 63, MOST - 3, MOST] {
+    // kinds: after three calls, and before another fault
+    for kind in [8, 9, 255, 256, 260, 263, 65536, 1 << 32, (1 << 32) + 4, 1 << 63, MOST - 3, MOST] {
         e.not_made(t, &[[kind, 0, 0, 0, 0]], 5, 255, 0);
-        e.not_made(t, &[[2, 0, 0, 0, 0], [2, 1, 0, 0, 0], [2, 2, 0, 0, 0], [kind, 0, 0, 0, 0], [9, 0, 0, 0, 0]], 0, 255, 15);
+        e.not_made(t, &[[2, 0, 0, 0, 0], [5, 1, 0, 0, 0], [7, 2, 0, 0, 0], [kind, 0, 0, 0, 0], [9, 0, 0, 0, 0]], 0, 255, 15);
     }
     // columns and rows: 65535 is -1 and 32768 is -32768, outside of the picture
     for (x, number) in [(0, 0), (3, 0), (4, 14), (32767, 14), (32768, 14), (65535, 14)] {
         let column = if x == 4 { 7 } else { x };
         e.made(t, &[[0, column, 0, 1, 0], [0, 0, x, 1, 0], [2, column, 0, 0, 0], [2, 0, x, 0, 0]], &[number; 4]);
-        // a clear has no pixel
-        e.made(t, &[[1, column, x, 4, 0]], &[0]);
+        // these have no pixel
+        e.made(t, &[[1, column, x, 4, 0], [5, column, x, 4, 0], [6, column, x, 4, 0], [7, column, x, 4, 0]], &[0; 4]);
     }
     for x in [65536, 65537, 131_071, 1 << 32, 1 << 63, MOST] {
-        for kind in 0..5 {
+        for kind in 0..8 {
             e.not_made(t, &[[2, 0, 0, 0, 0], [kind, x, 0, 0, 0]], 0, 255, 5);
             e.not_made(t, &[[2, 0, 0, 0, 0], [kind, 0, x, 0, 0]], 0, 255, 5);
         }
@@ -102,7 +100,7 @@ fn numbers(t: &mut Tally, e: &Edges) {
             let whole = vec![2, 0, 0, 0, 0].repeat(calls);
             e.list(t, &[&whole[..], &[3; 4][..left]].concat(), 9, 96, 255, 5 * calls as u64);
         }
-        e.list(t, &[&[2, 0, 0, 0, 0, 5, 0, 0, 0, 0], &[0; 4][..left]].concat(), 9, 96, 255, 5);
+        e.list(t, &[&[2, 0, 0, 0, 0, 8, 0, 0, 0, 0], &[0; 4][..left]].concat(), 9, 96, 255, 5);
     }
 }
 
@@ -123,15 +121,15 @@ fn rooms(t: &mut Tally, e: &Edges) {
     e.not_made(t, &[[3, 3, 2, 0, 5], [3, 3, 2, 0, MOST - 4]], 5, 16, 0);
     e.not_made(t, &[[3, 3, 2, 0, 1 << 63], [3, 3, 2, 0, 1 << 63]], 5, 16, 0);
     // the earlier fault tells: 255 in the first call and 16 in the second, and the other way round
-    e.not_made(t, &[[5, 0, 0, 0, 0], [3, 0, 0, 0, 9]], 5, 255, 0);
-    e.not_made(t, &[[3, 0, 0, 0, 9], [5, 0, 0, 0, 0]], 5, 16, 0);
+    e.not_made(t, &[[8, 0, 0, 0, 0], [3, 0, 0, 0, 9]], 5, 255, 0);
+    e.not_made(t, &[[3, 0, 0, 0, 9], [8, 0, 0, 0, 0]], 5, 16, 0);
     // in one call the numbers before the room
     e.not_made(t, &[[3, 65536, 0, 0, 9]], 5, 255, 0);
     e.not_made(t, &[[3, 0, 65536, 0, MOST]], 5, 255, 0);
     // a room before what is left at the end, that before the replies' length
     e.list(t, &[3, 0, 0, 0, 9, 3], 5, 12, 16, 0);
     e.list(t, &[3, 0, 0, 0, 5, 3], 5, 0, 255, 5);
-    e.list(t, &[3, 0, 0, 0, 5, 5, 0, 0, 0, 0], 5, 0, 255, 5);
+    e.list(t, &[3, 0, 0, 0, 5, 8, 0, 0, 0, 0], 5, 0, 255, 5);
     e.list(t, &[3, 0, 0, 0, 5], 4, 0, 16, 0);
     e.list(t, &[3], 0, 0, 255, 0);
     e.list(t, &[], 0, 0, 0, 0);
@@ -142,7 +140,7 @@ fn shared(t: &mut Tally, e: &Edges) {
     let stores = [[0, 3, 2, 7, 0], [1, 0, 0, 0, 0], [2, 3, 2, 0, 0], [1, 0, 0, MOST, 0]];
     let numbers = [&stores[..], &[[3, 3, 2, 0, 5], [3, 3, 2, 9, 0], [4, 3, 2, 0, 0], [4, 3, 2, 9, 0]]].concat().concat();
     let ask = |t: &mut Tally, book: &Record, lent: Lent, wanted: [u64; 8]| {
-        let case = Case { record: book, r: 1, lent, numbers: &numbers, outs: 5, replies: 96 };
+        let case = Case { record: book, r: 1, lent, numbers: &numbers, outs: 5, replies: 96, content: 0 };
         let (got, left) = case.ask(t);
         t.same(|| format!("{case:?}"), got, told(0, &[]));
         let first: Vec<u64> = left.replies[..96].iter().copied().step_by(12).collect();
@@ -180,7 +178,7 @@ fn shared(t: &mut Tally, e: &Edges) {
         // the finder refuses it whatever the limit, the sides, the list and its room
         let bad: Vec<u64> = vec![9, MOST];
         for (limit, numbers, outs) in [(1024, &numbers, 5), (0, &numbers, 5), (1025, &numbers, 4), (5, &bad, 0)] {
-            let case = Case { record: &book, r: 1, lent: e.lent, numbers, outs, replies: 96 };
+            let case = Case { record: &book, r: 1, lent: e.lent, numbers, outs, replies: 96, content: 0 };
             let got = case.ask_finder(t, limit).0;
             t.same(|| format!("limit {limit}: {case:?}"), got, told(number, &[0]));
         }
@@ -189,7 +187,7 @@ fn shared(t: &mut Tally, e: &Edges) {
     let bad: Vec<u64> = vec![9, MOST];
     for (limit, number) in [(0, 6), (1025, 6), (u32::MAX, 6), (1, 7), (4, 7)] {
         for (numbers, outs) in [(&numbers, 5), (&numbers, 4), (&bad, 5)] {
-            let case = Case { record: &e.book, r: 1, lent: e.lent, numbers, outs, replies: 96 };
+            let case = Case { record: &e.book, r: 1, lent: e.lent, numbers, outs, replies: 96, content: 0 };
             let got = case.ask_finder(t, limit).0;
             t.same(|| format!("limit {limit}: {case:?}"), got, told(number, &[0]));
         }
@@ -197,20 +195,20 @@ fn shared(t: &mut Tally, e: &Edges) {
     for limit in [5, 6, 1023, 1024] {
         for (w, h, words) in [(7, 4, 40), (0, 4, 40), (7, 4, 39), (7, 4, 0)] {
             let lent = Lent { w, h, words, ..e.lent };
-            let case = Case { record: &e.book, r: 1, lent, numbers: &numbers, outs: 5, replies: 96 };
+            let case = Case { record: &e.book, r: 1, lent, numbers: &numbers, outs: 5, replies: 96, content: 0 };
             let got = case.ask_finder(t, limit).0;
             t.same(|| format!("limit {limit}: {case:?}"), got, told(0, &[5, 2, 1]));
         }
     }
 }
 
-// A list with all numbers of its replies, its outputs and its memory written out.
+// A list with all numbers of its replies, its outputs, its memory and its sums written out.
 fn written_out(t: &mut Tally, e: &Edges) {
     let lent = Lent { plan: plan(2, 0, 1), words: 64, ..e.lent };
     let calls = [[0, 3, 2, 8, 0], [2, 3, 2, 0, 0], [3, 3, 2, 1, 3], [3, 3, 2, 0, 5], [2, 65535, 0, 0, 0], [1, 0, 0, 1, 0]];
     let numbers = calls.concat();
     let book = record(&[cross(), vec![(0, 0), (1, 0)]]);
-    let case = Case { record: &book, r: 1, lent, numbers: &numbers, outs: 8, replies: 72 };
+    let case = Case { record: &book, r: 1, lent, numbers: &numbers, outs: 8, replies: 72, content: 0 };
     let (_, left) = case.ask(t);
     let starts: [&[u64]; 6] = [&[0], &[0, 8], &[0, 2], &[10, 0, 0, 0, 2], &[14, 0], &[0]];
     let wanted: Vec<u64> = starts.iter().flat_map(|row| [row, &[0; 12][row.len()..]].concat()).collect();
@@ -218,6 +216,7 @@ fn written_out(t: &mut Tally, e: &Edges) {
     let start = case.start();
     t.same(|| "the outputs".into(), left.outs, [&[8, 0], &start.outs[2..]].concat());
     t.same(|| "the memory".into(), left.memory, start.memory);
+    t.same(|| "the sums".into(), left.sums, [&start.sums[..1], &[0], &start.sums[2..]].concat());
 }
 
 pub fn run() -> Tally {

@@ -1,8 +1,8 @@
 //! Lists of calls in numbers: run_list and find_and_run beside the single calls, and beside the map of what was stored. All
-//! twelve numbers of the answer and of every reply are compared, and every word of the memory and of the outputs. The edges are
-//! in run_edges.rs and ring_edges.rs.
+//! twelve numbers of the answer and of every reply are compared, and every word of the memory, of the sums and of the outputs. The
+//! edges are in run_edges.rs and ring_edges.rs.
 
-use crate::calls::{by_library, Call, Kind};
+use crate::calls::{Call, Kind};
 use crate::library::{self, Record, Told};
 use crate::lists::{self, new_list};
 use crate::memory::Lent;
@@ -23,6 +23,8 @@ pub fn draw(t: &mut Tally, random: &mut Random) -> Drawn {
     let mut list = new_list(t, random, &[1, 1, 1, 1, 2, 3, 4, 5, 6, 7, 8]);
     let mut record = list.record.clone();
     let mut shared = list.legal(Kind::Fetch, random);
+    let few = random.from_to(0, shared.lent.banks() - 1) as usize;
+    shared.lent.entries = if random.from_to(0, 7) == 0 { few } else { list.entries(random) };
     while random.from_to(0, 5) == 0 {
         list.break_one(&mut shared, &mut record, random);
     }
@@ -31,9 +33,6 @@ pub fn draw(t: &mut Tally, random: &mut Random) -> Drawn {
     let mut calls = Vec::new();
     while calls.len() < steps {
         let kind = list.kind(calls.len(), random);
-        if !KINDS.contains(&kind) {
-            continue;
-        }
         let mut c = list.legal(kind, random);
         while random.from_to(0, 3) == 0 {
             list.break_one(&mut c, &mut other, random);
@@ -47,8 +46,8 @@ pub fn draw(t: &mut Tally, random: &mut Random) -> Drawn {
 }
 
 // Some numbers of a list are changed, or some are left out or added at its end.
-fn damage(numbers: &mut Vec<u64>, random: &mut Random) {
-    let edges = [0, 1, 2, 3, 4, 5, 64, 65, 32767, 32768, 65535, 65536, 1 << 32, 1 << 63, u64::MAX];
+pub fn damage(numbers: &mut Vec<u64>, random: &mut Random) {
+    let edges = [0, 1, 2, 3, 4, 5, 6, 7, 8, 64, 65, 32767, 32768, 65535, 65536, 1 << 32, 1 << 63, u64::MAX];
     while random.from_to(0, 2) > 0 {
         match random.from_to(0, 9) {
             0 => numbers.extend(vec![3; random.from_to(1, 6) as usize]),
@@ -63,7 +62,7 @@ fn damage(numbers: &mut Vec<u64>, random: &mut Random) {
 }
 
 // Limits about the count of the plan that there is, and those that are none.
-fn limits(record: &Record, r: u32, random: &mut Random) -> Vec<u32> {
+pub fn limits(record: &Record, r: u32, random: &mut Random) -> Vec<u32> {
     let found = library::find(record, r, 1024);
     let banks = if found.number == 0 { (found.row[0] * found.row[2]) as u32 } else { 1 };
     vec![banks, 1024, random.one_of(&[banks - 1, banks + 1, 0, 1, 1023, 1025, u32::MAX])]
@@ -71,14 +70,14 @@ fn limits(record: &Record, r: u32, random: &mut Random) -> Vec<u32> {
 
 // How often each kind of call gave each number, under the plan given and under the finder's, and what the lists themselves gave.
 struct Gave {
-    calls: [[u64; 21]; 5],
-    found_calls: [[u64; 21]; 5],
+    calls: [[u64; 21]; 8],
+    found_calls: [[u64; 21]; 8],
     lists: [u64; 256],
     found: [u64; 256],
 }
 
 // Counts the numbers that the calls of a list gave.
-fn count_numbers(calls: &[Call], left: &Buffers, gave: &mut [[u64; 21]; 5]) {
+fn count_numbers(calls: &[Call], left: &Buffers, gave: &mut [[u64; 21]; 8]) {
     for (k, c) in calls.iter().enumerate() {
         let kind = KINDS.iter().position(|kind| *kind == c.kind).unwrap();
         gave[kind][left.replies[12 * k] as usize] += 1;
@@ -105,7 +104,7 @@ impl Gave {
 fn random_lists(count: usize) -> Tally {
     let mut t = Tally::new("6,000 random lists at once, by run_list and find_and_run");
     let mut random = Random::new(27);
-    let mut gave = Gave { calls: [[0; 21]; 5], found_calls: [[0; 21]; 5], lists: [0; 256], found: [0; 256] };
+    let mut gave = Gave { calls: [[0; 21]; 8], found_calls: [[0; 21]; 8], lists: [0; 256], found: [0; 256] };
     for _ in 0..count {
         let Drawn { record, r, lent, calls } = draw(&mut t, &mut random);
         let mut numbers: Vec<u64> = calls.iter().flat_map(|c| numbers_of(c, random.next())).collect();
@@ -113,7 +112,7 @@ fn random_lists(count: usize) -> Tally {
         let outs = rooms.sum::<usize>() + random.one_of(&[0, 0, 5]);
         let replies = 12 * calls.len() + random.one_of(&[0, 0, 7]);
         let (record, limits) = (&record, limits(&record, r, &mut random));
-        let case = Case { record, r, lent, numbers: &numbers, outs, replies };
+        let case = Case { record, r, lent, numbers: &numbers, outs, replies, content: 0 };
         let (told, left) = case.ask(&mut t);
         t.same(|| format!("a list of calls, {case:?}"), told.number, 0);
         count_numbers(&calls, &left, &mut gave.calls);
@@ -127,7 +126,7 @@ fn random_lists(count: usize) -> Tally {
         damage(&mut numbers, &mut random);
         let outs = outs - random.one_of(&[0, 0, 0, 1]).min(outs);
         let replies = replies - random.one_of(&[0, 0, 0, 1]).min(replies);
-        let case = Case { record, r, lent, numbers: &numbers, outs, replies };
+        let case = Case { record, r, lent, numbers: &numbers, outs, replies, content: 0 };
         gave.lists[case.ask(&mut t).0.number as usize] += 1;
         gave.found[case.ask_finder(&mut t, limits[0]).0.number as usize] += 1;
     }
@@ -135,15 +134,12 @@ fn random_lists(count: usize) -> Tally {
     t
 }
 
-// A call as a list of one; a sum by itself. 999 where the rest of the reply is not 0.
-pub fn by_list(book: &Record, c: &Call, mem: &mut [u16], out: &mut [u16]) -> Told {
-    if !KINDS.contains(&c.kind) {
-        return by_library(book, c, mem, out);
-    }
+// A call as a list of one. 999 where the rest of the reply is not 0.
+pub fn by_list(book: &Record, c: &Call, mem: &mut [u16], sums: &mut [u64], out: &mut [u16]) -> Told {
     let (Lent { plan, w, h, .. }, mut reply) = (c.lent, [7; 12]);
-    let list = library::run_list(book, c.r, plan, w, h, mem, &numbers_of(c, 12345), out, &mut reply);
+    let list = library::run_list(book, c.r, plan, w, h, mem, sums, &numbers_of(c, 12345), out, &mut reply);
     let values = match reply[0] {
-        0 => usize::from(c.kind == Kind::Load || c.kind.fetches()),
+        0 => usize::from(!matches!(c.kind, Kind::Store | Kind::Clear | Kind::MakeSums)),
         10 => 3 + c.r as usize,
         _ => 1,
     };

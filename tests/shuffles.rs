@@ -169,11 +169,12 @@ fn same_patterns() -> Tally {
 // The words of a fetch ascend where those of the picture do, row by row.
 fn words() -> Tally {
     let mut t = Tally::new("order of pixels: fetched words");
-    let mut memory = vec![0; 1024];
+    let (mut memory, mut sums) = (vec![0; 1024], [0; 1024]);
     let p = plan(32, 0, 32);
     let word = |i: i16, j: i16| (32 * j + i + 1) as u16;
     for (i, j) in (0..32).flat_map(|j| (0..32).map(move |i| (i, j))) {
-        t.same(|| format!("{i} {j}"), library::store(p, 32, 32, &mut memory, (i, j), word(i, j)), told(0, &[]));
+        let stored = library::store(p, 32, 32, &mut memory, &mut sums, (i, j), word(i, j));
+        t.same(|| format!("{i} {j}"), stored, told(0, &[]));
     }
     let mut fetch = |book: &[Pattern], n: usize, wanted: Vec<u16>| {
         let mut out = vec![0; wanted.len()];

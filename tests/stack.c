@@ -28,8 +28,8 @@ static size_t most[CALLS];
 __asm__(
     ".text\n"
     DOOR(read_book) DOOR(pattern_part) DOOR(write_book) DOOR(test_record) DOOR(find) DOOR(check) DOOR(write_cycles)
-    DOOR(normal_form) DOOR(bank) DOOR(depth) DOOR(address) DOOR(locate) DOOR(store) DOOR(load) DOOR(clear) DOOR(sum) DOOR(fetch) DOOR(ring_fetch)
-    DOOR(run_list) DOOR(find_and_run) DOOR(fill_records)
+    DOOR(normal_form) DOOR(bank) DOOR(depth) DOOR(address) DOOR(locate) DOOR(store) DOOR(load) DOOR(clear) DOOR(sum)
+    DOOR(make_sums) DOOR(read_sum) DOOR(fetch) DOOR(ring_fetch) DOOR(run_list) DOOR(find_and_run) DOOR(fill_records)
     "door:\n"
     "    popq door_back(%rip)\n"              // so the stack is as before the call, and arguments stay in their places
     "    movabs $0x6d61726b6d61726b, %rax\n"  // the mark

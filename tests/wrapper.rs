@@ -253,15 +253,17 @@ fn plans(a: &mut Asked) {
 // ---- the calls on a memory, and the text of a refusal
 
 /// By the wrapper's safe function.
-pub fn by_wrapper(book: &Book, c: &Call, mem: &mut [u16], out: &mut [u16]) -> Told {
+pub fn by_wrapper(book: &Book, c: &Call, mem: &mut [u16], sums: &mut [u64], out: &mut [u16]) -> Told {
     let p = Picture { plan: c.lent.plan, width: c.lent.w, height: c.lent.h };
     match c.kind {
-        Kind::Store => told(p.store(mem, c.v, c.x), |()| vec![]),
+        Kind::Store => told(p.store(mem, sums, c.v, c.x), |()| vec![]),
         Kind::Load => told(p.load(mem, c.v), |word| vec![word.into()]),
-        Kind::Clear => told(p.clear(mem, c.k), |()| vec![]),
+        Kind::Clear => told(p.clear(mem, sums, c.k), |()| vec![]),
         Kind::Sum => told(p.sum(mem, c.k), |sum| vec![sum]),
         Kind::Fetch => told(p.fetch(book, c.r, mem, c.n, c.v, out), |words| vec![words as u64]),
         Kind::Ring => told(p.ring_fetch(book, c.r, mem, c.n, c.v, out), |words| vec![words as u64]),
+        Kind::MakeSums => told(p.make_sums(mem, sums), |()| vec![]),
+        Kind::ReadSum => told(p.plan.read_sum(sums, c.k), |sum| vec![sum]),
     }
 }
 
@@ -283,7 +285,9 @@ fn texts(t: &mut Tally) {
     says(row.check(2, (2, 0), (0, 1)).map(|_| ()), &format!("{clash} 0, 2 and 4"));
     says(row.check(8, (1, 0), (0, 1)).map(|_| ()), &format!("{clash} 0, 1, 2, 3, 4, 5, 6, 7 and 8"));
     says(row.find(0, 1024).map(|_| ()), "refused 20: r outside 1 to 8");
-    says(picture.store(&mut [], (0, 0), 1), "refused 13: memory shorter than N × depth");
+    let short = "refused 13: memory shorter than N × depth, or sums shorter than N";
+    says(picture.store(&mut [], &mut [0; 2], (0, 0), 1), short);
+    says(picture.plan.read_sum(&[0], 0).map(|_| ()), short);
     says(picture.fetch(&pair, 1, &[0; 32], 0, (0, 0), &mut []).map(|_| ()), "refused 16: output too short");
     let no_ring = "refused 18: (W, 0) or (0, H) not in the lattice";
     says(picture.ring_fetch(&pair, 1, &[0; 32], 0, (0, 0), &mut [0; 2]).map(|_| ()), no_ring);

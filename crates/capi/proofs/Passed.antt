@@ -6,7 +6,7 @@ use mathlib.Core.Path.{_≡_, refl, sym, _∙_, ap, ap₂, subst}
 use mathlib.Core.Option.{Option, none, some}
 use mathlib.Core.List.{List, _∷_}
 use Rattle.scope.specs.Numbers.{Answer, value, refusal, numberOf, placeOf, clashOf, turnedDown, withPositions}
-use Rattle.scope.specs.Calls.{Result, Lent}
+use Rattle.scope.specs.Calls.{Result}
 use Rattle.scope.specs.Plans.{Pixel}
 use Rattle.scope.specs.declared.Book.{Book}
 use Rattle.scope.specs.declared.Plan.{Plan}
@@ -21,10 +21,11 @@ use Rattle.scope.specs.declared.CheckAnswer.{CheckAnswer}
 use Rattle.scope.specs.declared.FetchAnswer.{FetchAnswer}
 use Rattle.checks.proofs.Chains.{Gives}
 use Rattle.capi.specs.Told.{Tells, numberTold, rowIn, planRow, noRow, putFrom, placedAt, ofListed, ofFoundRun}
-use Rattle.pictures.specs.declared.lists.Listed.{Listed}
 use Rattle.claims.specs.declared.FoundRun.{FoundRun}
 use Rattle.claims.specs.Demanded.{findAndRun, Demanded}
-use Rattle.pictures.specs.Lists.{clashNumbers, Buffers}
+use Rattle.scope.specs.promises.Demand.{Setting}
+use Rattle.pictures.specs.Lists.{clashNumbers, Buffers, runList, SumsDemanded}
+use Rattle.pictures.specs.declared.lists.Listed.{Listed}
 use Rattle.capi.specs.Flat.{ofReading, whenRead}
 
 pub told-of :
@@ -46,14 +47,15 @@ pub told-at :
     → Tells row (of (call o y .answer)) before after n × (content ≡ call o y .content)
 told-at of call {y} {x} {content} e given told = told-given of (subst (λ u. Gives (call u y) x content) e given) told
 
--- The same of a call that writes: of what it leaves, the memory is seen.
-pub told-written :
-    {A B D E : Type 0} {row : A → List ℕ} (of : B → Answer A) (call : D → E → Result B Lent) {u o : D} {y : E} {x : B} {memory : List ℕ}
-    {before after : List ℕ} {n : ℕ} → u ≡ o → (x ≡ call u y .answer) × (memory ≡ call u y .content .memory)
-    → Tells row (of x) before after n
-    → Tells row (of (call o y .answer)) before after n × (memory ≡ call o y .content .memory)
-told-written of call {y} e (answer, same) told =
-    (told-of of (answer ∙ ap (λ u. call u y .answer) e) told, same ∙ ap (λ u. call u y .content .memory) e)
+-- The same of a list of calls, with the claim on its sums.
+pub listed-told :
+    (g : Setting) (numbers : List ℕ) (b : Buffers) {left : Buffers} {x : Listed} {before after : List ℕ} {n : ℕ}
+    → (x ≡ runList g numbers b .answer) × ((left ≡ runList g numbers b .content) × SumsDemanded x g numbers b left)
+    → Tells noRow (ofListed x) before after n
+    → Tells noRow (ofListed (runList g numbers b .answer)) before after n
+    × ((left ≡ runList g numbers b .content) × SumsDemanded (runList g numbers b .answer) g numbers b left)
+listed-told g numbers b {left} (answer, (same, kept)) told =
+    (told-of ofListed answer told, (same, subst (λ (y : Listed). SumsDemanded y g numbers b left) answer kept))
 
 -- What an enum tells: a value, and a refusal.
 pub told-value :

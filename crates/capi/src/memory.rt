@@ -1,4 +1,4 @@
-// The calls on a picture: the memory is a slice of 16-bit words.
+// The calls on a picture: the memory is a slice of 16-bit words, the sums of its banks one of 64-bit numbers.
 use crate::flat::book_of;
 use crate::flat::plan_of;
 use crate::told::tell_counted;
@@ -8,17 +8,19 @@ use crate::told::tell_outcome;
 use pictures::clear;
 use pictures::fetch;
 use pictures::load;
+use pictures::make_sums;
+use pictures::read_sum;
 use pictures::ring_fetch;
 use pictures::store;
 use pictures::sum;
 ghost use mathlib.Core.Path.{_≡_};
 ghost use Rattle.scope.specs.Plans.{at, plan};
 ghost use Rattle.scope.specs.Numbers.{ofCounted, ofFetch, ofLoaded, ofOutcome};
-ghost use Rattle.scope.specs.Calls.{lent, store, load, clear, sum, fetch, ringFetch};
+ghost use Rattle.scope.specs.Calls.{lent, store, load, clear, sum, makeSums, readSum, fetch, ringFetch};
 ghost use Rattle.capi.specs.Told.{Tells, numberRow, noRow};
 ghost use Rattle.capi.specs.Flat.{flatBook};
 
-// Stores x at the pixel (i, j).
+// Stores x at the pixel (i, j) and keeps its bank's sum.
 #[no_mangle]
 pub extern "C" fn bankplan_store(
     a: u32,
@@ -27,15 +29,16 @@ pub extern "C" fn bankplan_store(
     w: u32,
     h: u32,
     mem: &mut [u16],
+    sums: &mut [u64],
     i: i16,
     j: i16,
     x: u16,
     answer: &mut [u64; 12],
 ) -> u64
-    ensures told { λ n. ⌜ Tells noRow (ofOutcome (store (plan a b d) w h (lent (now (mem .entry))) (at i j) x .answer)) (now (answer .entry)) (now (answer .exit)) n ⌝ }
-    ensures mem { λ n. ⌜ now (mem .exit) ≡ store (plan a b d) w h (lent (now (mem .entry))) (at i j) x .content .memory ⌝ }
+    ensures told { λ n. ⌜ Tells noRow (ofOutcome (store (plan a b d) w h (lent (now (mem .entry)) (now (sums .entry))) (at i j) x .answer)) (now (answer .entry)) (now (answer .exit)) n ⌝ }
+    ensures left { λ n. ⌜ lent (now (mem .exit)) (now (sums .exit)) ≡ store (plan a b d) w h (lent (now (mem .entry)) (now (sums .entry))) (at i j) x .content ⌝ }
 {
-    tell_outcome(store(plan_of(a, b, d), w, h, mem, i, j, x), answer)
+    tell_outcome(store(plan_of(a, b, d), w, h, mem, sums, i, j, x), answer)
 }
 
 // The word at the pixel (i, j).
@@ -56,7 +59,7 @@ pub extern "C" fn bankplan_load(
     tell_loaded(load(plan_of(a, b, d), w, h, mem, i, j), answer)
 }
 
-// Clears bank k.
+// Clears bank k and its sum.
 #[no_mangle]
 pub extern "C" fn bankplan_clear(
     a: u32,
@@ -65,13 +68,14 @@ pub extern "C" fn bankplan_clear(
     w: u32,
     h: u32,
     mem: &mut [u16],
+    sums: &mut [u64],
     k: u64,
     answer: &mut [u64; 12],
 ) -> u64
-    ensures told { λ n. ⌜ Tells noRow (ofOutcome (clear (plan a b d) w h (lent (now (mem .entry))) k .answer)) (now (answer .entry)) (now (answer .exit)) n ⌝ }
-    ensures mem { λ n. ⌜ now (mem .exit) ≡ clear (plan a b d) w h (lent (now (mem .entry))) k .content .memory ⌝ }
+    ensures told { λ n. ⌜ Tells noRow (ofOutcome (clear (plan a b d) w h (lent (now (mem .entry)) (now (sums .entry))) k .answer)) (now (answer .entry)) (now (answer .exit)) n ⌝ }
+    ensures left { λ n. ⌜ lent (now (mem .exit)) (now (sums .exit)) ≡ clear (plan a b d) w h (lent (now (mem .entry)) (now (sums .entry))) k .content ⌝ }
 {
-    tell_outcome(clear(plan_of(a, b, d), w, h, mem, k), answer)
+    tell_outcome(clear(plan_of(a, b, d), w, h, mem, sums, k), answer)
 }
 
 // The sum of bank k's words.
@@ -89,6 +93,39 @@ pub extern "C" fn bankplan_sum(
     ensures { λ n. ⌜ Tells numberRow (ofCounted (sum (plan a b d) w h (now (mem .entry)) k)) (now (answer .entry)) (now (answer .exit)) n ⌝ }
 {
     tell_counted(sum(plan_of(a, b, d), w, h, mem, k), answer)
+}
+
+// Makes the sums of all banks afresh from the memory.
+#[no_mangle]
+pub extern "C" fn bankplan_make_sums(
+    a: u32,
+    b: u32,
+    d: u32,
+    w: u32,
+    h: u32,
+    mem: &[u16],
+    sums: &mut [u64],
+    answer: &mut [u64; 12],
+) -> u64
+    ensures told { λ n. ⌜ Tells noRow (ofOutcome (makeSums (plan a b d) w h (lent (now (mem .entry)) (now (sums .entry))) .answer)) (now (answer .entry)) (now (answer .exit)) n ⌝ }
+    ensures left { λ n. ⌜ lent (now (mem .entry)) (now (sums .exit)) ≡ makeSums (plan a b d) w h (lent (now (mem .entry)) (now (sums .entry))) .content ⌝ }
+{
+    tell_outcome(make_sums(plan_of(a, b, d), w, h, mem, sums), answer)
+}
+
+// The sum that is kept of bank k.
+#[no_mangle]
+pub extern "C" fn bankplan_read_sum(
+    a: u32,
+    b: u32,
+    d: u32,
+    sums: &[u64],
+    k: u64,
+    answer: &mut [u64; 12],
+) -> u64
+    ensures { λ n. ⌜ Tells numberRow (ofCounted (readSum (plan a b d) (now (sums .entry)) k)) (now (answer .entry)) (now (answer .exit)) n ⌝ }
+{
+    tell_counted(read_sum(plan_of(a, b, d), sums, k), answer)
 }
 
 // Fetches pattern n of a record given as flat arrays, moved to (i, j), and tells how many words.

@@ -7,7 +7,7 @@ use claims::find_and_run;
 use pictures::run_list;
 ghost use mathlib.Core.Path.{_≡_};
 ghost use Rattle.scope.specs.Plans.{plan};
-ghost use Rattle.pictures.specs.Lists.{setting, buffers, runList};
+ghost use Rattle.pictures.specs.Lists.{setting, buffers, runList, SumsDemanded};
 ghost use Rattle.claims.specs.Demanded.{findAndRun, Demanded};
 ghost use Rattle.capi.specs.Told.{Tells, noRow, planRow, ofListed, ofFoundRun};
 ghost use Rattle.capi.specs.Flat.{flatBook};
@@ -26,16 +26,29 @@ pub extern "C" fn bankplan_run_list(
     w: u32,
     h: u32,
     mem: &mut [u16],
+    sums: &mut [u64],
     numbers: &[u64],
     outs: &mut [u16],
     replies: &mut [u64],
     answer: &mut [u64; 12],
 ) -> u64
-    ensures told { λ n. ⌜ Tells noRow (ofListed (runList (setting (flatBook (now (columns .entry)) (now (rows .entry)) (now (used .entry)) count) r (plan a b d) w h) (now (numbers .entry)) (buffers (now (mem .entry)) (now (outs .entry)) (now (replies .entry))) .answer)) (now (answer .entry)) (now (answer .exit)) n ⌝ }
-    ensures left { λ n. ⌜ buffers (now (mem .exit)) (now (outs .exit)) (now (replies .exit)) ≡ runList (setting (flatBook (now (columns .entry)) (now (rows .entry)) (now (used .entry)) count) r (plan a b d) w h) (now (numbers .entry)) (buffers (now (mem .entry)) (now (outs .entry)) (now (replies .entry))) .content ⌝ }
+    ensures told { λ n. ⌜ Tells noRow (ofListed (runList (setting (flatBook (now (columns .entry)) (now (rows .entry)) (now (used .entry)) count) r (plan a b d) w h) (now (numbers .entry)) (buffers (now (mem .entry)) (now (sums .entry)) (now (outs .entry)) (now (replies .entry))) .answer)) (now (answer .entry)) (now (answer .exit)) n ⌝ }
+    ensures left { λ n. ⌜ buffers (now (mem .exit)) (now (sums .exit)) (now (outs .exit)) (now (replies .exit)) ≡ runList (setting (flatBook (now (columns .entry)) (now (rows .entry)) (now (used .entry)) count) r (plan a b d) w h) (now (numbers .entry)) (buffers (now (mem .entry)) (now (sums .entry)) (now (outs .entry)) (now (replies .entry))) .content ⌝ }
+    ensures kept { λ n. ⌜ SumsDemanded (runList (setting (flatBook (now (columns .entry)) (now (rows .entry)) (now (used .entry)) count) r (plan a b d) w h) (now (numbers .entry)) (buffers (now (mem .entry)) (now (sums .entry)) (now (outs .entry)) (now (replies .entry))) .answer) (setting (flatBook (now (columns .entry)) (now (rows .entry)) (now (used .entry)) count) r (plan a b d) w h) (now (numbers .entry)) (buffers (now (mem .entry)) (now (sums .entry)) (now (outs .entry)) (now (replies .entry))) (buffers (now (mem .exit)) (now (sums .exit)) (now (outs .exit)) (now (replies .exit))) ⌝ }
 {
     let book = book_of(columns, rows, used, count);
-    let listed = run_list(book, r, plan_of(a, b, d), w, h, mem, numbers, outs, replies);
+    let listed = run_list(
+        book,
+        r,
+        plan_of(a, b, d),
+        w,
+        h,
+        mem,
+        sums,
+        numbers,
+        outs,
+        replies,
+    );
     tell_listed(listed, answer)
 }
 
@@ -51,16 +64,17 @@ pub extern "C" fn bankplan_find_and_run(
     w: u32,
     h: u32,
     mem: &mut [u16],
+    sums: &mut [u64],
     numbers: &[u64],
     outs: &mut [u16],
     replies: &mut [u64],
     answer: &mut [u64; 12],
 ) -> u64
-    ensures told { λ n. ⌜ Tells planRow (ofFoundRun (findAndRun (flatBook (now (columns .entry)) (now (rows .entry)) (now (used .entry)) count) r limit w h (now (numbers .entry)) (buffers (now (mem .entry)) (now (outs .entry)) (now (replies .entry))) .answer)) (now (answer .entry)) (now (answer .exit)) n ⌝ }
-    ensures left { λ n. ⌜ buffers (now (mem .exit)) (now (outs .exit)) (now (replies .exit)) ≡ findAndRun (flatBook (now (columns .entry)) (now (rows .entry)) (now (used .entry)) count) r limit w h (now (numbers .entry)) (buffers (now (mem .entry)) (now (outs .entry)) (now (replies .entry))) .content ⌝ }
-    ensures demand { λ n. ⌜ Demanded (findAndRun (flatBook (now (columns .entry)) (now (rows .entry)) (now (used .entry)) count) r limit w h (now (numbers .entry)) (buffers (now (mem .entry)) (now (outs .entry)) (now (replies .entry))) .answer) (flatBook (now (columns .entry)) (now (rows .entry)) (now (used .entry)) count) r w h (now (numbers .entry)) (buffers (now (mem .entry)) (now (outs .entry)) (now (replies .entry))) (buffers (now (mem .exit)) (now (outs .exit)) (now (replies .exit))) ⌝ }
+    ensures told { λ n. ⌜ Tells planRow (ofFoundRun (findAndRun (flatBook (now (columns .entry)) (now (rows .entry)) (now (used .entry)) count) r limit w h (now (numbers .entry)) (buffers (now (mem .entry)) (now (sums .entry)) (now (outs .entry)) (now (replies .entry))) .answer)) (now (answer .entry)) (now (answer .exit)) n ⌝ }
+    ensures left { λ n. ⌜ buffers (now (mem .exit)) (now (sums .exit)) (now (outs .exit)) (now (replies .exit)) ≡ findAndRun (flatBook (now (columns .entry)) (now (rows .entry)) (now (used .entry)) count) r limit w h (now (numbers .entry)) (buffers (now (mem .entry)) (now (sums .entry)) (now (outs .entry)) (now (replies .entry))) .content ⌝ }
+    ensures demand { λ n. ⌜ Demanded (findAndRun (flatBook (now (columns .entry)) (now (rows .entry)) (now (used .entry)) count) r limit w h (now (numbers .entry)) (buffers (now (mem .entry)) (now (sums .entry)) (now (outs .entry)) (now (replies .entry))) .answer) (flatBook (now (columns .entry)) (now (rows .entry)) (now (used .entry)) count) r w h (now (numbers .entry)) (buffers (now (mem .entry)) (now (sums .entry)) (now (outs .entry)) (now (replies .entry))) (buffers (now (mem .exit)) (now (sums .exit)) (now (outs .exit)) (now (replies .exit))) ⌝ }
 {
     let book = book_of(columns, rows, used, count);
-    let found = find_and_run(book, r, limit, w, h, mem, numbers, outs, replies);
+    let found = find_and_run(book, r, limit, w, h, mem, sums, numbers, outs, replies);
     tell_found(found, answer)
 }

@@ -8,8 +8,8 @@ use mathlib.Core.List.{List, [], _∷_, _++_, List·Memᴰ, List·Memᴰ·head, 
 use Rattle.scope.specs.Search.{firstOf}
 use Rattle.scope.specs.Numbers.{Answer, value, refusal, numberOf, placeOf, clashOf, turnedDown}
 use Rattle.scope.specs.Plans.{patternAt}
-use Rattle.scope.specs.Numbers.{recordTest, cyclesTest, planTest, sidesTest, memoryTest, numberTest, suitsTest}
-use Rattle.scope.specs.Calls.{Result, answered, changed, bookTest, pictureTest, fetchFirst, fetchStart, cyclesFirst}
+use Rattle.scope.specs.Numbers.{recordTest, cyclesTest, planTest, sidesTest, memoryTest, sumsTest, numberTest, suitsTest}
+use Rattle.scope.specs.Calls.{Result, answered, changed, bookTest, pictureTest, lentTest, fetchFirst, fetchStart, cyclesFirst}
 use Rattle.scope.specs.promises.Meaning.{ChainIsFirst}
 use Rattle.scope.specs.declared.Book.{Book}
 use Rattle.scope.specs.Cycles.{LongClash}
@@ -206,6 +206,13 @@ module _ (p : Plan) (W H words : ℕ) where
   pub picture-one-by-one : (ts : List (Option Refusal)) → firstOf (pictureTest p W H words ∷ ts) ≡ firstOf (pictureTests ts)
   unfolding pictureTest
   picture-one-by-one ts = sym (tests-as-one [] (planTest p ∷ sidesTest W H ∷ memoryTest p W H words ∷ []) ts)
+
+  pub lent-one-by-one :
+      (entries : ℕ) (ts : List (Option Refusal))
+      → firstOf (lentTest p W H (record { words = words; entries = entries }) ∷ ts) ≡ firstOf (pictureTests (sumsTest p entries ∷ ts))
+  unfolding lentTest
+  lent-one-by-one entries ts =
+      sym (tests-as-one [] (pictureTest p W H words ∷ sumsTest p entries ∷ []) ts) ∙ picture-one-by-one (sumsTest p entries ∷ ts)
 
   module _ (book : Book) (r n : ℕ) where
     abbrev pub numberAnd10 : List (Option Refusal) → List (Option Refusal)

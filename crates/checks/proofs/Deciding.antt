@@ -11,8 +11,8 @@ use Rattle.scope.specs.Search.{whenever, firstOf, every}
 use Rattle.scope.specs.Plans.{Pixel, banks, isPlan, determinantSize}
 use Rattle.scope.specs.Banks.{inside, depthOf}
 use Rattle.scope.specs.Numbers.{Answer, turnedDown, limitTest, cyclesTest, dependentTest, largeTest, planTest, isSide, sidesTest}
-use Rattle.scope.specs.Numbers.{memoryTest, outsideTest, bankTest, outputTest, numberTest, isRing, ringTest}
-use Rattle.scope.specs.Calls.{answered, changed, bookTest, pictureTest, fetchStart, cyclesFirst}
+use Rattle.scope.specs.Numbers.{memoryTest, sumsTest, outsideTest, bankTest, outputTest, numberTest, isRing, ringTest}
+use Rattle.scope.specs.Calls.{answered, changed, bookTest, pictureTest, lentTest, fetchStart, cyclesFirst}
 use Rattle.scope.specs.promises.Meaning.{IsPlan, IsSide, AllInside, IsCycles, Independent, RingAllowed}
 use Rattle.scope.specs.declared.Plan.{Plan}
 use Rattle.scope.specs.declared.Book.{Book}
@@ -21,8 +21,8 @@ use Rattle.scope.specs.declared.Refusal.the-variants.{Limit, Dependent, Large, 
 use Rattle.scope.specs.declared.Refusal.the-variants.{Outside, Cell, Output, NoPattern, Ring, Cycles}
 use Rattle.checks.proofs.Searches.{whenever-some, whenever-not-none}
 use Rattle.checks.proofs.Chains.{chain-refuses, chain-goes-on, answered-some, changed-answer}
-use Rattle.checks.proofs.Chains.{bookTests, book-one-by-one, pictureTests, picture-one-by-one, fetchTests, fetch-one-by-one, cycles-one-by-one}
-use Rattle.checks.proofs.Tests.{limit-legal-iff, cycles-legal-iff, independent-iff, size-within-iff, plan-legal-iff, sides-legal-iff, memory-enough-iff}
+use Rattle.checks.proofs.Chains.{bookTests, book-one-by-one, pictureTests, picture-one-by-one, lent-one-by-one, fetchTests, fetch-one-by-one, cycles-one-by-one}
+use Rattle.checks.proofs.Tests.{limit-legal-iff, cycles-legal-iff, independent-iff, size-within-iff, plan-legal-iff, sides-legal-iff, memory-enough-iff, sums-enough-iff}
 use Rattle.checks.proofs.Tests.{all-inside-iff, bank-below-iff, output-enough-iff, number-in-book-iff, ring-allowed-iff}
 
 -- The test t finds nothing exactly where P holds, r where it does not, and never another refusal.
@@ -68,6 +68,10 @@ sides-decide W H = whenever-decides (not (isSide W && isSide H)) Sides (sides-le
 pub memory-decides : (p : Plan) (W H words : ℕ) → Decides (memoryTest p W H words) Memory (banks p * depthOf p W H ≤ words)
 unfolding memoryTest
 memory-decides p W H words = whenever-decides (ltb words (banks p * depthOf p W H)) Memory (memory-enough-iff p W H words)
+
+pub sums-decide : (p : Plan) (entries : ℕ) → Decides (sumsTest p entries) Memory (banks p ≤ entries)
+unfolding sumsTest
+sums-decide p entries = whenever-decides (ltb entries (banks p)) Memory (sums-enough-iff p entries)
 
 pub inside-decides : (W H : ℕ) (vs : List Pixel) → Decides (outsideTest W H vs) Outside (AllInside W H vs)
 unfolding outsideTest
@@ -119,6 +123,11 @@ module _ {A : Type 0} {ts : List (Option Refusal)} {answer : Answer A} where
 module _ {A : Type 0} {ts : List (Option Refusal)} {answer : Answer A} (p : Plan) (W H words : ℕ) where
   pub picture-follows : Follows (pictureTest p W H words ∷ ts) answer → Follows (pictureTests p W H words ts) answer
   picture-follows chain = record { refused = λ r e. chain .refused r (picture-one-by-one p W H words ts ∙ e) }
+
+  pub lent-follows :
+      (entries : ℕ) → Follows (lentTest p W H (record { words = words; entries = entries }) ∷ ts) answer
+      → Follows (pictureTests p W H words (sumsTest p entries ∷ ts)) answer
+  lent-follows entries chain = record { refused = λ r e. chain .refused r (lent-one-by-one p W H words entries ts ∙ e) }
 
   pub fetch-follows :
       (book : Book) (r n : ℕ) → Follows (fetchStart book r p W H words n ∷ ts) answer → Follows (fetchTests p W H words book r n ts) answer

@@ -14,8 +14,8 @@ use Rattle.scope.specs.Banks.{bankOf, addressOf, depthOf, wordIn, overStart}
 use Rattle.scope.specs.Books.{bookBytes}
 use Rattle.scope.specs.Numbers.{value, refusal, ofPlanned, ofCounted, ofFetch, ofOutcome, recordTest, planTest, sidesTest, outsideTest}
 use Rattle.scope.specs.Numbers.{outputTest}
-use Rattle.scope.specs.Calls.{changed, recordOutcome, writeBook, normal, bank, depth, address, wordTest, store, wholeBankTest, clear}
-use Rattle.scope.specs.Calls.{lent, moved, pixelsRead, besideClash, fetchFirst, fetchTest, fetchRest, eitherFetch, fetch, ringFetch, cyclesFirst, writeCyclesTest, writeCycles, recordPixel, placed, fillRecords}
+use Rattle.scope.specs.Calls.{changed, recordOutcome, writeBook, normal, bank, depth, address, store, clear}
+use Rattle.scope.specs.Calls.{sizeOf, lentTest, storeTest, clearTest, makeSums, moved, pixelsRead, besideClash, fetchFirst, fetchTest, fetchRest, eitherFetch, fetch, ringFetch, cyclesFirst, writeCyclesTest, writeCycles, recordPixel, placed, fillRecords}
 use Rattle.scope.specs.promises.Meaning.{IsPlan, IsSide, Inside, AllInside, IsBook, Independent, LegalCallsAnswer}
 use Rattle.scope.specs.promises.PicturePromises.{RefusalsChangeNothing}
 use Rattle.scope.specs.declared.Plan.{Plan}
@@ -139,7 +139,7 @@ either-unchanged ring book r p W H mem m o out =
 
 -- On a refusal, buffers and lists stay unchanged.
 pub refusals-change-nothing : RefusalsChangeNothing
-unfolding writeBook store clear fetch ringFetch writeCycles fillRecords
+unfolding writeBook store clear makeSums fetch ringFetch writeCycles fillRecords
 refusals-change-nothing =
     record {
       writes =
@@ -147,8 +147,9 @@ refusals-change-nothing =
           counted-unchanged (firstOf (recordTest book ∷ outputTest (length (bookBytes book)) (length out) ∷ [])) out
           (length (bookBytes book))
           (overStart (bookBytes book) out);
-      stores = λ p W H mem v x. done-unchanged (wordTest p W H (length mem) v) (lent mem) _;
-      clears = λ p W H mem k. done-unchanged (wholeBankTest p W H (length mem) k) (lent mem) _;
+      stores = λ p W H l v x. done-unchanged (storeTest p W H (sizeOf l) v) l _;
+      clears = λ p W H l k. done-unchanged (clearTest p W H (sizeOf l) k) l _;
+      makes-sums = λ p W H l. done-unchanged (lentTest p W H (sizeOf l)) l _;
       fetches = either-unchanged false;
       ring-fetches = either-unchanged true;
       writes-cycles =

@@ -15,7 +15,7 @@ use Rattle.integers.proofs.Comparisons.{leb-iff, leb-false-iff, ltb-false-iff, 
 use Rattle.scope.specs.Search.{every}
 use Rattle.scope.specs.Plans.{Pixel, banks, isPlan, determinant, determinantSize}
 use Rattle.scope.specs.Banks.{inside, depthOf, pixelOf}
-use Rattle.scope.specs.Numbers.{limitTest, cyclesTest, dependentTest, largeTest, planTest, isSide, sidesTest, memoryTest, outsideTest}
+use Rattle.scope.specs.Numbers.{limitTest, cyclesTest, dependentTest, largeTest, planTest, isSide, sidesTest, memoryTest, sumsTest, outsideTest}
 use Rattle.scope.specs.Numbers.{bankTest, cellTest, outputTest, numberTest, isRing, ringTest}
 use Rattle.scope.specs.promises.Meaning.{IsPlan, IsSide, Inside, AllInside, IsCycles, Independent, RingAllowed}
 use Rattle.scope.specs.declared.Plan.{Plan}
@@ -62,6 +62,11 @@ pub memory-enough-iff : (p : Plan) (W H words : ℕ) → (memoryTest p W H words
 unfolding memoryTest
 memory-enough-iff p W H words =
     refuses-iff (ltb words (banks p * depthOf p W H)) Memory (ltb-false-iff words (banks p * depthOf p W H))
+
+-- 13 too: the sums have N entries
+pub sums-enough-iff : (p : Plan) (entries : ℕ) → (sumsTest p entries ≡ none) ↔ (banks p ≤ entries)
+unfolding sumsTest
+sums-enough-iff p entries = refuses-iff (ltb entries (banks p)) Memory (ltb-false-iff entries (banks p))
 
 -- 14: every pixel is inside the picture
 pub all-inside-iff : (W H : ℕ) (vs : List Pixel) → (outsideTest W H vs ≡ none) ↔ AllInside W H vs

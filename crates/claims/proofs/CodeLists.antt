@@ -3,13 +3,12 @@
 use Prim.Native.Nat.{ℕ}
 use native.Mathlib.Omega.{arith}
 use mathlib.Core.Path.{_≡_, refl, sym, _∙_, ap, ap₂, subst}
-use mathlib.Core.Option.{Option}
 use mathlib.Core.List.{List, [], _∷_, _++_, flatMap, append-assoc}
-use lib.ListN.{length, getD, drop}
+use lib.ListN.{getD, drop}
 use Rattle.scope.specs.Search.{stateAfter, repliesOf}
 use Rattle.scope.specs.Banks.{wordIn, overStart}
 use Rattle.scope.specs.Numbers.{value, ofPlanned}
-use Rattle.scope.specs.Calls.{Result, find}
+use Rattle.scope.specs.Calls.{Result, Lent, sizeOf, find}
 use Rattle.scope.specs.promises.Demand.{Call, Reply, Setting, after, run, replies, pictureWords, ListHolds}
 use Rattle.scope.specs.declared.Book.{Book}
 use Rattle.scope.specs.declared.Plan.{Plan}
@@ -17,50 +16,45 @@ use Rattle.scope.specs.declared.Planned.{Planned}
 use Rattle.scope.specs.declared.Refusal.{Refusal}
 use Rattle.checks.proofs.CallLists.{state-after-append}
 use Rattle.checks.proofs.Chains.{Gives}
-use Rattle.pictures.specs.Lists.{setting, callsOf, outputOf, replyNumbers, Buffers, leftBy, madeList, runList}
+use Rattle.pictures.specs.Lists.{setting, callsOf, outputOf, replyNumbers, Buffers, madeList, runList}
 use Rattle.pictures.specs.declared.lists.Listed.{Listed}
 use Rattle.pictures.proofs.DemandHolds.{demand-3}
-use Rattle.pictures.proofs.ListFaults.{made-passes}
+use Rattle.pictures.proofs.ListSums.{made-left}
 use Rattle.claims.specs.Demanded.{ranFor, findAndRun, repliesDue, DemandMet, Demanded}
 use Rattle.claims.specs.DemandedExample.{DemandFollows}
 use Rattle.claims.specs.declared.FoundRun.{FoundRun}
 
 -- Each reply is the one that is due.
 replies-are-due :
-    (g : Setting) (mem : List ℕ) (calls past rest : List Call) → ListHolds g mem calls → calls ≡ past ++ rest
-    → replies g (run g mem past) rest ≡ repliesDue g (length mem) past rest
+    (g : Setting) (l : Lent) (calls past rest : List Call) → ListHolds g l calls → calls ≡ past ++ rest
+    → replies g (run g l past) rest ≡ repliesDue g l past rest
 unfolding run replies repliesOf repliesDue
-replies-are-due g mem calls past [] h e = refl
-replies-are-due g mem calls past (c ∷ rest) h e =
+replies-are-due g l calls past [] h e = refl
+replies-are-due g l calls past (c ∷ rest) h e =
     ap₂ (λ (r : Reply) (rs : List Reply). r ∷ rs) (h .each past c rest e .agrees)
-    (ap (λ (m : List ℕ). replies g m rest) (sym (state-after-append (after g) mem past (c ∷ [])))
-    ∙ replies-are-due g mem calls (past ++ (c ∷ [])) rest h (e ∙ sym (append-assoc past (c ∷ []) rest)))
+    (ap (λ (m : Lent). replies g m rest) (sym (state-after-append (after g) l past (c ∷ [])))
+    ∙ replies-are-due g l calls (past ++ (c ∷ [])) rest h (e ∙ sym (append-assoc past (c ∷ []) rest)))
 
 -- A list that was made, and of which demand 3 holds over the definitions.
 demand-met :
     (g : Setting) (numbers : List ℕ) (b left : Buffers) → left ≡ madeList g numbers b
-    → ListHolds g (b .memory) (callsOf numbers (b .outputs))
+    → ListHolds g (b .picture) (callsOf numbers (b .outputs))
     → DemandMet g (callsOf numbers (b .outputs)) b left
 unfolding madeList run stateAfter
 demand-met g numbers b left is h =
     let calls : List Call = callsOf numbers (b .outputs) in
-    let due : replies g (b .memory) calls ≡ repliesDue g (length (b .memory)) [] calls = replies-are-due g (b .memory) calls [] calls h refl in
-    let memory : left .memory ≡ run g (b .memory) calls = ap (λ (x : Buffers). x .memory) is in
+    let due : replies g (b .picture) calls ≡ repliesDue g (b .picture) [] calls = replies-are-due g (b .picture) calls [] calls h refl in
+    let picture : left .picture ≡ run g (b .picture) calls = ap (λ (x : Buffers). x .picture) is in
+    let memory : left .picture .memory ≡ run g (b .picture) calls .memory = ap (λ (l : Lent). l .memory) picture in
     record {
       outputs = ap (λ (x : Buffers). x .outputs) is ∙ ap (λ (rs : List Reply). overStart (flatMap outputOf rs) (b .outputs)) due;
       answers = ap (λ (x : Buffers). x .rows) is ∙ ap (λ (rs : List Reply). overStart (flatMap replyNumbers rs) (b .rows)) due;
       words = λ v inside. ap (λ (m : List ℕ). wordIn (g .plan) (g .W) (g .H) m v) memory ∙ h .words v inside;
       others = λ i below none-there. ap (λ (m : List ℕ). getD m i 0) memory ∙ h .others i below none-there;
       rest = ap (drop (pictureWords g)) memory ∙ h .rest;
-      as-long = ap length memory ∙ h .as-long;
+      as-long = ap sizeOf picture ∙ h .as-long;
       holds = h;
     }
-
--- a list whose answer is that it was made
-made-left : (g : Setting) (numbers : List ℕ) (b : Buffers) → Listed.Made ≡ runList g numbers b .answer → runList g numbers b .content ≡ madeList g numbers b
-unfolding runList leftBy
-made-left g numbers b made =
-    ap (λ (t : Option Listed). leftBy t b (madeList g numbers b)) (made-passes numbers (length (b .outputs)) (length (b .rows)) made .test)
 
 -- an answer says which plan, and what came of the list
 same-plan : {p q : Plan} {l m : Listed} → FoundRun.Ran p l ≡ FoundRun.Ran q m → p ≡ q
@@ -99,7 +93,7 @@ module _ (book : Book) (r limit W H : ℕ) (numbers : List ℕ) (b : Buffers) {p
           (content
           ∙ made-left (setting book r p W H) numbers b (sym (same-listed ran) ∙ answer)
           ∙ ap (λ (p : Plan). madeList (setting book r p W H) numbers b) same)
-          (demand-3 (setting book r q W H) limit (b .memory) (callsOf numbers (b .outputs)) plan enough zeros),
+          (demand-3 (setting book r q W H) limit (b .picture) (callsOf numbers (b .outputs)) plan enough zeros),
     ),
   )
 

@@ -7,6 +7,8 @@ use Rattle.scope.specs.values.DemandCyclesExample as Cycles
 use Rattle.pictures.specs.Lists.{Buffers}
 use Rattle.pictures.proofs.DemandHolds.{demand-3}
 use Rattle.claims.specs.Demanded.{findAndRun}
+use Rattle.scope.specs.values.SumEdges as Sums
+use Rattle.pictures.proofs.KeptSums.{sums-kept}
 use Rattle.claims.specs.DemandedExample as Found
 use Rattle.claims.proofs.CodeLists.{demand-follows}
 
@@ -15,6 +17,9 @@ example-holds = read-off demand-3
 
 pub cycles-example-holds : Cycles.ReadOffInCycles
 cycles-example-holds = Cycles.read-off demand-3
+
+pub sums-example-holds : Sums.SumsReadOff
+sums-example-holds = Sums.read-off sums-kept
 
 pub found-run-example-holds :
     (left : Buffers) → left ≡ findAndRun (Found.small .book) 1 1024 3 1 Found.six Found.start .content → Found.ReadOff left

@@ -42,6 +42,7 @@ use Rattle.pictures.proofs.Pictures.{picture-calls}
 use Rattle.claims.proofs.CallRefusals.{calls-refuse}
 use Rattle.pictures.proofs.LastStored.{last-stored-means}
 use Rattle.pictures.proofs.DemandHolds.{demand-3}
+use Rattle.pictures.proofs.KeptSums.{sums-kept}
 
 -- Each promise, and the law that keeps it.
 pub promises-kept : Promises
@@ -101,4 +102,5 @@ promises-kept =
       program-writes = program-writes;
       last-stored-means = last-stored-means;
       demand-3 = demand-3;
+      sums-kept = sums-kept;
     }

@@ -7,17 +7,17 @@ use mathlib.Core.Option.{Option, none}
 use mathlib.Core.List.{List, [], _∷_, List·Memᴰ·head}
 use lib.IntN.{natAbs}
 use Rattle.scope.specs.Plans.{Pixel, determinantSize}
-use Rattle.scope.specs.Numbers.{Answer, refusal, recordTest, dependentTest, largeTest, planTest, sidesTest, outsideTest, bankTest, outputTest}
-use Rattle.scope.specs.Calls.{pictureTest}
-use Rattle.scope.specs.promises.Meaning.{IsPlan, IsSide, Inside, AllInside, IsPicture, IsBook, IsCycles, Independent}
-use Rattle.scope.specs.promises.RefusalPromises.{PlanRefused, PictureRefused, WordRefused, BankRefused, BookRefused}
+use Rattle.scope.specs.Numbers.{Answer, refusal, recordTest, dependentTest, largeTest, planTest, sidesTest, sumsTest, outsideTest, bankTest, outputTest}
+use Rattle.scope.specs.Calls.{Size, pictureTest}
+use Rattle.scope.specs.promises.Meaning.{IsPlan, IsSide, Inside, AllInside, IsPicture, IsLent, IsBook, IsCycles, Independent}
+use Rattle.scope.specs.promises.RefusalPromises.{PlanRefused, PictureRefused, LentRefused, WordRefused, BankRefused, BookRefused}
 use Rattle.scope.specs.declared.Plan.{Plan}
 use Rattle.scope.specs.declared.Book.{Book}
 use Rattle.scope.specs.declared.Refusal.{Refusal}
 use Rattle.checks.proofs.Chains.{bookTests, pictureTests}
 use Rattle.checks.proofs.BookTests.{book-legal-iff}
 use Rattle.checks.proofs.Deciding.{Follows, picture-follows, refused-by-first, after-none, refused-unless, after}
-use Rattle.checks.proofs.Deciding.{cycles-decide, independent-decides, size-decides, plan-decides, sides-decide, memory-decides}
+use Rattle.checks.proofs.Deciding.{cycles-decide, independent-decides, size-decides, plan-decides, sides-decide, memory-decides, sums-decide}
 use Rattle.checks.proofs.Deciding.{inside-decides, bank-decides, output-decides}
 
 -- vectors with a determinant above 1024 are independent
@@ -83,7 +83,22 @@ module _
     after-picture here =
         after (after-sides chain (here .plan) (here .W-side) (here .H-side)) (memory-decides p W H words) (here .memory)
 
--- The chains of store and load, of clear and sum,
+-- and those of the sums
+module _
+    {A : Type 0} {p : Plan} {W H : ℕ} {s : Size} {ts : List (Option Refusal)} {r : Answer A}
+    (chain : Follows (pictureTests p W H (s .words) (sumsTest p (s .entries) ∷ ts)) r)
+  where
+    pub lent-refused : LentRefused p W H s r
+    lent-refused =
+        record {
+          first = picture-refused chain;
+          sums-13 = λ here few. refused-unless (after-picture chain here) (sums-decide p (s .entries)) (λ enough. omega arith);
+        }
+
+    pub after-lent : IsLent p W H s → Follows ts r
+    after-lent here = after (after-picture chain (here .picture)) (sums-decide p (s .entries)) (here .sums)
+
+-- The chains of load and of sum,
 module _ {A : Type 0} {p : Plan} {W H words : ℕ} {r : Answer A} where
   pub word-refused :
       {v : Pixel} → Follows (pictureTest p W H words ∷ outsideTest W H (v ∷ []) ∷ []) r → WordRefused p W H words v r

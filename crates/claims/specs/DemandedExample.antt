@@ -9,10 +9,11 @@ use mathlib.Core.Bool.{false}
 use mathlib.Core.List.{List, [], _∷_, _++_, flatMap}
 use native.Mathlib.Omega.{arith}
 use lib.IntN.{pos}
-use lib.ListN.{length, getD, drop, replicate}
+use lib.ListN.{getD, drop, replicate}
 use Rattle.scope.specs.Plans.{Pixel, at, plan}
 use Rattle.scope.specs.Banks.{bankOf, wordOf, wordIn, overStart}
 use Rattle.scope.specs.Books.{bookOf}
+use Rattle.scope.specs.Calls.{sizeOf}
 use Rattle.scope.specs.promises.Meaning.{Inside}
 use Rattle.scope.specs.promises.Demand.{Call, read, fetch, Setting, test, lastStored, banksRead, cyclesRead, pictureWords, CallHolds}
 use Rattle.scope.specs.declared.Book.{Book}
@@ -46,13 +47,13 @@ unfoldable pub both : Call
 unfolding at
 both = read (fetch false 0 (at (pos 1) (pos 0)) (5 ∷ 5 ∷ 5 ∷ []))
 
--- the four words of the picture and one more, the fetch's room and one word more, and the replies and one number more
+-- the four words of the picture and one more, the sums of the banks, which are some numbers, and one more, the fetch's room and one word more, and the replies and one number more
 abbrev pub start : Buffers
-start = buffers (0 ∷ 0 ∷ 0 ∷ 0 ∷ 7 ∷ []) (5 ∷ 5 ∷ 5 ∷ 6 ∷ []) (replicate 72 1 ++ (4 ∷ []))
+start = buffers (0 ∷ 0 ∷ 0 ∷ 0 ∷ 7 ∷ []) (3 ∷ 1 ∷ 4 ∷ []) (5 ∷ 5 ∷ 5 ∷ 6 ∷ []) (replicate 72 1 ++ (4 ∷ []))
 
--- a memory of the four words only
+-- a memory of the four words only, and no sums
 abbrev pub exact : Buffers
-exact = buffers (0 ∷ 0 ∷ 0 ∷ 0 ∷ []) [] []
+exact = buffers (0 ∷ 0 ∷ 0 ∷ 0 ∷ []) [] [] []
 
 -- a picture of 2 by 1: 8 is stored at (0, 0) and 9 at (1, 0), and a ring fetch from (1, 0) wraps to (0, 0)
 unfoldable pub ringed : Setting
@@ -63,7 +64,7 @@ abbrev pub around : List ℕ
 around = (0 ∷ 0 ∷ 0 ∷ 8 ∷ 0 ∷ []) ++ (0 ∷ 1 ∷ 0 ∷ 9 ∷ 0 ∷ []) ++ (4 ∷ 1 ∷ 0 ∷ 0 ∷ 3 ∷ [])
 
 abbrev pub pair : Buffers
-pair = buffers (0 ∷ 0 ∷ []) (5 ∷ 5 ∷ 5 ∷ []) (replicate 36 1)
+pair = buffers (0 ∷ 0 ∷ []) (0 ∷ 0 ∷ []) (5 ∷ 5 ∷ 5 ∷ []) (replicate 36 1)
 
 -- a reply's numbers: two, then 0
 abbrev pub reply : ℕ → ℕ → List ℕ
@@ -74,13 +75,13 @@ pub record ReadOff (left : Buffers) : Type 0 where
   pub words-fetched : left .outputs ≡ 8 ∷ 9 ∷ 5 ∷ 6 ∷ []
   pub replies-told : left .rows ≡ reply 0 0 ++ reply 0 0 ++ reply 0 2 ++ reply 0 0 ++ reply 0 8 ++ reply 14 0 ++ (4 ∷ [])
   -- the word stored at (1, 0), the cleared one of (2, 0), and the one that is no pixel's
-  pub word-stands : getD (left .memory) 2 0 ≡ 8
-  pub word-cleared : getD (left .memory) 1 0 ≡ 0
-  pub other-is-0 : getD (left .memory) 3 0 ≡ 0
-  pub rest-stays : drop 4 (left .memory) ≡ 7 ∷ []
-  pub as-long : length (left .memory) ≡ 5
+  pub word-stands : getD (left .picture .memory) 2 0 ≡ 8
+  pub word-cleared : getD (left .picture .memory) 1 0 ≡ 0
+  pub other-is-0 : getD (left .picture .memory) 3 0 ≡ 0
+  pub rest-stays : drop 4 (left .picture .memory) ≡ 7 ∷ []
+  pub as-long : sizeOf (left .picture) ≡ record { words = 5; entries = 3 }
   pub exact-as-long :
-      (short : Buffers) → short ≡ findAndRun (small .book) 1 1024 3 1 [] exact .content → length (short .memory) ≡ 4
+      (short : Buffers) → short ≡ findAndRun (small .book) 1 1024 3 1 [] exact .content → sizeOf (short .picture) ≡ record { words = 4; entries = 0 }
   -- the ring fetch brings the words stored at the wrapped pixels
   pub words-around :
       (turned : Buffers) → turned ≡ findAndRun (small .book) 1 1024 2 1 around pair .content → turned .outputs ≡ 9 ∷ 8 ∷ 5 ∷ []
@@ -127,7 +128,7 @@ module _ (follows : DemandFollows) (left : Buffers) (is : left ≡ findAndRun (s
   unfolding small ringed findAndRun pictureWords
   ringed-met turned e = follows (small .book) 1 1024 2 1 around pair _ turned refl e (plan 2 0 1) refl (omega arith) refl
 
-  of-fetch : CallHolds small (start .memory) (callsOf stores []) both
+  of-fetch : CallHolds small (start .picture) (callsOf stores []) both
   unfolding both callsOf
   of-fetch = met .holds .each (callsOf stores []) both (callsOf later []) refl
 

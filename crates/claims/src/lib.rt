@@ -24,17 +24,21 @@ pub fn find_and_run(
     w: u32,
     h: u32,
     mem: &mut [u16],
+    sums: &mut [u64],
     numbers: &[u64],
     outs: &mut [u16],
     rows: &mut [u64],
 ) -> FoundRun
-    ensures answer { λ x. ⌜ x ≡ findAndRun book r limit w h (now (numbers .entry)) (buffers (now (mem .entry)) (now (outs .entry)) (now (rows .entry))) .answer ⌝ }
-    ensures left { λ x. ⌜ buffers (now (mem .exit)) (now (outs .exit)) (now (rows .exit)) ≡ findAndRun book r limit w h (now (numbers .entry)) (buffers (now (mem .entry)) (now (outs .entry)) (now (rows .entry))) .content ⌝ }
-    ensures demand { λ x. ⌜ Demanded x book r w h (now (numbers .entry)) (buffers (now (mem .entry)) (now (outs .entry)) (now (rows .entry))) (buffers (now (mem .exit)) (now (outs .exit)) (now (rows .exit))) ⌝ }
+    ensures answer { λ x. ⌜ x ≡ findAndRun book r limit w h (now (numbers .entry)) (buffers (now (mem .entry)) (now (sums .entry)) (now (outs .entry)) (now (rows .entry))) .answer ⌝ }
+    ensures left { λ x. ⌜ buffers (now (mem .exit)) (now (sums .exit)) (now (outs .exit)) (now (rows .exit)) ≡ findAndRun book r limit w h (now (numbers .entry)) (buffers (now (mem .entry)) (now (sums .entry)) (now (outs .entry)) (now (rows .entry))) .content ⌝ }
+    ensures demand { λ x. ⌜ Demanded x book r w h (now (numbers .entry)) (buffers (now (mem .entry)) (now (sums .entry)) (now (outs .entry)) (now (rows .entry))) (buffers (now (mem .exit)) (now (sums .exit)) (now (outs .exit)) (now (rows .exit))) ⌝ }
 {
     let planned = find(book, r, limit);
     match planned {
-        Planned::Plan(p) => FoundRun::Ran(p, run_list(book, r, p, w, h, mem, numbers, outs, rows)),
+        Planned::Plan(p) => FoundRun::Ran(
+            p,
+            run_list(book, r, p, w, h, mem, sums, numbers, outs, rows),
+        ),
         Planned::Refused(f) => FoundRun::Refused(f),
     }
 }

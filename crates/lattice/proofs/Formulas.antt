@@ -1,6 +1,6 @@
 -- The lists of pixels and patterns entry by entry, and document 01's formulas by divisions with remainder.
 -- Assumes nothing.
-use Prim.Native.Nat.{ℕ, _+_, _*_, _≤_, _<_}
+use Prim.Native.Nat.{ℕ, _+_, _*_, _^_, _≤_, _<_}
 use mathlib.Core.Path.{_≡_, refl, sym, _∙_, ap, ap₂}
 use mathlib.Core.Logic.{_↔_}
 use mathlib.Core.List.{List, [], List·Memᴰ}
@@ -11,7 +11,7 @@ use Rattle.integers.specs.Division.{ceilDiv}
 use Rattle.integers.proofs.Digits.{upper-digit}
 use Rattle.integers.proofs.Divisions.{floor-division, ceiling-division}
 use Rattle.scope.specs.Plans.{Pixel, at, plus, minus, pixelAt, pixels, differences}
-use Rattle.scope.specs.Banks.{quotient, across, addressOf, depthOf, wrapped}
+use Rattle.scope.specs.Banks.{quotient, across, addressOf, depthOf, exchanged, wrapped}
 use Rattle.scope.specs.Calls.{moved, ringMoved, recordPixel}
 use Rattle.scope.specs.promises.Meaning.{IsPlan, PatternsAre}
 use Rattle.scope.specs.promises.PicturePromises.{RoundedUp, FormulasAre}
@@ -81,7 +81,7 @@ address-formula p W H C plan wide q r u s row column =
 
 -- Banks, depths, addresses and wrapped pixels are what document 01's formulas give.
 pub formulas-are : FormulasAre
-unfolding wrapped ringMoved recordPixel at
+unfolding wrapped ringMoved exchanged recordPixel at
 formulas-are =
     record {
       bank = bank-by-divisions;
@@ -90,5 +90,6 @@ formulas-are =
       wrapped-column = λ W H h v q c e. ap pos (sym (floor-division (v .column) W h q c .0 e .1));
       wrapped-row = λ W H h v q c e. ap pos (sym (floor-division (v .row) H h q c .0 e .1));
       ring-moved = λ W H t o. refl;
+      exchanged-sum = λ sum old new q n h. sym (floor-division _ (2 ^ 64) (omega arith) q n .0 h .1);
       record-pixel = λ r. refl;
     }

@@ -15,7 +15,7 @@ use Rattle.scope.specs.declared.Refusal.{Refusal}
 use Rattle.scope.specs.declared.Refusal.the-variants.{Unsuited}
 use Rattle.checks.proofs.Searches.{none-not-some, some-injective}
 use Rattle.checks.proofs.BookTests.{book-legal-iff}
-use Rattle.checks.proofs.Tests.{limit-legal-iff, cycles-legal-iff, independent-iff, size-within-iff, plan-legal-iff, sides-legal-iff, memory-enough-iff}
+use Rattle.checks.proofs.Tests.{limit-legal-iff, cycles-legal-iff, independent-iff, size-within-iff, plan-legal-iff, sides-legal-iff, memory-enough-iff, sums-enough-iff}
 use Rattle.checks.proofs.Tests.{all-inside-iff, bank-below-iff, cell-legal-iff, output-enough-iff, number-in-book-iff, ring-allowed-iff}
 use Rattle.lattice.proofs.LongClashes.{long-clashes}
 
@@ -61,6 +61,7 @@ tests-mean =
       plan-11 = plan-legal-iff;
       sides-12 = sides-legal-iff;
       memory-13 = memory-enough-iff;
+      sums-13 = sums-enough-iff;
       outside-14 = all-inside-iff;
       bank-15 = bank-below-iff;
       cell-15 = cell-legal-iff;

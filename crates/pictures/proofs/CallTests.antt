@@ -7,19 +7,30 @@ use mathlib.Core.Bool.{Bool, true, false}
 use mathlib.Core.Option.{none}
 use mathlib.Core.List.{List, [], _∷_, List·Memᴰ·head}
 use Rattle.scope.specs.Plans.{Pixel, patternAt, banks}
-use Rattle.scope.specs.Calls.{pictureTest, wordTest, wholeBankTest, moved, fetchFirst, fetchStart, edgeTest, restTest, fetchTest}
+use Rattle.scope.specs.Numbers.{outsideTest}
+use Rattle.scope.specs.Calls.{Size, pictureTest, lentTest, storeTest, wordTest, clearTest, wholeBankTest, readSumTest, moved, fetchFirst, fetchStart, edgeTest, restTest, fetchTest}
 use Rattle.scope.specs.Calls.{cyclesFirst, writeCyclesTest}
-use Rattle.scope.specs.promises.Meaning.{IsBook, IsCycles, IsPicture, Inside}
+use Rattle.scope.specs.promises.Meaning.{IsPlan, IsBook, IsCycles, IsPicture, IsLent, Inside}
 use Rattle.scope.specs.promises.Demand.{EdgeAllowed}
 use Rattle.scope.specs.promises.PicturePromises.{LegalFetch, LegalCycles}
 use Rattle.scope.specs.declared.Plan.{Plan}
 use Rattle.scope.specs.declared.Book.{Book}
 use Rattle.checks.proofs.Booleans.{last-test, test-before}
-use Rattle.checks.proofs.Tests.{plan-legal-iff, sides-legal-iff, memory-enough-iff, all-inside-iff, bank-below-iff}
+use Rattle.checks.proofs.Tests.{plan-legal-iff, sides-legal-iff, memory-enough-iff, sums-enough-iff, all-inside-iff, bank-below-iff}
 use Rattle.checks.proofs.Tests.{output-enough-iff, number-in-book-iff, ring-allowed-iff}
 use Rattle.checks.proofs.BookTests.{book-test-iff}
 use Rattle.checks.proofs.Legal.{one-inside}
 use Rattle.lattice.proofs.TestMeanings.{tests-mean}
+
+-- one pixel inside
+one-inside-iff : (W H : ℕ) (v : Pixel) → (outsideTest W H (v ∷ []) ≡ none) ↔ Inside W H v
+one-inside-iff W H v = Iff·trans (all-inside-iff W H (v ∷ [])) (λ h. h v (List·Memᴰ·head refl), one-inside W H v)
+
+-- A sum that is read: a plan, sums that are long enough, and the bank below N.
+pub read-sum-test-iff : (p : Plan) (entries k : ℕ) → (readSumTest p entries k ≡ none) ↔ (IsPlan p × ((banks p ≤ entries) × (k < banks p)))
+unfolding readSumTest
+read-sum-test-iff p entries k =
+    test-before (plan-legal-iff p) (test-before (sums-enough-iff p entries) (last-test (bank-below-iff p k))) .iff
 
 -- The cycles of a pattern: legal ones, and room.
 pub cycles-test-iff :
@@ -58,14 +69,13 @@ module _ (p : Plan) (W H words : ℕ) where
         λ h. (h .plan, ((h .W-side, h .H-side), h .memory)),
       )
 
-  -- Store and load: a picture and its memory, and the pixel inside.
+  -- Load: a picture and its memory, and the pixel inside.
   pub word-test-iff : (v : Pixel) → (wordTest p W H words v ≡ none) ↔ (IsPicture p W H words × Inside W H v)
   unfolding wordTest
   word-test-iff v =
-      test-before picture-test-iff
-      (last-test (Iff·trans (all-inside-iff W H (v ∷ [])) (λ h. h v (List·Memᴰ·head refl), one-inside W H v))) .iff
+      test-before picture-test-iff (last-test (one-inside-iff W H v)) .iff
 
-  -- Clear and sum: a picture and its memory, and the bank below N.
+  -- Sum: a picture and its memory, and the bank below N.
   pub bank-test-iff : (k : ℕ) → (wholeBankTest p W H words k ≡ none) ↔ (IsPicture p W H words × (k < banks p))
   unfolding wholeBankTest
   bank-test-iff k = test-before picture-test-iff (last-test (bank-below-iff p k)) .iff
@@ -110,3 +120,22 @@ module _ (p : Plan) (W H words : ℕ) where
     fetch-test-iff ring o room =
         test-before fetch-start-iff
         (test-before (edge-iff ring (moved (patternAt book n) o)) (last-test (output-enough-iff (patternAt book n .used) room))) .iff
+
+module _ (p : Plan) (W H : ℕ) (s : Size) where
+  -- The tests of a picture that is lent with its sums.
+  pub lent-test-iff : (lentTest p W H s ≡ none) ↔ IsLent p W H s
+  unfolding lentTest
+  lent-test-iff =
+      Iff·trans (test-before (picture-test-iff p W H (s .words)) (last-test (sums-enough-iff p (s .entries))) .iff) (
+        λ h. record { picture = h .0; sums = h .1 },
+        λ h. (h .picture, h .sums),
+      )
+
+  -- Store and clear: those, and the pixel inside or the bank below N.
+  pub store-test-iff : (v : Pixel) → (storeTest p W H s v ≡ none) ↔ (IsLent p W H s × Inside W H v)
+  unfolding storeTest
+  store-test-iff v = test-before lent-test-iff (last-test (one-inside-iff W H v)) .iff
+
+  pub clear-test-iff : (k : ℕ) → (clearTest p W H s k ≡ none) ↔ (IsLent p W H s × (k < banks p))
+  unfolding clearTest
+  clear-test-iff k = test-before lent-test-iff (last-test (bank-below-iff p k)) .iff

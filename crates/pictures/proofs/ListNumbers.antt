@@ -5,20 +5,21 @@ use native.Mathlib.Omega.{arith}
 use native.Mathlib.Nat.{min-le-left}
 use mathlib.Core.Path.{_≡_, refl, sym, _∙_, ap, ap₂, subst}
 use mathlib.Core.Logic.{_⊎_, inl, inr}
-use mathlib.Core.Bool.{Bool, true, false, cond}
+use mathlib.Core.Bool.{_||_, Bool, true, false, cond}
 use mathlib.Core.Option.{none}
 use mathlib.Core.List.{List, [], _∷_, _++_, flatMap, List·Memᴰ, List·Memᴰ·head, List·Memᴰ·tail, List·Memᴰ·not-nil, List·Memᴰ·cases-cons}
 use lib.Dec.{ltb}
 use lib.IntN.{ℤ, pos, negsuc, _-ℤ_}
 use lib.ListN.{length, getD, take, drop, length-append, length-take}
 use lib.Seq.{take-append-seam, drop-append-seam, getD-drop}
-use borrow.Author.Tests.{lt-ltb, le-ltb, ltb-true, ltb-false, ne-eqb}
+use borrow.Author.Tests.{lt-ltb, le-ltb, ltb-true, ltb-false}
 use Rattle.integers.proofs.Integers.{own-parts, parts-add, same-integer}
 use Rattle.checks.proofs.Lists.{mem-flatMap, length-flatMap}
 use Rattle.scope.specs.Plans.{Pixel, at}
-use Rattle.scope.specs.promises.Demand.{store, clear, load, fetch, Call, write, read}
+use Rattle.scope.specs.promises.Demand.{store, clear, makeSums, load, fetch, sum, readSum, Call, write, read}
 use Rattle.pictures.specs.Lists.{coordinateOf, callOf, callAt, roomOf, roomAt, callsFrom, callsOf, isCallAt, listFault}
 use Rattle.pictures.specs.ListNumbers.{coordinateNumber, numbersOf, outputIn, Fits64, Fits16, PixelFits, Fits, AllFit, AllFit64, EveryListHasNumbers, NumbersGiveFittingCalls}
+use Rattle.pictures.proofs.MadeCalls.{any-call, each-call}
 use Rattle.pictures.proofs.ListFaults.{faultIn, past-first, no-calls, list-right}
 
 -- the coordinate of a number, by the half in which its last 16 bits are
@@ -59,13 +60,19 @@ pixel-back v h = ap₂ at (coordinate-back (v .column) (h .column)) (coordinate-
 five-numbers : (c : Call) → length (numbersOf c) ≡ 5
 five-numbers (write (store v x)) = refl
 five-numbers (write (clear k)) = refl
+five-numbers (write makeSums) = refl
 five-numbers (read (load v)) = refl
 five-numbers (read (fetch ring n o out)) = refl
+five-numbers (read (sum k)) = refl
+five-numbers (read (readSum k)) = refl
 
 own-room : (c : Call) (xs : List ℕ) → roomAt (numbersOf c ++ xs) ≡ length (outputIn c)
 unfolding roomAt
 own-room (write (store v x)) xs = refl
 own-room (write (clear k)) xs = refl
+own-room (write makeSums) xs = refl
+own-room (read (sum k)) xs = refl
+own-room (read (readSum k)) xs = refl
 own-room (read (load v)) xs = refl
 own-room (read (fetch false n o out)) xs = refl
 own-room (read (fetch true n o out)) xs = refl
@@ -73,6 +80,9 @@ own-room (read (fetch true n o out)) xs = refl
 others-after : (c : Call) (xs : List ℕ) → drop 5 (numbersOf c ++ xs) ≡ xs
 others-after (write (store v x)) xs = refl
 others-after (write (clear k)) xs = refl
+others-after (write makeSums) xs = refl
+others-after (read (sum k)) xs = refl
+others-after (read (readSum k)) xs = refl
 others-after (read (load v)) xs = refl
 others-after (read (fetch ring n o out)) xs = refl
 
@@ -82,6 +92,9 @@ own-call (write (store v x)) xs (h, k) =
     let word : x % 65536 ≡ x = omega arith in
     ap₂ (λ (w : Pixel) (n : ℕ). write (store w n)) (pixel-back v h) word
 own-call (write (clear k)) xs h = refl
+own-call (write makeSums) xs h = refl
+own-call (read (sum k)) xs h = refl
+own-call (read (readSum k)) xs h = refl
 own-call (read (load v)) xs h = ap (λ (w : Pixel). read (load w)) (pixel-back v h)
 own-call (read (fetch false n o out)) xs (h, k, l) = ap (λ (w : Pixel). read (fetch false n w out)) (pixel-back o h)
 own-call (read (fetch true n o out)) xs (h, k, l) = ap (λ (w : Pixel). read (fetch true n w out)) (pixel-back o h)
@@ -98,6 +111,9 @@ is-call : (c : Call) (xs : List ℕ) → Fits c → isCallAt (numbersOf c ++ xs)
 unfolding isCallAt
 is-call (write (store v x)) xs (h, k) = rw (pixel-numbers v h .0, pixel-numbers v h .1, lt-ltb x 65536 k) refl
 is-call (write (clear k)) xs h = refl
+is-call (write makeSums) xs h = refl
+is-call (read (sum k)) xs h = refl
+is-call (read (readSum k)) xs h = refl
 is-call (read (load v)) xs h = rw (pixel-numbers v h .0, pixel-numbers v h .1) refl
 is-call (read (fetch false n o out)) xs (h, k, l) = rw (pixel-numbers o h .0, pixel-numbers o h .1) refl
 is-call (read (fetch true n o out)) xs (h, k, l) = rw (pixel-numbers o h .0, pixel-numbers o h .1) refl
@@ -171,11 +187,18 @@ with-pixel v a h b c =
     (one-more-number (omega (arith, coordinate-below (v .column) (h .column)))
     (one-more-number (omega (arith, coordinate-below (v .row) (h .row))) (one-more-number b (one-more-number c no-number))))
 
+-- those of a call with a bank, or with none
+with-bank : {kind k : ℕ} → Fits64 kind → Fits64 k → AllFit64 (kind ∷ 0 ∷ 0 ∷ k ∷ 0 ∷ [])
+with-bank a b =
+    one-more-number a
+    (one-more-number (omega arith) (one-more-number (omega arith) (one-more-number b (one-more-number (omega arith) no-number))))
+
 numbers-fit : (c : Call) → Fits c → AllFit64 (numbersOf c)
 numbers-fit (write (store v x)) (h, k) = with-pixel v (omega arith) h (omega arith) (omega arith)
-numbers-fit (write (clear k)) h =
-    one-more-number (omega arith)
-    (one-more-number (omega arith) (one-more-number (omega arith) (one-more-number h (one-more-number (omega arith) no-number))))
+numbers-fit (write (clear k)) h = with-bank (omega arith) h
+numbers-fit (write makeSums) h = with-bank (omega arith) (omega arith)
+numbers-fit (read (sum k)) h = with-bank (omega arith) h
+numbers-fit (read (readSum k)) h = with-bank (omega arith) h
 numbers-fit (read (load v)) h = with-pixel v (omega arith) h (omega arith) (omega arith)
 numbers-fit (read (fetch false n o out)) (h, k, l) = with-pixel o (omega arith) h k l
 numbers-fit (read (fetch true n o out)) (h, k, l) = with-pixel o (omega arith) h k l
@@ -212,16 +235,8 @@ pixel-fits i j = record { column = coordinate-fits i; row = coordinate-fits j }
 
 -- and so does a store's word.
 call-fits : (kind i j n : ℕ) (out : List ℕ) → Fits64 n → Fits64 (length out) → Fits (callOf kind i j n out)
-unfolding callOf
-call-fits zero i j n out h k = (pixel-fits i j, omega arith)
-call-fits (suc zero) i j n out h k = h
-call-fits (suc (suc zero)) i j n out h k = pixel-fits i j
-call-fits (suc (suc (suc m))) i j n out h k =
-    rw (
-      ne-eqb (suc (suc (suc m))) 0 (λ e. omega arith),
-      ne-eqb (suc (suc (suc m))) 1 (λ e. omega arith),
-      ne-eqb (suc (suc (suc m))) 2 (λ e. omega arith),
-    ) (pixel-fits i j, h, k)
+call-fits kind i j n out h k =
+    any-call Fits kind i j n out (pixel-fits i j, omega arith) h (pixel-fits i j) (λ ring. (pixel-fits i j, h, k)) tt h h
 
 -- numbers by their place
 abbrev EntriesFit : List ℕ → Type 0
@@ -237,7 +252,7 @@ rest-fits k xs h i = subst Fits64 (sym (getD-drop k xs i 0)) (h (k + i))
 
 room-fits : (kind room : ℕ) → Fits64 room → Fits64 (roomOf kind room)
 unfolding roomOf
-room-fits kind room h = by-kind (ltb kind 3)
+room-fits kind room h = by-kind (ltb kind 3 || ltb 4 kind)
   where
     by-kind : (b : Bool) → Fits64 (cond b 0 room)
     by-kind true = omega arith
@@ -252,17 +267,7 @@ first-fits xs outs h =
     (omega (arith, size, room-fits (getD xs 0 0) (getD xs 4 0) (h 4)))
 
 calls-fit : (n : ℕ) (xs outs : List ℕ) → EntriesFit xs → AllFit (callsFrom n xs outs)
-unfolding callsFrom
-calls-fit zero xs outs h c m = absurd (List·Memᴰ·not-nil m)
-calls-fit (suc n) xs outs h c m =
-    by-place (List·Memᴰ·cases-cons m) (calls-fit n (drop 5 xs) (drop (roomAt xs) outs) (rest-fits 5 xs h) c)
-  where
-    by-place :
-        (c ≡ callAt xs (take (roomAt xs) outs)) ⊎ List·Memᴰ c (callsFrom n (drop 5 xs) (drop (roomAt xs) outs))
-        → (List·Memᴰ c (callsFrom n (drop 5 xs) (drop (roomAt xs) outs)) → Fits c)
-        → Fits c
-    by-place (inl e) r = subst Fits (sym e) (first-fits xs outs h)
-    by-place (inr t) r = r t
+calls-fit = each-call Fits EntriesFit (rest-fits 5) first-fits
 
 pub numbers-give-fitting-calls : NumbersGiveFittingCalls
 unfolding callsOf

@@ -3,22 +3,24 @@
 -- Assumes nothing.
 use Prim.Native.Nat.{ℕ, _<_}
 use native.Mathlib.Omega.{arith}
-use mathlib.Core.Path.{_≡_, _∙_, ap}
+use mathlib.Core.Path.{_≡_, sym, _∙_, ap}
 use mathlib.Core.Option.{Option, none, some}
-use mathlib.Core.List.{List, [], _∷_}
+use mathlib.Core.List.{[], _∷_}
 use Rattle.scope.specs.Search.{firstOf}
 use Rattle.scope.specs.Plans.{Pixel}
 use Rattle.scope.specs.Banks.{depthOf, wordOf}
-use Rattle.scope.specs.Numbers.{planTest, sidesTest, memoryTest}
-use Rattle.scope.specs.Calls.{Result, Lent, lent, answered, changed, pictureTest, wordTest, wholeBankTest}
+use Rattle.scope.specs.Numbers.{planTest, sidesTest, memoryTest, outsideTest}
+use Rattle.scope.specs.promises.Meaning.{IsPlan, IsSide}
+use Rattle.scope.specs.Calls.{Lent, Size, answered, changed, addressTest, pictureTest, lentTest, wordTest, wholeBankTest}
 use Rattle.scope.specs.declared.Plan.{Plan}
 use Rattle.scope.specs.declared.Counted.{Counted}
 use Rattle.scope.specs.declared.Outcome.{Outcome}
 use Rattle.scope.specs.declared.Refusal.{Refusal}
-use Rattle.checks.proofs.Chains.{tests-as-one, value-given, refusal-given}
+use Rattle.checks.proofs.Tests.{plan-legal-iff, sides-legal-iff}
+use Rattle.checks.proofs.Chains.{chain-goes-on, tests-as-one, Gives, value-given, refusal-given}
 use Rattle.lattice.proofs.Words.{pixels-have-words}
 use Rattle.pictures.proofs.CallTests.{word-test-iff}
-use Rattle.pictures.specs.Places.{pictureDepth, wordPlace, bankDepth}
+use Rattle.pictures.specs.Places.{pictureDepth, lentDepth, wordPlace, bankDepth}
 use Rattle.checks.proofs.CountedAnswers.{number-shows, refusal-shows}
 
 -- The pixel's word is the one at n, in the memory.
@@ -74,23 +76,36 @@ module _ (p : Plan) (W H words : ℕ) where
     unfolding bankDepth
     bank-refusal-shows = refusal-shows (wholeBankTest p W H words k) (depthOf p W H) is
 
--- A call that writes gives this answer and leaves this memory.
-abbrev pub Leaves : Result Outcome Lent → Outcome → List ℕ → Type 0
-Leaves result answer memory = (answer ≡ result .answer) × (memory ≡ result .content .memory)
+-- Past the tests of a plan and sides, and another that found nothing, only 14 is left of the plan's own tests for a pixel.
+pub only-outside :
+    (p : Plan) (W H : ℕ) (v : Pixel) {t : Option Refusal} → t ≡ none → IsPlan p → IsSide W → IsSide H
+    → addressTest p W H v ≡ firstOf (t ∷ outsideTest W H (v ∷ []) ∷ [])
+only-outside p W H v {t} passed plan W-side H-side =
+    let outside : Option Refusal = outsideTest W H (v ∷ []) in
+    chain-goes-on (planTest p) (sidesTest W H ∷ outside ∷ []) (plan-legal-iff p .1 plan)
+    ∙ chain-goes-on (sidesTest W H) (outside ∷ []) (sides-legal-iff W H .1 (W-side, H-side))
+    ∙ sym (chain-goes-on t (outside ∷ []) passed)
 
--- Where its tests found nothing it is done, and leaves what it wrote; where they found a refusal it leaves the memory as it
--- was.
+-- What the answer of `lent_depth` tells
+module _ (p : Plan) (W H : ℕ) (s : Size) {answer : Counted} (is : answer ≡ lentDepth p W H s) where
+  pub lent-shows : {n : ℕ} → answer ≡ Counted.Number n → (lentTest p W H s ≡ none) × (depthOf p W H ≡ n)
+  unfolding lentDepth
+  lent-shows = number-shows (lentTest p W H s) (depthOf p W H) is
+
+  pub lent-refusal-shows : {r : Refusal} → answer ≡ Counted.Refused r → lentTest p W H s ≡ some r
+  unfolding lentDepth
+  lent-refusal-shows = refusal-shows (lentTest p W H s) (depthOf p W H) is
+
+-- A call that writes: where its tests found nothing it is done, and leaves what it wrote; where they found a refusal it leaves what it
+-- was lent as it was.
 module _ {t : Option Refusal} where
   pub leaves-written :
-      t ≡ none → (mem after : List ℕ) {content : List ℕ} → content ≡ after
-      → Leaves (changed t Outcome.Refused (lent mem) Outcome.Done (lent after)) Outcome.Done content
-  leaves-written passed mem after e =
-      let (done, left) = value-given t Outcome.Refused (lent mem) Outcome.Done (lent after) passed in
-      (done, e ∙ ap (λ (l : Lent). l .memory) left)
+      t ≡ none → (old new : Lent) {left : Lent} → left ≡ new
+      → Gives (changed t Outcome.Refused old Outcome.Done new) Outcome.Done left
+  leaves-written passed old new e =
+      let (done, left) = value-given t Outcome.Refused old Outcome.Done new passed in
+      (done, e ∙ left)
 
   pub leaves-as-it-was :
-      {r : Refusal} → t ≡ some r → (mem after : List ℕ)
-      → Leaves (changed t Outcome.Refused (lent mem) Outcome.Done (lent after)) (Outcome.Refused r) mem
-  leaves-as-it-was {r} found mem after =
-      let (answer, left) = refusal-given t Outcome.Refused (lent mem) Outcome.Done (lent after) r found in
-      (answer, ap (λ (l : Lent). l .memory) left)
+      {r : Refusal} → t ≡ some r → (old new : Lent) → Gives (changed t Outcome.Refused old Outcome.Done new) (Outcome.Refused r) old
+  leaves-as-it-was {r} found old new = refusal-given t Outcome.Refused old Outcome.Done new r found

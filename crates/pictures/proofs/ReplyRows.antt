@@ -13,9 +13,9 @@ use borrow.Author.Tests.{ne-eqb}
 use Rattle.scope.specs.Cycles.{LongClash, lengthened}
 use Rattle.scope.specs.Numbers.{Answer, value, refusal, rowOf, placeOf, turnedDown, withPositions, ofOutcome, ofLoaded, ofCounted, ofFetch}
 use Rattle.scope.specs.Calls as Calls
-use Rattle.scope.specs.Calls.{besideClash, eitherFetch}
+use Rattle.scope.specs.Calls.{Lent, besideClash, eitherFetch}
 use Rattle.scope.specs.code.RefusalRows.{clashIf}
-use Rattle.scope.specs.promises.Demand.{Call, write, read, load, fetch, Setting, readReply, reply, writeResult}
+use Rattle.scope.specs.promises.Demand.{Call, write, read, load, fetch, sum, readSum, Setting, readReply, reply, writeResult}
 use Rattle.scope.specs.declared.Clash.{Clash}
 use Rattle.scope.specs.declared.Refusal.{Refusal}
 use Rattle.scope.specs.declared.Refusal.the-variants.{Ends, Count, Coordinate, Repeat, Extra, Limit, NoPlan, Dependent, Large, Unsuited, NotPlan, Sides, Memory, Outside, Cell, Output, NoPattern, Ring, Lower, Cycles}
@@ -141,17 +141,25 @@ unfolding twelve answerNumbers
 length-counted es h (Counted.Number x) = refl
 length-counted es h (Counted.Refused f) = length-turned-down-with (λ n. n ∷ []) es h f
 
-pub length-reply : (g : Setting) (mem : List ℕ) (c : Call) → length (replyNumbers (reply g mem c)) ≡ 12
-unfolding replyNumbers reply readReply eitherFetch besideClash
-length-reply g mem (write w) = length-outcome (writeResult g mem w .answer)
-length-reply g mem (read (load v)) = length-loaded (Calls.load (g .plan) (g .W) (g .H) mem v)
-length-reply g mem (read (fetch ring n o out)) =
-    length-counted (told (g .book) (g .r) (g .plan) (g .W) (g .H) (length mem) n)
-    (told-most (g .book) (g .r) (g .plan) (g .W) (g .H) (length mem) n)
-    (eitherFetch ring (g .book) (g .r) (g .plan) (g .W) (g .H) mem n o out .answer .counted)
+length-number : (c : Counted) → length (twelve (answerNumbers (λ n. n ∷ []) (ofCounted c))) ≡ 12
+unfolding twelve answerNumbers
+length-number (Counted.Number x) = refl
+length-number (Counted.Refused f) = length-turned-down (λ n. n ∷ []) f
 
-pub row-long : {g : Setting} {mem : List ℕ} {c : Call} {old row next out : List ℕ} → OneMade g mem c old row next out → length row ≡ 12
-row-long {g} {mem} {c} made = ap length (made .row-is) ∙ length-reply g mem c
+pub length-reply : (g : Setting) (l : Lent) (c : Call) → length (replyNumbers (reply g l c)) ≡ 12
+unfolding replyNumbers reply readReply eitherFetch besideClash
+length-reply g l (write w) = length-outcome (writeResult g l w .answer)
+length-reply g l (read (load v)) = length-loaded (Calls.load (g .plan) (g .W) (g .H) (l .memory) v)
+length-reply g l (read (fetch ring n o out)) =
+    length-counted (told (g .book) (g .r) (g .plan) (g .W) (g .H) (length (l .memory)) n)
+    (told-most (g .book) (g .r) (g .plan) (g .W) (g .H) (length (l .memory)) n)
+    (eitherFetch ring (g .book) (g .r) (g .plan) (g .W) (g .H) (l .memory) n o out .answer .counted)
+length-reply g l (read (sum k)) = length-number (Calls.sum (g .plan) (g .W) (g .H) (l .memory) k)
+length-reply g l (read (readSum k)) = length-number (Calls.readSum (g .plan) (l .sums) k)
+
+pub row-long :
+    {g : Setting} {l next : Lent} {c : Call} {old row out : List ℕ} → OneMade g l c old row next out → length row ≡ 12
+row-long {g} {l} {c} made = ap length (made .row-is) ∙ length-reply g l c
 
 -- An answer is read off its numbers: 0 is no refusal's number, and a refusal has a clash, of m positions, exactly if its number is 10.
 module _ {A : Type 0} (from : ℕ → A) (m : ℕ) where
@@ -197,6 +205,11 @@ unfolding answerIn twelve answerNumbers
 loaded-read (Loaded.Word x) = refl
 loaded-read (Loaded.Refused f) = turned-down-read (λ n. n) 2 (λ n. n ∷ []) refl f
 
+number-read : (c : Counted) → answerIn (λ n. n) 2 (twelve (answerNumbers (λ n. n ∷ []) (ofCounted c))) ≡ ofCounted c
+unfolding answerIn twelve answerNumbers
+number-read (Counted.Number x) = refl
+number-read (Counted.Refused f) = turned-down-read (λ n. n) 2 (λ n. n ∷ []) refl f
+
 counted-read :
     (m : ℕ) (es : List ℕ) → length es ≡ m → (c : Counted) →
     let a = withPositions es (ofCounted c) in
@@ -222,6 +235,12 @@ pub loaded-row-tells :
     → twelve (answerNumbers (λ n. n ∷ []) (ofLoaded l)) ≡ twelve (answerNumbers (λ n. n ∷ []) (ofLoaded m))
     → ofLoaded l ≡ ofLoaded m
 loaded-row-tells l m = row-tells (λ n. n ∷ []) (λ n. n) 2 (ofLoaded l) (ofLoaded m) (loaded-read l) (loaded-read m)
+
+pub counted-row-tells :
+    (c d : Counted)
+    → twelve (answerNumbers (λ n. n ∷ []) (ofCounted c)) ≡ twelve (answerNumbers (λ n. n ∷ []) (ofCounted d))
+    → ofCounted c ≡ ofCounted d
+counted-row-tells c d = row-tells (λ n. n ∷ []) (λ n. n) 2 (ofCounted c) (ofCounted d) (number-read c) (number-read d)
 
 -- two fetches for the same r, with as many positions beside them
 pub fetched-row-tells :

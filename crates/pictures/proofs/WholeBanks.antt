@@ -1,5 +1,5 @@
--- What the depth that `bank_depth` gives tells of a bank: the call's tests found nothing, where the bank stands, and what
--- the part of the memory that the code takes for it is.
+-- Where a bank of a picture stands in the memory, what the depth that `bank_depth` gives tells of it, and what the part of the memory
+-- that the code takes for it is.
 -- Assumes nothing.
 use Prim.Native.Nat.{ℕ, _+_, _*_, _-_, _≤_, _<_}
 use native.Mathlib.Omega.{arith}
@@ -12,6 +12,7 @@ use lib.Seq.{length-take-le, drop-drop}
 use Rattle.scope.specs.Plans.{banks}
 use Rattle.scope.specs.Banks.{depthOf, bankWords, afterClear}
 use Rattle.scope.specs.Calls.{wholeBankTest}
+use Rattle.scope.specs.promises.Meaning.{IsPicture}
 use Rattle.scope.specs.declared.Plan.{Plan}
 use Rattle.scope.specs.declared.Counted.{Counted}
 use Rattle.pictures.proofs.CallTests.{bank-test-iff}
@@ -19,12 +20,10 @@ use Rattle.pictures.proofs.Memory.{bank-in-picture}
 use Rattle.lattice.proofs.Words.{depth-at-most}
 use Rattle.pictures.specs.Places.{bankDepth}
 use Rattle.pictures.proofs.PictureTests.{bank-shows}
-pub use Rattle.pictures.proofs.PictureTests.{Leaves}
 
 -- Bank k has `deep` words. There are at most 1024 banks of at most 2^24 words, so its end is at most 2^34, and it is in the
 -- memory.
 pub record BankIn (p : Plan) (W H : ℕ) (mem : List ℕ) (k deep : ℕ) : Type 0 where
-  pub passed : wholeBankTest p W H (length mem) k ≡ none
   pub depth-is : depthOf p W H ≡ deep
   pub below : k < 1024
   pub deep-at-most : deep ≤ 16777216
@@ -32,22 +31,26 @@ pub record BankIn (p : Plan) (W H : ℕ) (mem : List ℕ) (k deep : ℕ) : Type 
   pub end-in-memory : (k + 1) * deep ≤ length mem
 
 module _ {p : Plan} {W H : ℕ} {mem : List ℕ} {k deep : ℕ} where
-  pub bank-in :
-      {answer : Counted} → answer ≡ bankDepth p W H (length mem) k → answer ≡ Counted.Number deep → BankIn p W H mem k deep
+  pub bank-in : IsPicture p W H (length mem) → k < banks p → depthOf p W H ≡ deep → BankIn p W H mem k deep
   unfolding banks
-  bank-in is number =
-      let (passed, depth-is) = bank-shows p W H (length mem) k is number in
-      let (picture, there) = bank-test-iff p W H (length mem) k .0 passed in
-      let below : k < 1024 = omega (arith, picture .plan .most) in
+  bank-in picture there depth-is =
       let most : deep ≤ 16777216 = rw (← depth-is) (depth-at-most p W H (picture .plan) (picture .W-side) (picture .H-side)) in
       record {
-        passed = passed;
         depth-is = depth-is;
-        below = below;
+        below = omega (arith, picture .plan .most);
         deep-at-most = most;
-        end-at-most = mul-le-mul {n₁ = k + 1} {m₁ = deep} {n₂ = 1024} {m₂ = 16777216} (omega arith) most;
+        end-at-most = mul-le-mul {n₁ = k + 1} {m₁ = deep} {n₂ = 1024} {m₂ = 16777216} (omega (arith, picture .plan .most)) most;
         end-in-memory = rw (← depth-is) (omega (arith, bank-in-picture p W H k there, picture .memory));
       }
+
+  -- what `bank_depth` shows
+  pub bank-given :
+      {answer : Counted} → answer ≡ bankDepth p W H (length mem) k → answer ≡ Counted.Number deep
+      → (wholeBankTest p W H (length mem) k ≡ none) × BankIn p W H mem k deep
+  bank-given is number =
+      let (passed, depth-is) = bank-shows p W H (length mem) k is number in
+      let (picture, there) = bank-test-iff p W H (length mem) k .0 passed in
+      (passed, bank-in picture there depth-is)
 
   -- The part is the bank's words, deep of them, from k × deep on.
   module _ (bank : BankIn p W H mem k deep) where

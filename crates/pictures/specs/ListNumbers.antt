@@ -1,5 +1,5 @@
--- Every list of demand 3's calls has numbers: "any finite list, the empty one too, of stores, clears, loads and plain fetches", and of
--- ring fetches (document 02, Card 5).
+-- Every list of demand 3's calls has numbers: "any finite list, the empty one too, of stores, clears, loads and plain fetches", of ring
+-- fetches (document 02, Card 5), and of the calls on the sums (Card 6).
 -- So the code that takes lists in numbers (Lists) leaves none of them out.
 -- Assumes nothing.
 use Prim.Native.Nat.{ℕ, _-_, _*_, _≤_, _<_}
@@ -10,7 +10,7 @@ use mathlib.Core.List.{List, [], _∷_, flatMap, List·Memᴰ}
 use lib.IntN.{ℤ, pos, negsuc}
 use lib.ListN.{length}
 use Rattle.scope.specs.Plans.{Pixel}
-use Rattle.scope.specs.promises.Demand.{store, clear, load, fetch, Call, write, read}
+use Rattle.scope.specs.promises.Demand.{store, clear, makeSums, load, fetch, sum, readSum, Call, write, read}
 use Rattle.pictures.specs.Lists.{callsOf, listTest}
 
 -- two's complement of 16 bits; `negsuc n` is -1 - n
@@ -22,14 +22,19 @@ coordinateNumber (negsuc n) = 65535 - n
 abbrev pub numbersOf : Call → List ℕ
 numbersOf (write (store v x)) = 0 ∷ coordinateNumber (v .column) ∷ coordinateNumber (v .row) ∷ x ∷ 0 ∷ []
 numbersOf (write (clear k)) = 1 ∷ 0 ∷ 0 ∷ k ∷ 0 ∷ []
+numbersOf (write makeSums) = 5 ∷ 0 ∷ 0 ∷ 0 ∷ 0 ∷ []
 numbersOf (read (load v)) = 2 ∷ coordinateNumber (v .column) ∷ coordinateNumber (v .row) ∷ 0 ∷ 0 ∷ []
 numbersOf (read (fetch ring n o out)) = cond ring 4 3 ∷ coordinateNumber (o .column) ∷ coordinateNumber (o .row) ∷ n ∷ length out ∷ []
+numbersOf (read (sum k)) = 6 ∷ 0 ∷ 0 ∷ k ∷ 0 ∷ []
+numbersOf (read (readSum k)) = 7 ∷ 0 ∷ 0 ∷ k ∷ 0 ∷ []
 
 -- a fetch's output, and none of another call
 abbrev pub outputIn : Call → List ℕ
 outputIn (write w) = []
 outputIn (read (load v)) = []
 outputIn (read (fetch ring n o out)) = out
+outputIn (read (sum k)) = []
+outputIn (read (readSum k)) = []
 
 -- a number of 64 bits; a coordinate of 16 bits, -32768 to 32767
 abbrev pub Fits64 : ℕ → Type 0
@@ -48,8 +53,11 @@ pub record PixelFits (v : Pixel) : Type 0 where
 abbrev pub Fits : Call → Type 0
 Fits (write (store v x)) = PixelFits v × (x < 65536)
 Fits (write (clear k)) = Fits64 k
+Fits (write makeSums) = Unit
 Fits (read (load v)) = PixelFits v
 Fits (read (fetch ring n o out)) = PixelFits o × Fits64 n × Fits64 (length out)
+Fits (read (sum k)) = Fits64 k
+Fits (read (readSum k)) = Fits64 k
 
 abbrev pub AllFit : List Call → Type 0
 AllFit calls = (c : Call) → List·Memᴰ c calls → Fits c

@@ -1,25 +1,26 @@
 -- A list of demand 3's calls in numbers, five to a call, and its replies in numbers, twelve to a call.
 --
--- A call is its kind (0 a store, 1 a clear, 2 a load, 3 a plain fetch, 4 a ring fetch), its column and row, its word, bank or
--- pattern, and the room of a fetch. A column or row is the last 16 bits of its number in two's complement; the number is below
--- 65536, also those of a clear, which has no use for them. The fourth number of a load, and the fifth of every call but a fetch,
--- are not looked at. Each fetch has the next `room` words of the outputs as "an output of its own".
+-- A call is its kind (0 a store, 1 a clear, 2 a load, 3 a plain fetch, 4 a ring fetch, 5 the sums made afresh, 6 the walk of a bank, 7 the
+-- reading of its sum), its column and row, its word, bank or pattern, and the room of a fetch. A column or row is the last 16 bits of its
+-- number in two's complement; the number is below 65536, also of a call that has no use for it. The fourth number of a load and of kind 5,
+-- and the fifth of every call but a fetch, are not looked at. Each fetch has the next `room` words of the outputs as "an output of its own".
 -- Assumes nothing.
 use Prim.Native.Nat.{ℕ, zero, suc, _+_, _-_, _*_, _/_, _%_, _<_}
 use mathlib.Core.Path.{_≡_}
 use mathlib.Core.Bool.{Bool, true, false, not, cond, _&&_, _||_}
 use mathlib.Core.Option.{Option, none, some}
-use mathlib.Core.List.{List, [], _∷_, flatMap}
+use mathlib.Core.List.{List, [], _∷_, _++_, flatMap}
 use lib.Dec.{leb, ltb, eqb}
 use lib.IntN.{ℤ, pos, _-ℤ_}
 use lib.ListN.{length, getD, take, drop, replicate}
 use Rattle.scope.specs.Search.{whenever, firstOf}
-use Rattle.scope.specs.Plans.{at, pixels, patternAt}
+use Rattle.scope.specs.Plans.{at, pixels, patternAt, banks}
 use Rattle.scope.specs.Cycles.{LongClash, clashInFor}
 use Rattle.scope.specs.Banks.{overStart}
 use Rattle.scope.specs.Numbers.{Answer, value, refusal}
-use Rattle.scope.specs.Calls.{Result, clashBeside, fetchFirst, fetchStart}
-use Rattle.scope.specs.promises.Demand.{store, clear, load, fetch, Call, write, read, Reply, wrote, loaded, fetched, Setting, after, reply, run, replies}
+use Rattle.scope.specs.Calls.{Result, Lent, lent, sizeOf, clashBeside, fetchFirst, fetchStart}
+use Rattle.scope.specs.promises.Demand.{store, clear, makeSums, load, fetch, sum, readSum, Call, write, read, Reply, wrote, loaded, fetched, summed, Setting, after, reply, run, replies, test}
+use Rattle.scope.specs.promises.SumPromises.{SumsAre, walkingSince}
 use Rattle.scope.specs.declared.Book.{Book}
 use Rattle.scope.specs.declared.Plan.{Plan}
 use Rattle.finder.specs.declared.clash.Suited.{Suited}
@@ -40,10 +41,13 @@ callOf kind i j n out =
     cond (eqb kind 0) (write (store (at (coordinateOf i) (coordinateOf j)) (n % 65536)))
     (cond (eqb kind 1) (write (clear n))
     (cond (eqb kind 2) (read (load (at (coordinateOf i) (coordinateOf j))))
-    (read (fetch (eqb kind 4) n (at (coordinateOf i) (coordinateOf j)) out))))
+    (cond (leb kind 4) (read (fetch (eqb kind 4) n (at (coordinateOf i) (coordinateOf j)) out))
+    (cond (eqb kind 5) (write makeSums)
+    (cond (eqb kind 6) (read (sum n))
+    (read (readSum n)))))))
 
 unfoldable pub roomOf : ℕ → ℕ → ℕ
-roomOf kind room = cond (ltb kind 3) 0 room
+roomOf kind room = cond (ltb kind 3 || ltb 4 kind) 0 room
 
 -- the call of the first five numbers, and its room
 unfoldable pub callAt : List ℕ → List ℕ → Call
@@ -64,9 +68,9 @@ unfoldable pub callsOf : List ℕ → List ℕ → List Call
 unfolding callsFrom
 callsOf xs outs = callsFrom (length xs / 5) xs outs
 
--- The five numbers are those of a call: a kind up to 4, a column, a row and a store's word of 16 bits
+-- The five numbers are those of a call: a kind up to 7, a column, a row and a store's word of 16 bits
 unfoldable pub isCall : ℕ → ℕ → ℕ → ℕ → Bool
-isCall kind i j n = leb kind 4 && ltb i 65536 && ltb j 65536 && (leb 1 kind || ltb n 65536)
+isCall kind i j n = leb kind 7 && ltb i 65536 && ltb j 65536 && (leb 1 kind || ltb n 65536)
 
 unfoldable pub isCallAt : List ℕ → Bool
 unfolding isCall
@@ -116,30 +120,32 @@ unfolding twelve answerNumbers
 replyNumbers (wrote a) = twelve (answerNumbers (λ x. []) a)
 replyNumbers (loaded a) = twelve (answerNumbers (λ n. n ∷ []) a)
 replyNumbers (fetched a out) = twelve (answerNumbers (λ n. n ∷ []) a)
+replyNumbers (summed a) = twelve (answerNumbers (λ n. n ∷ []) a)
 
 -- the output that a fetch leaves
 abbrev pub outputOf : Reply → List ℕ
 outputOf (wrote a) = []
 outputOf (loaded a) = []
 outputOf (fetched a out) = out
+outputOf (summed a) = []
 
 -- What a list of calls is lent, and leaves
 pub record Buffers : Type 0 where
-  pub memory : List ℕ
+  pub picture : Lent
   pub outputs : List ℕ
   pub rows : List ℕ
 
-abbrev pub buffers : List ℕ → List ℕ → List ℕ → Buffers
-buffers mem outs rows = record { memory = mem; outputs = outs; rows = rows }
+abbrev pub buffers : List ℕ → List ℕ → List ℕ → List ℕ → Buffers
+buffers mem sums outs rows = record { picture = lent mem sums; outputs = outs; rows = rows }
 
 -- The calls of the numbers, made one after the other: demand 3's list, its outputs and its replies in numbers
 unfoldable pub madeList : Setting → List ℕ → Buffers → Buffers
 unfolding run replies callsOf flatMap overStart replyNumbers
 madeList g xs b =
     let calls : List Call = callsOf xs (b .outputs) in
-    let given : List Reply = replies g (b .memory) calls in
+    let given : List Reply = replies g (b .picture) calls in
     record {
-      memory = run g (b .memory) calls;
+      picture = run g (b .picture) calls;
       outputs = overStart (flatMap outputOf given) (b .outputs);
       rows = overStart (flatMap replyNumbers given) (b .rows);
     }
@@ -154,6 +160,24 @@ unfolding listTest listedBy leftBy madeList
 runList g xs b =
     let wrong : Option Listed = listTest xs (length (b .outputs)) (length (b .rows)) in
     record { answer = listedBy wrong; content = leftBy wrong b (madeList g xs b) }
+
+-- Document 02, Card 6, of what a list left.
+pub record SumsMet (g : Setting) (calls : List Call) (b left : Buffers) : Type 0 where
+  -- "Entries past N are never touched."
+  pub past : drop (banks (g .plan)) (left .picture .sums) ≡ drop (banks (g .plan)) (b .picture .sums)
+  pub as-long : sizeOf (left .picture) ≡ sizeOf (b .picture)
+  -- After a call that makes the sums afresh and is not turned down, each sum is the walk's figure,
+  pub sums :
+      (before later : List Call) → calls ≡ before ++ (write makeSums ∷ later) → test g (sizeOf (b .picture)) (write makeSums) ≡ none
+      → SumsAre g (left .picture)
+  -- and the replies are those of the list with walks in the place of look-ups since.
+  pub answers :
+      (before later : List Call) → calls ≡ before ++ (write makeSums ∷ later) → test g (sizeOf (b .picture)) (write makeSums) ≡ none
+      → left .rows ≡ overStart (flatMap replyNumbers (replies g (b .picture) (walkingSince before later))) (b .rows)
+
+-- where the list was made
+abbrev pub SumsDemanded : Listed → Setting → List ℕ → Buffers → Buffers → Type 0
+SumsDemanded x g numbers b left = x ≡ Listed.Made → SumsMet g (callsOf numbers (b .outputs)) b left
 
 -- what a fetch of pattern number n begins with, as the code has it: what its tests found, and the positions of the clash
 pub record BegunAt (book : Book) (r : ℕ) (p : Plan) (W H words n : ℕ) (start : Suited) : Type 0 where
@@ -172,9 +196,10 @@ abbrev pub stretchAfter : Reply → List ℕ → List ℕ
 stretchAfter (wrote a) old = old
 stretchAfter (loaded a) old = old
 stretchAfter (fetched a out) old = out
+stretchAfter (summed a) old = old
 
--- One call was made: its reply's numbers, the memory and its output.
-pub record OneMade (g : Setting) (mem : List ℕ) (c : Call) (old row next out : List ℕ) : Type 0 where
-  pub row-is : row ≡ replyNumbers (reply g mem c)
-  pub memory-is : next ≡ after g mem c
-  pub output-is : out ≡ stretchAfter (reply g mem c) old
+-- One call was made: its reply's numbers, the memory and the sums, and its output.
+pub record OneMade (g : Setting) (l : Lent) (c : Call) (old row : List ℕ) (next : Lent) (out : List ℕ) : Type 0 where
+  pub row-is : row ≡ replyNumbers (reply g l c)
+  pub picture-is : next ≡ after g l c
+  pub output-is : out ≡ stretchAfter (reply g l c) old

@@ -1,8 +1,10 @@
-// Clear and sum a bank, which is lent on as its own stretch of the memory.
+// Clear a bank with its sum, and walk a bank, which is lent on as its own stretch of the memory.
 use crate::places::bank_depth;
+use crate::places::lent_depth;
 use scope::Counted;
 use scope::Outcome;
 use scope::Plan;
+use scope::Refusal;
 ghost use mathlib.Core.Path.{_≡_};
 ghost use mathlib.Core.List.{foldr};
 ghost use Prim.Native.Nat.{_+_, _≤_};
@@ -20,16 +22,21 @@ fn clear_words(words: &mut [u16])
     }
 }
 
-// Clears bank k, or 11, 12, 13, 15 and the memory as it was.
-pub fn clear(p: Plan, w: u32, h: u32, mem: &mut [u16], k: u64) -> Outcome
-    ensures { λ r. ⌜ (r ≡ clear p w h (lent (now (mem .entry))) k .answer) × (now (mem .exit) ≡ clear p w h (lent (now (mem .entry))) k .content .memory) ⌝ }
+// Clears bank k and its sum, or 11, 12, 13, 15 and the memory and the sums as they were.
+pub fn clear(p: Plan, w: u32, h: u32, mem: &mut [u16], sums: &mut [u64], k: u64) -> Outcome
+    ensures answer { λ r. ⌜ r ≡ clear p w h (lent (now (mem .entry)) (now (sums .entry))) k .answer ⌝ }
+    ensures left { λ r. ⌜ lent (now (mem .exit)) (now (sums .exit)) ≡ clear p w h (lent (now (mem .entry)) (now (sums .entry))) k .content ⌝ }
 {
-    let depth = bank_depth(p, w, h, mem.len(), k);
+    let depth = lent_depth(p, w, h, mem.len(), sums.len());
     match depth {
         Counted::Number(deep) => {
+            if p.banks() <= k {
+                return Outcome::Refused(Refusal::Cell);
+            }
             let start = (k * deep) as usize;
             let end = ((k + 1) * deep) as usize;
             clear_words(&mut mem[start..end]);
+            sums[k as usize] = 0;
             Outcome::Done
         }
         Counted::Refused(r) => Outcome::Refused(r),
@@ -37,7 +44,7 @@ pub fn clear(p: Plan, w: u32, h: u32, mem: &mut [u16], k: u64) -> Outcome
 }
 
 // The exact sum of at most 2^24 words.
-fn sum_words(words: &[u16]) -> u64
+pub(crate) fn sum_words(words: &[u16]) -> u64
     requires { ⌜ length (now words) ≤ 16777216 ⌝ }
     ensures { λ r. ⌜ r ≡ foldr _+_ 0 (now (words .entry)) ⌝ }
 {

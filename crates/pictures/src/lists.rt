@@ -1,13 +1,17 @@
-// A list of demand 3's calls in numbers, made one after the other. The book, and whether the plan suits each pattern, are
+// A list of calls in numbers, made one after the other. The book, and whether the plan suits each pattern, are
 // tested once.
 use crate::banks::clear;
+use crate::banks::sum;
 use crate::fetching::fetch_rest;
 use crate::fetching::start_answer;
 use crate::places::picture_outcome;
+use crate::rows::counted_row;
 use crate::rows::fetched_row;
 use crate::rows::loaded_row;
 use crate::rows::outcome_row;
 use crate::rows::put_row;
+use crate::sums::make_sums;
+use crate::sums::read_sum;
 use crate::words::load;
 use crate::words::store;
 use book::entry_number;
@@ -20,12 +24,13 @@ use scope::Pattern;
 use scope::Plan;
 ghost use mathlib.Core.Path.{_≡_};
 ghost use mathlib.Core.Option.{none};
-ghost use Prim.Native.Nat.{_*_, _/_, _≤_, min};
+ghost use mathlib.Core.List.{List};
+ghost use Prim.Native.Nat.{ℕ, _*_, _/_, _≤_, _<_, min};
 ghost use lib.ListN.{length};
 ghost use Rattle.scope.specs.declared.Book.{Book};
-ghost use Rattle.scope.specs.Calls.{pictureTest};
+ghost use Rattle.scope.specs.Calls.{lent, pictureTest};
 ghost use Rattle.pictures.specs.Fetching.{foundBy, entryFor};
-ghost use Rattle.pictures.specs.Lists.{setting, coordinateOf, callOf, roomOf, isCall, listFault, listTest, listedBy, buffers, madeList, runList, BegunAt, Begun, OneMade};
+ghost use Rattle.pictures.specs.Lists.{setting, coordinateOf, callOf, roomOf, isCall, listFault, listTest, listedBy, buffers, madeList, runList, SumsDemanded, BegunAt, Begun, OneMade};
 
 // What came of a list: it was made, or it was not and nothing changed, because the numbers from this place on are no call's, or
 // because the outputs or the replies are too short.
@@ -51,14 +56,17 @@ fn coordinate(x: u64) -> i16
 fn room_of(kind: u64, room: u64) -> u64
     ensures { λ r. ⌜ r ≡ roomOf kind room ⌝ }
 {
-    if kind < 3 { 0 } else { room }
+    if kind < 3 {
+        return 0;
+    }
+    if kind < 5 { room } else { 0 }
 }
 
 // Whether these are the numbers of a call.
 fn is_call(kind: u64, i: u64, j: u64, n: u64) -> bool
     ensures { λ r. ⌜ r ≡ isCall kind i j n ⌝ }
 {
-    if 4 < kind {
+    if 7 < kind {
         return false;
     }
     if 65535 < i {
@@ -141,6 +149,20 @@ fn start_number(n: u64) -> usize
     if n < 16 { n as usize } else { 16 }
 }
 
+// Makes a call on the sums, of kind 5, 6 or 7: makes them afresh, walks bank n, or reads its sum.
+fn sums_call(p: Plan, w: u32, h: u32, mem: &[u16], sums: &mut [u64], kind: u64, n: u64) -> [u64; 12]
+    requires { ⌜ 4 < kind ⌝ }
+    ensures { λ x. ⌜ ((book : Book) (r i j : ℕ) (out : List ℕ) → OneMade (setting book r p w h) (lent (now (mem .entry)) (now (sums .entry))) (callOf kind i j n out) out x (lent (now (mem .entry)) (now (sums .exit))) out) ⌝ }
+{
+    if kind == 5 {
+        return outcome_row(make_sums(p, w, h, mem, sums));
+    }
+    if kind == 6 {
+        return counted_row(sum(p, w, h, mem, n));
+    }
+    counted_row(read_sum(p, sums, n))
+}
+
 // Makes the call of these numbers. Only a fetch uses the output, what it begins with and the record of its pattern.
 fn make_call(
     start: Suited,
@@ -150,6 +172,7 @@ fn make_call(
     w: u32,
     h: u32,
     mem: &mut [u16],
+    sums: &mut [u64],
     kind: u64,
     i: u64,
     j: u64,
@@ -157,15 +180,18 @@ fn make_call(
     out: &mut [u16],
 ) -> [u64; 12]
     requires { ⌜ (foundBy (start .outcome) ≡ none → (pictureTest p w h (length (now mem)) ≡ none) × (t .used ≤ 64)) × (length (start .positions) ≡ 9) ⌝ }
-    ensures { λ x. ⌜ ((book : Book) → BegunAt book r p w h (length (now (mem .entry))) n start → t ≡ entryFor book n → OneMade (setting book r p w h) (now (mem .entry)) (callOf kind i j n (now (out .entry))) (now (out .entry)) x (now (mem .exit)) (now (out .exit))) ⌝ }
+    ensures { λ x. ⌜ ((book : Book) → BegunAt book r p w h (length (now (mem .entry))) n start → t ≡ entryFor book n → OneMade (setting book r p w h) (lent (now (mem .entry)) (now (sums .entry))) (callOf kind i j n (now (out .entry))) (now (out .entry)) x (lent (now (mem .exit)) (now (sums .exit))) (now (out .exit))) ⌝ }
 {
     if kind == 1 {
-        return outcome_row(clear(p, w, h, mem, n));
+        return outcome_row(clear(p, w, h, mem, sums, n));
+    }
+    if 4 < kind {
+        return sums_call(p, w, h, mem, sums, kind, n);
     }
     let x = coordinate(i);
     let y = coordinate(j);
     if kind == 0 {
-        return outcome_row(store(p, w, h, mem, x, y, (n % 65536) as u16));
+        return outcome_row(store(p, w, h, mem, sums, x, y, (n % 65536) as u16));
     }
     if kind == 2 {
         return loaded_row(load(p, w, h, mem, x, y));
@@ -185,12 +211,13 @@ fn make_calls(
     w: u32,
     h: u32,
     mem: &mut [u16],
+    sums: &mut [u64],
     numbers: &[u64],
     outs: &mut [u16],
     rows: &mut [u64],
 )
     requires { ⌜ Begun book r p w h (length (now mem)) starts × (listFault (length (now numbers) / 5) 0 (now numbers) (length (now outs)) ≡ none) × (12 * (length (now numbers) / 5) ≤ length (now rows)) ⌝ }
-    ensures { λ x. ⌜ buffers (now (mem .exit)) (now (outs .exit)) (now (rows .exit)) ≡ madeList (setting book r p w h) (now (numbers .entry)) (buffers (now (mem .entry)) (now (outs .entry)) (now (rows .entry))) ⌝ }
+    ensures { λ x. ⌜ buffers (now (mem .exit)) (now (sums .exit)) (now (outs .exit)) (now (rows .exit)) ≡ madeList (setting book r p w h) (now (numbers .entry)) (buffers (now (mem .entry)) (now (sums .entry)) (now (outs .entry)) (now (rows .entry))) ⌝ }
 {
     let mut left = numbers.len() / 5;
     let mut k = 0;
@@ -212,6 +239,7 @@ fn make_calls(
             w,
             h,
             mem,
+            sums,
             kind,
             numbers[k + 1],
             numbers[k + 2],
@@ -226,8 +254,8 @@ fn make_calls(
     }
 }
 
-// Makes a list of calls on a picture, five numbers to a call, each on the memory as the one before left it, and puts twelve
-// numbers to a reply.
+// Makes a list of calls on a picture, five numbers to a call, each on the memory and the sums as the one before left them, and puts
+// twelve numbers to a reply. After a call that makes the sums afresh and is not turned down, each sum is the walk's figure.
 pub fn run_list(
     book: Book,
     r: u32,
@@ -235,17 +263,19 @@ pub fn run_list(
     w: u32,
     h: u32,
     mem: &mut [u16],
+    sums: &mut [u64],
     numbers: &[u64],
     outs: &mut [u16],
     rows: &mut [u64],
 ) -> Listed
-    ensures answer { λ x. ⌜ x ≡ runList (setting book r p w h) (now (numbers .entry)) (buffers (now (mem .entry)) (now (outs .entry)) (now (rows .entry))) .answer ⌝ }
-    ensures left { λ x. ⌜ buffers (now (mem .exit)) (now (outs .exit)) (now (rows .exit)) ≡ runList (setting book r p w h) (now (numbers .entry)) (buffers (now (mem .entry)) (now (outs .entry)) (now (rows .entry))) .content ⌝ }
+    ensures answer { λ x. ⌜ x ≡ runList (setting book r p w h) (now (numbers .entry)) (buffers (now (mem .entry)) (now (sums .entry)) (now (outs .entry)) (now (rows .entry))) .answer ⌝ }
+    ensures left { λ x. ⌜ buffers (now (mem .exit)) (now (sums .exit)) (now (outs .exit)) (now (rows .exit)) ≡ runList (setting book r p w h) (now (numbers .entry)) (buffers (now (mem .entry)) (now (sums .entry)) (now (outs .entry)) (now (rows .entry))) .content ⌝ }
+    ensures kept { λ x. ⌜ SumsDemanded x (setting book r p w h) (now (numbers .entry)) (buffers (now (mem .entry)) (now (sums .entry)) (now (outs .entry)) (now (rows .entry))) (buffers (now (mem .exit)) (now (sums .exit)) (now (outs .exit)) (now (rows .exit))) ⌝ }
 {
     let outcome = list_outcome(numbers, outs.len(), rows.len());
     if let Listed::Made = outcome {
         let starts = starts_of(book, r, p, w, h, mem.len());
-        make_calls(book, starts, r, p, w, h, mem, numbers, outs, rows);
+        make_calls(book, starts, r, p, w, h, mem, sums, numbers, outs, rows);
     }
     outcome
 }

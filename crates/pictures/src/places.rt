@@ -1,4 +1,4 @@
-// Where a word or a bank stands in a memory of so many words.
+// Where a word or a bank stands in a memory of so many words, with so many entries for the sums.
 use scope::Counted;
 use scope::Outcome;
 use scope::Plan;
@@ -7,7 +7,7 @@ ghost use mathlib.Core.Path.{_≡_};
 ghost use Rattle.scope.specs.Plans.{at};
 ghost use Rattle.scope.specs.Calls.{pictureTest};
 ghost use Rattle.book.specs.Scan.{outcomeOf};
-ghost use Rattle.pictures.specs.Places.{pictureDepth, wordPlace, bankDepth};
+ghost use Rattle.pictures.specs.Places.{pictureDepth, lentDepth, wordPlace, bankDepth};
 
 // The depth of a picture that the memory holds, or 11, 12, 13.
 fn picture_depth(p: Plan, w: u32, h: u32, words: usize) -> Counted
@@ -16,6 +16,19 @@ fn picture_depth(p: Plan, w: u32, h: u32, words: usize) -> Counted
     let answer = p.depth(w, h);
     if let Counted::Number(depth) = answer {
         if (words as u64) < p.banks() * depth {
+            return Counted::Refused(Refusal::Memory);
+        }
+    }
+    answer
+}
+
+// The same with so many entries for the sums: 11, 12, 13, also where they are too few.
+pub(crate) fn lent_depth(p: Plan, w: u32, h: u32, words: usize, entries: usize) -> Counted
+    ensures { λ r. ⌜ r ≡ lentDepth p w h (record { words = words; entries = entries }) ⌝ }
+{
+    let answer = picture_depth(p, w, h, words);
+    if let Counted::Number(_) = answer {
+        if (entries as u64) < p.banks() {
             return Counted::Refused(Refusal::Memory);
         }
     }

@@ -11,7 +11,7 @@ ghost use mathlib.Core.List.{List, [], _∷_};
 ghost use Prim.Native.Nat.{ℕ, suc, _≤_};
 ghost use lib.ListN.{length, take};
 ghost use Rattle.scope.specs.Banks.{overStart};
-ghost use Rattle.scope.specs.Numbers.{turnedDown, withPositions, ofLoaded, ofOutcome, ofFetch};
+ghost use Rattle.scope.specs.Numbers.{turnedDown, withPositions, ofCounted, ofLoaded, ofOutcome, ofFetch};
 ghost use Rattle.pictures.specs.Lists.{answerNumbers, twelve};
 
 // A refusal's number, its place and, of 10, its clash.
@@ -56,6 +56,16 @@ pub(crate) fn loaded_row(l: Loaded) -> [u64; 12]
     match l {
         Loaded::Word(x) => value_row(x as u64),
         Loaded::Refused(r) => refusal_row(r),
+    }
+}
+
+// A number, or the refusal.
+pub(crate) fn counted_row(c: Counted) -> [u64; 12]
+    ensures { λ row. ⌜ row ≡ twelve (answerNumbers (λ n. n ∷ []) (ofCounted c)) ⌝ }
+{
+    match c {
+        Counted::Number(x) => value_row(x),
+        Counted::Refused(r) => refusal_row(r),
     }
 }
 

@@ -13,7 +13,6 @@ use Rattle.scope.specs.Numbers.{isSide, planTest, sidesTest, outsideTest
 use Rattle.scope.specs.Calls.{answered, addressTest}
 use Rattle.scope.specs.declared.Plan.{Plan}
 use Rattle.scope.specs.declared.Refusal.{Refusal}
-use Rattle.scope.specs.declared.Counted.{Counted}
 use Rattle.scope.specs.declared.Outcome.{Outcome}
 use Rattle.scope.specs.declared.Refusal.the-variants.{NotPlan, Sides, Outside}
 use Rattle.scope.proofs.Chains.{whenever-none, none-whenever, some-whenever, chain-none-iff, chain-refuses, chain-goes-on, chain-of-one}
@@ -128,15 +127,17 @@ module _ (p : Plan) (W H : ℕ) (v : Pixel) where
       → (isPlan p ≡ true) × (isSide W && isSide H ≡ true) × (inside W H v ≡ true)
   pixel-done is e = pixel-passed (done-found-nothing (addressTest p W H v) is e)
 
--- What a call by the three, which was handed u for v, answers: the refusal that they found, or a number.
-module _ (p : Plan) (W H : ℕ) {v u : Pixel} (same : u ≡ v) {o : Outcome} (is : o ≡ pixelOutcome p W H u) (number : Pixel → ℕ) where
-  abbrev told : Counted
-  told = answered (addressTest p W H v) Counted.Refused (Counted.Number (number v))
+-- What a call by the three, which was handed u for v, answers: the refusal that they found, or its value.
+module _
+    {A X : Type 0} (p : Plan) (W H : ℕ) {v u : Pixel} (same : u ≡ v) {o : Outcome} (is : o ≡ pixelOutcome p W H u)
+    (refused : Refusal → A) (given : X → A) (f : Pixel → X)
+  where
+    abbrev told : A
+    told = answered (addressTest p W H v) refused (given (f v))
 
-  pub refusal-told : {r : Refusal} → o ≡ Outcome.Refused r → Counted.Refused r ≡ told
-  refusal-told e = gives-refusal (rw same at (refused-found (addressTest p W H u) is e)) Counted.Refused (Counted.Number (number v))
+    pub refusal-told : {r : Refusal} → o ≡ Outcome.Refused r → refused r ≡ told
+    refusal-told e = gives-refusal (rw same at (refused-found (addressTest p W H u) is e)) refused (given (f v))
 
-  pub number-told : {n : ℕ} → o ≡ Outcome.Done → n ≡ number u → Counted.Number n ≡ told
-  number-told e n-is =
-      gives-value (rw same at (done-found-nothing (addressTest p W H u) is e)) Counted.Refused
-      (ap Counted.Number (n-is ∙ ap number same))
+    pub value-told : {x : X} → o ≡ Outcome.Done → x ≡ f u → given x ≡ told
+    value-told e x-is =
+        gives-value (rw same at (done-found-nothing (addressTest p W H u) is e)) refused (ap given (x-is ∙ ap f same))

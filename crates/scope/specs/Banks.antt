@@ -1,13 +1,14 @@
--- Document 01, "Banks and addresses": where a pixel's word stands.
+-- Document 01, "Banks and addresses": where a pixel's word stands. Document 02, Card 6: the sums of the banks.
 -- Assumes nothing.
-use Prim.Native.Nat.{ℕ, _+_, _*_, _/_, _%_}
+use Prim.Native.Nat.{ℕ, _+_, _*_, _/_, _%_, _^_}
 use mathlib.Core.Bool.{Bool, true, false, _&&_}
 use mathlib.Core.List.{List, [], _∷_, _++_, foldr}
 use lib.Dec.{ltb}
 use lib.IntN.{ℤ, pos, negsuc, natAbs, _+ℤ_, _-ℤ_, _*ℤ_}
 use lib.ListN.{length, getD, take, drop, replicate, set}
 use Rattle.integers.specs.Division.{floorDiv, floorMod, ceilDiv}
-use Rattle.scope.specs.Plans.{Pixel}
+use Rattle.scope.specs.Search.{gather}
+use Rattle.scope.specs.Plans.{Pixel, banks}
 use Rattle.scope.specs.declared.Plan.{Plan}
 
 -- "j = q × d + r with 0 ≤ r < d, q rounded down"
@@ -94,6 +95,26 @@ bankSum p W H mem k = foldr _+_ 0 (bankWords p W H mem k)
 -- xs "at the start of a lent output, the rest unchanged"
 unfoldable pub overStart : List ℕ → List ℕ → List ℕ
 overStart xs out = xs ++ drop (length xs) out
+
+-- Document 02, Card 6, "a second lent buffer of N 64-bit numbers". "A store takes the old word off its bank's sum and adds the new one,
+-- modulo 2^64"
+unfoldable pub exchanged : ℕ → ℕ → ℕ → ℕ
+unfolding floorMod
+exchanged sum old new = floorMod (pos sum -ℤ pos old +ℤ pos new) (2 ^ 64)
+
+unfoldable pub sumsAfterStore : Plan → ℕ → ℕ → List ℕ → List ℕ → Pixel → ℕ → List ℕ
+unfolding bankOf exchanged wordIn
+sumsAfterStore p W H mem sums v x =
+    set sums (bankOf p v) (exchanged (getD sums (bankOf p v) 0) (wordIn p W H mem v) x)
+
+-- "a clear sets 0"
+unfoldable pub sumsAfterClear : List ℕ → ℕ → List ℕ
+sumsAfterClear sums k = set sums k 0
+
+-- "A call that makes them afresh from the memory"; "Entries past N are never touched."
+unfoldable pub freshSums : Plan → ℕ → ℕ → List ℕ → List ℕ → List ℕ
+unfolding overStart gather banks bankSum
+freshSums p W H mem sums = overStart (gather 0 (banks p) (bankSum p W H mem)) sums
 
 -- "A ring fetch reduces columns modulo W and rows modulo H."
 unfoldable pub wrapped : ℕ → ℕ → Pixel → Pixel

@@ -1,20 +1,20 @@
 -- Every call of document 01: the checks that concern it, in the order "book 1-5, 6, 8, 9, 11, 12, 13, 17, then 10, 18, 14,
 -- 15, 16, with 7 last", its answer, and the final content of what it was lent. "buffers and lists stay unchanged" on a refusal.
 -- Document 02, Card 3: 19 is tested among the checks of the book, "wherever a book is taken". Card 4: "20, r outside 1 to 8, just
--- after 6".
+-- after 6". Card 6: 13 is tested for the sums too, by the calls that are lent them.
 -- Assumes nothing.
 use Prim.Native.Nat.{ℕ, _+_, _-_}
 use mathlib.Core.Bool.{Bool, true, false}
 use mathlib.Core.Option.{Option, none, some}
 use mathlib.Core.List.{List, [], _∷_, map}
-use lib.ListN.{length}
+use lib.ListN.{length, getD}
 use Rattle.scope.specs.Search.{firstOf}
 use Rattle.scope.specs.Plans.{Pixel, plus, pixels, patterns, patternAt, banks, normalForm}
 use Rattle.scope.specs.Finding.{leastOf}
 use Rattle.scope.specs.Cycles.{LongClash, shortened, suitsAllFor, leastPlanFor, leastCountFor, cycles, clashInFor, clashFor}
-use Rattle.scope.specs.Banks.{bankOf, addressOf, depthOf, pixelOf, wordIn, afterStore, afterClear, bankSum, overStart, wrapped}
+use Rattle.scope.specs.Banks.{bankOf, addressOf, depthOf, pixelOf, wordIn, afterStore, afterClear, bankSum, sumsAfterStore, sumsAfterClear, freshSums, overStart, wrapped}
 use Rattle.scope.specs.Books.{byte, start, partIn, bookIn, bookOf, bookBytes}
-use Rattle.scope.specs.Numbers.{bytesTest, recordTest, limitTest, cyclesTest, dependentTest, largeTest, suitsTest, planTest, sidesTest, memoryTest, outsideTest, bankTest, cellTest, outputTest, numberTest, ringTest, places}
+use Rattle.scope.specs.Numbers.{bytesTest, recordTest, limitTest, cyclesTest, dependentTest, largeTest, suitsTest, planTest, sidesTest, memoryTest, sumsTest, outsideTest, bankTest, cellTest, outputTest, numberTest, ringTest, places}
 use Rattle.scope.specs.declared.Plan.{Plan}
 use Rattle.scope.specs.declared.Book.{Book}
 use Rattle.scope.specs.declared.Pattern.{Pattern}
@@ -169,43 +169,80 @@ unfoldable pub pictureTest : Plan → ℕ → ℕ → ℕ → Option Refusal
 unfolding firstOf planTest sidesTest memoryTest
 pictureTest p W H words = firstOf (planTest p ∷ sidesTest W H ∷ memoryTest p W H words ∷ [])
 
--- What a call that writes a picture is lent, and leaves
+-- What a call that writes a picture is lent, and leaves: the memory, and the banks' sums (document 02, Card 6)
 pub record Lent : Type 0 where
   pub memory : List ℕ
+  pub sums : List ℕ
 
-abbrev pub lent : List ℕ → Lent
-lent mem = record { memory = mem }
+abbrev pub lent : List ℕ → List ℕ → Lent
+lent mem sums = record { memory = mem; sums = sums }
 
--- Store and load a word: 11, 12, 13, 14.
+-- and the lengths of both
+pub record Size : Type 0 where
+  pub words : ℕ
+  pub entries : ℕ
+
+abbrev pub sizeOf : Lent → Size
+sizeOf l = record { words = length (l .memory); entries = length (l .sums) }
+
+-- The tests that those calls begin with: 11, 12, 13. "A sums buffer shorter than N is a case of 13, tested with the memory."
+unfoldable pub lentTest : Plan → ℕ → ℕ → Size → Option Refusal
+unfolding firstOf pictureTest sumsTest
+lentTest p W H s = firstOf (pictureTest p W H (s .words) ∷ sumsTest p (s .entries) ∷ [])
+
+-- Load a word: 11, 12, 13, 14. Store one: the same, with 13 for the sums too.
 unfoldable pub wordTest : Plan → ℕ → ℕ → ℕ → Pixel → Option Refusal
 unfolding firstOf pictureTest outsideTest
 wordTest p W H words v = firstOf (pictureTest p W H words ∷ outsideTest W H (v ∷ []) ∷ [])
 
+unfoldable pub storeTest : Plan → ℕ → ℕ → Size → Pixel → Option Refusal
+unfolding firstOf lentTest outsideTest
+storeTest p W H s v = firstOf (lentTest p W H s ∷ outsideTest W H (v ∷ []) ∷ [])
+
 unfoldable pub store : Plan → ℕ → ℕ → Lent → Pixel → ℕ → Result Outcome Lent
-unfolding changed wordTest afterStore
+unfolding changed storeTest afterStore sumsAfterStore
 store p W H l v x =
-    changed (wordTest p W H (length (l .memory)) v) Outcome.Refused l Outcome.Done
-    (record { memory = afterStore p W H (l .memory) v x })
+    changed (storeTest p W H (sizeOf l) v) Outcome.Refused l Outcome.Done
+    (lent (afterStore p W H (l .memory) v x) (sumsAfterStore p W H (l .memory) (l .sums) v x))
 
 unfoldable pub load : Plan → ℕ → ℕ → List ℕ → Pixel → Loaded
 unfolding answered wordTest wordIn
 load p W H mem v = answered (wordTest p W H (length mem) v) Loaded.Refused (Loaded.Word (wordIn p W H mem v))
 
--- Clear bank k, and the sum of bank k: 11, 12, 13, 15.
+-- The sum of bank k, by a walk: 11, 12, 13, 15. Clear bank k: the same, with 13 for the sums too.
 unfoldable pub wholeBankTest : Plan → ℕ → ℕ → ℕ → ℕ → Option Refusal
 unfolding firstOf pictureTest bankTest
 wholeBankTest p W H words k = firstOf (pictureTest p W H words ∷ bankTest p k ∷ [])
 
+unfoldable pub clearTest : Plan → ℕ → ℕ → Size → ℕ → Option Refusal
+unfolding firstOf lentTest bankTest
+clearTest p W H s k = firstOf (lentTest p W H s ∷ bankTest p k ∷ [])
+
 unfoldable pub clear : Plan → ℕ → ℕ → Lent → ℕ → Result Outcome Lent
-unfolding changed wholeBankTest afterClear
+unfolding changed clearTest afterClear sumsAfterClear
 clear p W H l k =
-    changed (wholeBankTest p W H (length (l .memory)) k) Outcome.Refused l Outcome.Done
-    (record { memory = afterClear p W H (l .memory) k })
+    changed (clearTest p W H (sizeOf l) k) Outcome.Refused l Outcome.Done
+    (lent (afterClear p W H (l .memory) k) (sumsAfterClear (l .sums) k))
 
 unfoldable pub sum : Plan → ℕ → ℕ → List ℕ → ℕ → Counted
 unfolding answered wholeBankTest bankSum
 sum p W H mem k =
     answered (wholeBankTest p W H (length mem) k) Counted.Refused (Counted.Number (bankSum p W H mem k))
+
+-- "A call that makes them afresh from the memory is there for start-up": 11, 12, 13.
+unfoldable pub makeSums : Plan → ℕ → ℕ → Lent → Result Outcome Lent
+unfolding changed lentTest freshSums
+makeSums p W H l =
+    changed (lentTest p W H (sizeOf l)) Outcome.Refused l Outcome.Done (lent (l .memory) (freshSums p W H (l .memory) (l .sums)))
+
+-- "reading one is a call of its own, a look-up that tests 11, 13 for the sums and 15 for the bank"
+unfoldable pub readSumTest : Plan → ℕ → ℕ → Option Refusal
+unfolding firstOf planTest sumsTest bankTest
+readSumTest p entries k = firstOf (planTest p ∷ sumsTest p entries ∷ bankTest p k ∷ [])
+
+unfoldable pub readSum : Plan → List ℕ → ℕ → Counted
+unfolding answered readSumTest
+readSum p sums k = answered (readSumTest p (length sums) k) Counted.Refused (Counted.Number (getD sums k 0))
 
 -- "a pattern with (0, 0) moved to a signed 16-bit position", to position o, "in the book's pixel order"
 unfoldable pub moved : Pattern → Pixel → List Pixel

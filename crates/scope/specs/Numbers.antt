@@ -231,6 +231,11 @@ unfoldable pub memoryTest : Plan → ℕ → ℕ → ℕ → Option Refusal
 unfolding whenever banks depthOf
 memoryTest p W H words = whenever (ltb words (banks p * depthOf p W H)) Memory
 
+-- 13 too (document 02, Card 6): "A sums buffer shorter than N is a case of 13, tested with the memory"; `entries` is its length
+unfoldable pub sumsTest : Plan → ℕ → Option Refusal
+unfolding whenever banks
+sumsTest p entries = whenever (ltb entries (banks p)) Memory
+
 -- 14: "pixel outside the picture", for any of a list of pixels
 unfoldable pub outsideTest : ℕ → ℕ → List Pixel → Option Refusal
 unfolding whenever every inside

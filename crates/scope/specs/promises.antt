@@ -1,6 +1,7 @@
 -- What is promised of the definitions, in the order to read it.
 pub mod Meaning  -- lists and tests in plain numbers; a legal call is never refused
 pub mod Demand  -- demand 3: a list of calls and the claim over it
+pub mod SumPromises  -- document 02, Card 6: the sums of the banks over a list of calls
 pub mod CyclePromises  -- document 02, Card 4: plans for r cycles, the least of them, cycles, the longer clash
 pub mod PlanPromises  -- normal form, finder and check
 pub mod PicturePromises  -- banks, addresses and the calls on a picture

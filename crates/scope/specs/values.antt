@@ -10,6 +10,7 @@ pub mod CallCycleEdges  -- rows on the calls for r
 pub mod CycleOrderEdges  -- rows on the call that writes cycles, and on the order of the checks at r above 1
 pub mod PictureEdges  -- further rows on the calls on a picture
 pub mod RingEdges  -- rows on ring fetches in a list of calls
+pub mod SumEdges  -- rows on the sums of the banks, and the claim on them read off
 pub mod OneCycleEdges  -- rows on the calls as they were without r
 pub mod DemandExample  -- demand 3 read off in three small pictures
 pub mod DemandCyclesExample  -- demand 3 read off at r = 2

@@ -1,5 +1,6 @@
 // Document 01's formulas for a plan, past the tests of the calls: what these have shown is what a formula requires.
 use crate::Located;
+use crate::Place;
 use crate::Plan;
 use crate::Refusal;
 use integers::quotient;
@@ -109,16 +110,17 @@ pub(crate) fn address_number(p: Plan, w: u32, h: u32, i: i16, j: i16) -> u64
     address_in(p, w, h, i as u32, divided(j as u32, p.d))
 }
 
-// The word of the pixel in column i and row j of a picture of width w and height h: its bank and address, with one division of
-// the row for both.
-pub(crate) fn word_number(p: Plan, w: u32, h: u32, i: i16, j: i16) -> u64
+// The bank of the pixel in column i and row j of a picture of width w and height h, and its word: its bank and address, with one
+// division of the row for both.
+pub(crate) fn place_numbers(p: Plan, w: u32, h: u32, i: i16, j: i16) -> Place
     requires { ⌜ (isPlan p ≡ true) × (isSide w && isSide h ≡ true) × (inside w h (at i j) ≡ true) ⌝ }
-    ensures { λ r. ⌜ r ≡ wordOf p w h (at i j) ⌝ }
+    ensures { λ r. ⌜ (r .bank ≡ bankOf p (at i j)) × (r .word ≡ wordOf p w h (at i j)) ⌝ }
 {
     let y = j as u32;
     let q = divided(y, p.d);
     let bank = bank_in(p, i, q as i32, y - q * p.d);
-    bank * depth_number(p, w, h) + address_in(p, w, h, i as u32, q)
+    let word = bank * depth_number(p, w, h) + address_in(p, w, h, i as u32, q);
+    Place { bank, word }
 }
 
 // The pixel of bank k and address i in a picture of width w and height h, or 15. Before the last test its column and row

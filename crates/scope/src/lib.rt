@@ -88,7 +88,7 @@ pub enum Planned {
     Refused(Refusal),
 }
 
-// The answer of the bank, the depth, the address and the sum, and of the writer and the fetches, which count what they put.
+// The answer of the bank, the depth, the address and both calls for a sum, and of the writer and the fetches, which count what they put.
 pub enum Counted {
     Number(u64),
     Refused(Refusal),
@@ -103,6 +103,18 @@ pub enum Loaded {
 // The answer of the reverse map: column and row.
 pub enum Located {
     Pixel(i16, i16),
+    Refused(Refusal),
+}
+
+// A pixel's bank, and its word in the memory.
+pub struct Place {
+    pub bank: u64,
+    pub word: u64,
+}
+
+// The answer where a plan is asked for both.
+pub enum Placed {
+    At(Place),
     Refused(Refusal),
 }
 

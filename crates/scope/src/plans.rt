@@ -1,8 +1,9 @@
-// A plan's methods: whether it is one, its bank count, and the calls bank, depth, address, word and reverse map, each of which
+// A plan's methods: whether it is one, its bank count, and the calls bank, depth, address, place, word and reverse map, each of which
 // tests the plan and the sides itself.
 use crate::Counted;
 use crate::Located;
 use crate::Outcome;
+use crate::Placed;
 use crate::Plan;
 use crate::Refusal;
 use crate::formulas::address_number;
@@ -10,15 +11,15 @@ use crate::formulas::are_sides;
 use crate::formulas::bank_number;
 use crate::formulas::depth_number;
 use crate::formulas::is_inside;
+use crate::formulas::place_numbers;
 use crate::formulas::reverse_map;
-use crate::formulas::word_number;
 ghost use mathlib.Core.Path.{_≡_};
 ghost use mathlib.Core.List.{[], _∷_};
 ghost use Rattle.scope.specs.Search.{firstOf};
 ghost use Rattle.scope.specs.Plans.{at, isPlan, banks};
 ghost use Rattle.scope.specs.Numbers.{planTest, sidesTest};
 ghost use Rattle.scope.specs.Calls.{answered, bank, depth, addressTest, address, locate};
-ghost use Rattle.scope.specs.code.Words.{word};
+ghost use Rattle.scope.specs.code.Words.{place, word};
 
 impl Plan {
     // Whether it is a plan as defined.
@@ -97,14 +98,25 @@ impl Plan {
         Counted::Number(address_number(self, w, h, i, j))
     }
 
-    // The word of a pixel in the memory of a picture of width w and height h, or 11, 12, 14.
+    // The bank of a pixel and its word in the memory of a picture of width w and height h, or 11, 12, 14.
+    pub fn place(self, w: u32, h: u32, i: i16, j: i16) -> Placed
+        ensures { λ r. ⌜ r ≡ place self w h (at i j) ⌝ }
+    {
+        if let Outcome::Refused(r) = self.pixel_outcome(w, h, i, j) {
+            return Placed::Refused(r);
+        }
+        Placed::At(place_numbers(self, w, h, i, j))
+    }
+
+    // The word alone, or 11, 12, 14.
     pub fn word(self, w: u32, h: u32, i: i16, j: i16) -> Counted
         ensures { λ r. ⌜ r ≡ word self w h (at i j) ⌝ }
     {
-        if let Outcome::Refused(r) = self.pixel_outcome(w, h, i, j) {
-            return Counted::Refused(r);
+        let placed = self.place(w, h, i, j);
+        match placed {
+            Placed::At(at) => Counted::Number(at.word),
+            Placed::Refused(r) => Counted::Refused(r),
         }
-        Counted::Number(word_number(self, w, h, i, j))
     }
 
     // The pixel of bank k and address i, or 11, 12, 15.

@@ -7,9 +7,10 @@ use Rattle.claims.proofs.find_and_run.Tie as tie
 
 returns : tie.Need-returns
 returns c =
-    let l = c .before .before .before .before .before .before in
-    let p = l .before .before .before .before .before in
-    plan-kept _ _ _ _ _ _ _ (p .before .before .find .ensures) (p .planned .given .1) (l .run-list .ensures)
+    let l = c .before .before .before .before .before .before .before .before in
+    let p = l .before .before .before .before .before .before in
+    let e = l .run-list .ensures in
+    plan-kept _ _ _ _ _ _ _ (p .before .before .find .ensures) (p .planned .given .1) (e .0, e .1 .0)
 
 returns-2 : tie.Need-returns-2
 returns-2 c =
@@ -21,6 +22,6 @@ find-and-run-spec =
     tie.close
     (tie.spec
     (λ c κs. search needs) (λ c. search needs) (λ c κs. search needs) (λ c. search needs) (λ c. search needs)
-    (λ c. search needs) (λ c. search needs)
+    (λ c. search needs) (λ c. search needs) (λ c. search needs)
     returns
     returns-2)

@@ -16,8 +16,8 @@ use Rattle.scope.specs.Plans.{Pixel, at, lower, minus, pixelAt, patternA
 use Rattle.scope.specs.Banks.{bankOf, addressOf, depthOf, pixelOf, inside}
 use Rattle.scope.specs.Books.{bookBytes}
 use Rattle.scope.specs.Cycles.{suitsFor}
-use Rattle.scope.specs.Numbers.{value, ofPlanned, ofCounted, ofOutcome, recordTest, limitTest, cyclesTest, dependentTest, largeTest, suitsTest, planTest, sidesTest, memoryTest, outsideTest, bankTest, cellTest, outputTest, numberTest, ringTest}
-use Rattle.scope.specs.Calls.{recordOutcome, writeBook, normal, bank, depth, address, moved}
+use Rattle.scope.specs.Numbers.{value, ofPlanned, ofCounted, ofOutcome, recordTest, limitTest, cyclesTest, dependentTest, largeTest, suitsTest, planTest, sidesTest, memoryTest, sumsTest, outsideTest, bankTest, cellTest, outputTest, numberTest, ringTest}
+use Rattle.scope.specs.Calls.{Size, recordOutcome, writeBook, normal, bank, depth, address, moved}
 use Rattle.scope.specs.declared.Plan.{Plan}
 use Rattle.scope.specs.declared.Pattern.{Pattern}
 use Rattle.scope.specs.declared.Book.{Book}
@@ -52,6 +52,11 @@ pub record IsPicture (p : Plan) (W H words : ℕ) : Type 0 where
   pub W-side : IsSide W
   pub H-side : IsSide H
   pub memory : banks p * depthOf p W H ≤ words
+
+-- Document 02, Card 6: with sums that are long enough too
+pub record IsLent (p : Plan) (W H : ℕ) (s : Size) : Type 0 where
+  pub picture : IsPicture p W H (s .words)
+  pub sums : banks p ≤ s .entries
 
 -- "each coordinate from -16 to 15"
 abbrev pub InRange : ℤ → Type 0
@@ -151,6 +156,7 @@ pub record TestsMean : Type 0 where
   pub plan-11 : (p : Plan) → (planTest p ≡ none) ↔ IsPlan p
   pub sides-12 : (W H : ℕ) → (sidesTest W H ≡ none) ↔ (IsSide W × IsSide H)
   pub memory-13 : (p : Plan) (W H words : ℕ) → (memoryTest p W H words ≡ none) ↔ (banks p * depthOf p W H ≤ words)
+  pub sums-13 : (p : Plan) (entries : ℕ) → (sumsTest p entries ≡ none) ↔ (banks p ≤ entries)
   pub outside-14 : (W H : ℕ) (vs : List Pixel) → (outsideTest W H vs ≡ none) ↔ AllInside W H vs
   pub bank-15 : (p : Plan) (k : ℕ) → (bankTest p k ≡ none) ↔ (k < banks p)
   pub cell-15 : (p : Plan) (W H k i : ℕ) → (cellTest p W H k i ≡ none) ↔ ((k < banks p) × (i < depthOf p W H) × Inside W H (pixelOf p W H k i))

@@ -13,7 +13,7 @@ use Rattle.scope.specs.Plans.{Pixel, minus, pixelAt, patternAt, pixels, 
 use Rattle.scope.specs.Finding.{Before, leastOf, leastPlan, leastCount, clashIn, clash}
 use Rattle.scope.specs.Cycles.{suitsFor, leastPlanFor, leastCountFor, LongClash, lengthened, shortened, clashFor}
 use Rattle.scope.specs.Numbers.{value, refusal, ofPlanned, ofCounted, ofVerdict, ofCheck, ofFetch, recordTest, limitTest, dependentTest, largeTest, numberTest}
-use Rattle.scope.specs.Calls.{Result, answered, found, find, fewest, check, pictureTest, fetchRest, eitherFetch}
+use Rattle.scope.specs.Calls.{Result, Lent, sizeOf, answered, found, find, fewest, check, pictureTest, fetchRest, eitherFetch}
 use Rattle.scope.specs.promises.Meaning.{IsPlan, IsBook, Independent}
 use Rattle.scope.specs.promises.CyclePromises.{Uncrowded}
 use Rattle.scope.specs.promises.Demand.{Call, Setting, test, banksRead, ListHolds}
@@ -151,6 +151,6 @@ pub record KeptAtOne : Type 0 where
       → FirstClashIn book p (shortened c) × (c .pattern ≡ n)
   -- of demand 3's list: the banks of a fetch are all different
   pub banks-differ :
-      (g : Setting) → g .r ≡ 1 → (mem : List ℕ) (calls : List Call) → ListHolds g mem calls
+      (g : Setting) → g .r ≡ 1 → (l : Lent) (calls : List Call) → ListHolds g l calls
       → (past : List Call) (c : Call) (later : List Call) → calls ≡ past ++ (c ∷ later)
-      → test g (length mem) c ≡ none → AllDifferent (banksRead g c)
+      → test g (sizeOf l) c ≡ none → AllDifferent (banksRead g c)

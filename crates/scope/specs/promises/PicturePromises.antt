@@ -1,22 +1,22 @@
 -- What is promised of banks, addresses and the calls on a picture, under every plan. Statements; Promises.antt has them all.
 -- Demand 3's list has its own file, Demand.antt.
 -- Assumes nothing.
-use Prim.Native.Nat.{ℕ, zero, suc, _+_, _*_, _≤_, _<_}
+use Prim.Native.Nat.{ℕ, zero, suc, _+_, _*_, _^_, _≤_, _<_}
 use mathlib.Core.Path.{_≡_}
 use mathlib.Core.Logic.{_↔_}
 use mathlib.Core.Bool.{true}
 use mathlib.Core.Option.{Option, none}
 use mathlib.Core.List.{List, map}
-use lib.IntN.{ℤ, pos, _-ℤ_, _*ℤ_}
+use lib.IntN.{ℤ, pos, _+ℤ_, _-ℤ_, _*ℤ_}
 use lib.ListN.{length, getD, drop}
 use Rattle.integers.specs.Division.{IsDivision}
 use Rattle.integers.specs.Gcd.{Multiple}
 use Rattle.scope.specs.Plans.{Pixel, at, minus, patternAt, pixels, banks, InLattice}
-use Rattle.scope.specs.Banks.{bankOf, addressOf, depthOf, wordOf, wrapped}
+use Rattle.scope.specs.Banks.{bankOf, addressOf, depthOf, wordOf, exchanged, wrapped}
 use Rattle.scope.specs.Cycles.{suitsFor, cycleOf, cycles, LongClash}
 use Rattle.scope.specs.Numbers.{value, refusal, ofCounted, ofFetch, ofLoaded, ofLocated, ofOutcome}
-use Rattle.scope.specs.Calls.{Result, Lent, lent, writeBook, locate, store, load, clear, sum, moved, fetch, ringMoved, ringFetch, writeCycles, recordPixel, fillRecords}
-use Rattle.scope.specs.promises.Meaning.{IsPlan, IsSide, Inside, AllInside, IsPicture, IsBook, IsCycles, RingAllowed}
+use Rattle.scope.specs.Calls.{Result, Lent, sizeOf, writeBook, locate, store, load, clear, sum, makeSums, readSum, moved, fetch, ringMoved, ringFetch, writeCycles, recordPixel, fillRecords}
+use Rattle.scope.specs.promises.Meaning.{IsPlan, IsSide, Inside, AllInside, IsPicture, IsLent, IsBook, IsCycles, RingAllowed}
 use Rattle.scope.specs.promises.Demand.{InCycles}
 use Rattle.scope.specs.declared.Plan.{Plan}
 use Rattle.scope.specs.declared.Book.{Book}
@@ -46,6 +46,9 @@ pub record FormulasAre : Type 0 where
   pub wrapped-column : (W H : ℕ) → 1 ≤ W → (v : Pixel) (q : ℤ) (c : ℕ) → IsDivision (v .column) W q c → wrapped W H v .column ≡ pos c
   pub wrapped-row : (W H : ℕ) → 1 ≤ H → (v : Pixel) (q : ℤ) (c : ℕ) → IsDivision (v .row) H q c → wrapped W H v .row ≡ pos c
   pub ring-moved : (W H : ℕ) (t : Pattern) (o : Pixel) → ringMoved W H t o ≡ map (wrapped W H) (moved t o)
+  -- Card 6: "takes the old word off its bank's sum and adds the new one, modulo 2^64"
+  pub exchanged-sum :
+      (sum old new : ℕ) (q : ℤ) (n : ℕ) → IsDivision (pos sum -ℤ pos old +ℤ pos new) (2 ^ 64) q n → exchanged sum old new ≡ n
   -- a record's pixel is its column and row
   pub record-pixel : (r : PixelRecord) → recordPixel r ≡ at (r .column) (r .row)
 
@@ -87,27 +90,40 @@ abbrev pub wordAt : Plan → ℕ → ℕ → List ℕ → Pixel → ℕ
 wordAt p W H mem v = getD mem (bankOf p v * depthOf p W H + addressOf p W H v) 0
 
 -- "A store puts its word at its pixel's bank and address, [..] and neither changes another word of the memory." "Words past
--- N × depth are never touched."
-pub record StoredOne (p : Plan) (W H : ℕ) (mem : List ℕ) (v : Pixel) (x : ℕ) (r : Result Outcome Lent) : Type 0 where
+-- N × depth are never touched." Card 6: of the sums only its bank's changes.
+pub record StoredOne (p : Plan) (W H : ℕ) (l : Lent) (v : Pixel) (x : ℕ) (r : Result Outcome Lent) : Type 0 where
   pub done : ofOutcome (r .answer) ≡ value tt
   pub put : wordAt p W H (r .content .memory) v ≡ x
-  pub elsewhere : (i : ℕ) → (i ≡ bankOf p v * depthOf p W H + addressOf p W H v → ⊥) → getD (r .content .memory) i 0 ≡ getD mem i 0
-  pub past : drop (banks p * depthOf p W H) (r .content .memory) ≡ drop (banks p * depthOf p W H) mem
-  pub as-long : length (r .content .memory) ≡ length mem
+  pub elsewhere : (i : ℕ) → (i ≡ bankOf p v * depthOf p W H + addressOf p W H v → ⊥) → getD (r .content .memory) i 0 ≡ getD (l .memory) i 0
+  pub past : drop (banks p * depthOf p W H) (r .content .memory) ≡ drop (banks p * depthOf p W H) (l .memory)
+  pub sum : getD (r .content .sums) (bankOf p v) 0 ≡ exchanged (getD (l .sums) (bankOf p v) 0) (wordAt p W H (l .memory) v) x
+  pub other-sums : (k : ℕ) → (k ≡ bankOf p v → ⊥) → getD (r .content .sums) k 0 ≡ getD (l .sums) k 0
+  pub as-long : sizeOf (r .content) ≡ sizeOf l
 
--- "a clear puts 0 in every word of its bank"
-pub record ClearedOne (p : Plan) (W H : ℕ) (mem : List ℕ) (k : ℕ) (r : Result Outcome Lent) : Type 0 where
+-- "a clear puts 0 in every word of its bank"; Card 6: and in its sum
+pub record ClearedOne (p : Plan) (W H : ℕ) (l : Lent) (k : ℕ) (r : Result Outcome Lent) : Type 0 where
   pub done : ofOutcome (r .answer) ≡ value tt
   pub zeros : (i : ℕ) → i < depthOf p W H → getD (r .content .memory) (k * depthOf p W H + i) 0 ≡ 0
-  pub before : (i : ℕ) → i < k * depthOf p W H → getD (r .content .memory) i 0 ≡ getD mem i 0
-  pub after : (i : ℕ) → k * depthOf p W H + depthOf p W H ≤ i → getD (r .content .memory) i 0 ≡ getD mem i 0
-  pub past : drop (banks p * depthOf p W H) (r .content .memory) ≡ drop (banks p * depthOf p W H) mem
-  pub as-long : length (r .content .memory) ≡ length mem
+  pub before : (i : ℕ) → i < k * depthOf p W H → getD (r .content .memory) i 0 ≡ getD (l .memory) i 0
+  pub after : (i : ℕ) → k * depthOf p W H + depthOf p W H ≤ i → getD (r .content .memory) i 0 ≡ getD (l .memory) i 0
+  pub past : drop (banks p * depthOf p W H) (r .content .memory) ≡ drop (banks p * depthOf p W H) (l .memory)
+  pub sum : getD (r .content .sums) k 0 ≡ 0
+  pub other-sums : (m : ℕ) → (m ≡ k → ⊥) → getD (r .content .sums) m 0 ≡ getD (l .sums) m 0
+  pub as-long : sizeOf (r .content) ≡ sizeOf l
 
 -- f 0 + f 1 + .. + f (n - 1)
 unfoldable pub totalBelow : ℕ → (ℕ → ℕ) → ℕ
 totalBelow zero f = 0
 totalBelow (suc n) f = totalBelow n f + f n
+
+-- Card 6: "makes them afresh from the memory"; "Entries past N are never touched."
+pub record SumsMade (p : Plan) (W H : ℕ) (l : Lent) (r : Result Outcome Lent) : Type 0 where
+  pub done : ofOutcome (r .answer) ≡ value tt
+  pub each :
+      (k : ℕ) → k < banks p → getD (r .content .sums) k 0 ≡ totalBelow (depthOf p W H) λ i. getD (l .memory) (k * depthOf p W H + i) 0
+  pub past : drop (banks p) (r .content .sums) ≡ drop (banks p) (l .sums)
+  pub memory-kept : r .content .memory ≡ l .memory
+  pub as-long : sizeOf (r .content) ≡ sizeOf l
 
 -- "words in the book's pixel order, the rest of the output unchanged": entry e is the word at the pixel vs[e]; the pattern is t
 pub record FetchedAll
@@ -159,12 +175,13 @@ pub record FilledAll (p : Plan) (W H : ℕ) (rs : List PixelRecord) (r : Result 
 -- A legal call on a picture is never refused and gives what document 01 says, "under every plan, ours or a supplier's".
 pub record PictureCalls : Type 0 where
   pub stores :
-      (p : Plan) (W H : ℕ) (mem : List ℕ) (v : Pixel) (x : ℕ) → IsPicture p W H (length mem) → Inside W H v
-      → StoredOne p W H mem v x (store p W H (lent mem) v x)
+      (p : Plan) (W H : ℕ) (l : Lent) (v : Pixel) (x : ℕ) → IsLent p W H (sizeOf l) → Inside W H v
+      → StoredOne p W H l v x (store p W H l v x)
   pub loads :
       (p : Plan) (W H : ℕ) (mem : List ℕ) (v : Pixel) → IsPicture p W H (length mem) → Inside W H v
       → ofLoaded (load p W H mem v) ≡ value (wordAt p W H mem v)
-  pub clears : (p : Plan) (W H : ℕ) (mem : List ℕ) (k : ℕ) → IsPicture p W H (length mem) → k < banks p → ClearedOne p W H mem k (clear p W H (lent mem) k)
+  pub clears :
+      (p : Plan) (W H : ℕ) (l : Lent) (k : ℕ) → IsLent p W H (sizeOf l) → k < banks p → ClearedOne p W H l k (clear p W H l k)
   pub sums :
       (p : Plan) (W H : ℕ) (mem : List ℕ) (k : ℕ) → IsPicture p W H (length mem) → k < banks p
       → ofCounted (sum p W H mem k) ≡ value (totalBelow (depthOf p W H) λ i. getD mem (k * depthOf p W H + i) 0)
@@ -172,6 +189,10 @@ pub record PictureCalls : Type 0 where
   pub sum-fits :
       (p : Plan) (W H : ℕ) (mem : List ℕ) (k n : ℕ) → ((i : ℕ) → getD mem i 0 < 65536)
       → ofCounted (sum p W H mem k) ≡ value n → n < 0x1_0000_0000_0000_0000
+  pub makes-sums : (p : Plan) (W H : ℕ) (l : Lent) → IsLent p W H (sizeOf l) → SumsMade p W H l (makeSums p W H l)
+  pub reads-sum :
+      (p : Plan) (sums : List ℕ) (k : ℕ) → IsPlan p → banks p ≤ length sums → k < banks p
+      → ofCounted (readSum p sums k) ≡ value (getD sums k 0)
   pub fetches :
       (book : Book) (r : ℕ) (p : Plan) (W H : ℕ) (mem : List ℕ) (n : ℕ) (o : Pixel) (out : List ℕ)
       → LegalFetch book r p W H (length mem) n → AllInside W H (moved (patternAt book n) o)
@@ -195,11 +216,14 @@ pub record RefusalsChangeNothing : Type 0 where
       (book : Book) (out : List ℕ) (n i : ℕ) (c : Option LongClash)
       → ofCounted (writeBook book out .answer) ≡ refusal n i c → writeBook book out .content ≡ out
   pub stores :
-      (p : Plan) (W H : ℕ) (mem : List ℕ) (v : Pixel) (x n i : ℕ) (c : Option LongClash)
-      → ofOutcome (store p W H (lent mem) v x .answer) ≡ refusal n i c → store p W H (lent mem) v x .content ≡ lent mem
+      (p : Plan) (W H : ℕ) (l : Lent) (v : Pixel) (x n i : ℕ) (c : Option LongClash)
+      → ofOutcome (store p W H l v x .answer) ≡ refusal n i c → store p W H l v x .content ≡ l
   pub clears :
-      (p : Plan) (W H : ℕ) (mem : List ℕ) (k n i : ℕ) (c : Option LongClash)
-      → ofOutcome (clear p W H (lent mem) k .answer) ≡ refusal n i c → clear p W H (lent mem) k .content ≡ lent mem
+      (p : Plan) (W H : ℕ) (l : Lent) (k n i : ℕ) (c : Option LongClash)
+      → ofOutcome (clear p W H l k .answer) ≡ refusal n i c → clear p W H l k .content ≡ l
+  pub makes-sums :
+      (p : Plan) (W H : ℕ) (l : Lent) (n i : ℕ) (c : Option LongClash)
+      → ofOutcome (makeSums p W H l .answer) ≡ refusal n i c → makeSums p W H l .content ≡ l
   pub fetches :
       (book : Book) (r : ℕ) (p : Plan) (W H : ℕ) (mem : List ℕ) (m : ℕ) (o : Pixel) (out : List ℕ) (n i : ℕ) (c : Option LongClash)
       → ofFetch r (fetch book r p W H mem m o out .answer) ≡ refusal n i c

@@ -4,6 +4,7 @@ use Rattle.integers.specs.Division.{FloorDivision, Divisibility, CeilingDivisio
 use Rattle.integers.specs.Gcd.{EuclidsRule, GcdIsGreatest}
 use Rattle.scope.specs.promises.Meaning.{PatternsAre, LatticeMeans, SuitsMeans, LowerMeans, InsideMeans, ChainIsFirst, TestsMean, LegalCallsAnswer}
 use Rattle.scope.specs.promises.Demand.{LastStoredMeans, Demand3}
+use Rattle.scope.specs.promises.SumPromises.{SumsKept}
 use Rattle.scope.specs.promises.PlanPromises.{NormalFormIsOnly, FinderIsLeast, FinderNone, FinderDecides, FinderOrder, BoxIsGreatest, FinderStaysWithin, LimitIsEnough, CountIsLeast, SurplusIsExcess, ClashIsFirst, CheckDecides}
 use Rattle.scope.specs.promises.CyclePromises.{SuitsForMeans, CyclesPart, LongClashes, LeastInCyclesEach}
 use Rattle.scope.specs.promises.PicturePromises.{FormulasAre, BanksAreClasses, PixelsHaveWords, ReverseMap, PictureCalls, RefusalsChangeNothing, RingKeepsBanks}
@@ -74,3 +75,5 @@ pub record Promises : Type 0 where
   -- demand 3
   pub last-stored-means : LastStoredMeans
   pub demand-3 : Demand3
+  -- the sums of the banks
+  pub sums-kept : SumsKept

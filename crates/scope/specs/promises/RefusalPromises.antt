@@ -13,8 +13,8 @@ use Rattle.scope.specs.Banks.{depthOf}
 use Rattle.scope.specs.Cycles.{suitsFor, LongClash}
 use Rattle.scope.specs.Books.{signed, patternOf, bookOf, pixelBytes, patternBytes, bookBytes}
 use Rattle.scope.specs.Numbers.{Answer, value, refusal, turnedDown, ofPlanned, ofCounted, ofLoaded, ofLocated, ofOutcome, ofCheck, ofFetch, recordTest}
-use Rattle.scope.specs.Calls.{readBook, partOutcome, recordOutcome, writeBook, normal, find, fewest, check, bank, depth, address, locate, store, load, clear, sum, lent, moved, fetch, ringFetch, writeCycles, recordPixel, fillRecords}
-use Rattle.scope.specs.promises.Meaning.{IsPlan, IsSide, Inside, AllInside, IsPicture, InRange, Lower, PixelLegal, IsPattern, IsBook, IsCycles, Independent, RingAllowed}
+use Rattle.scope.specs.Calls.{readBook, partOutcome, recordOutcome, writeBook, normal, find, fewest, check, bank, depth, address, locate, Lent, Size, sizeOf, store, load, clear, sum, makeSums, readSum, moved, fetch, ringFetch, writeCycles, recordPixel, fillRecords}
+use Rattle.scope.specs.promises.Meaning.{IsPlan, IsSide, Inside, AllInside, IsPicture, IsLent, InRange, Lower, PixelLegal, IsPattern, IsBook, IsCycles, Independent, RingAllowed}
 use Rattle.scope.specs.promises.PicturePromises.{LegalFetch, LegalCycles}
 use Rattle.scope.specs.declared.Plan.{Plan}
 use Rattle.scope.specs.declared.Pattern.{Pattern}
@@ -32,12 +32,17 @@ pub record PictureRefused {A : Type 0} (p : Plan) (W H words : ℕ) (r : Answer 
   pub first : PlanRefused p W H r
   pub memory-13 : IsPlan p → IsSide W → IsSide H → words < banks p * depthOf p W H → r ≡ refusal 13 0 none
 
--- 11, 12, 13, then 14: store and load
+-- 11, 12, 13 for the memory, then 13 for the sums (document 02, Card 6): the calls that are lent both
+pub record LentRefused {A : Type 0} (p : Plan) (W H : ℕ) (s : Size) (r : Answer A) : Type 0 where
+  pub first : PictureRefused p W H (s .words) r
+  pub sums-13 : IsPicture p W H (s .words) → s .entries < banks p → r ≡ refusal 13 0 none
+
+-- 11, 12, 13, then 14: load
 pub record WordRefused {A : Type 0} (p : Plan) (W H words : ℕ) (v : Pixel) (r : Answer A) : Type 0 where
   pub first : PictureRefused p W H words r
   pub outside-14 : IsPicture p W H words → (Inside W H v → ⊥) → r ≡ refusal 14 0 none
 
--- 11, 12, 13, then 15: clear and sum
+-- 11, 12, 13, then 15: sum
 pub record BankRefused {A : Type 0} (p : Plan) (W H words k : ℕ) (r : Answer A) : Type 0 where
   pub first : PictureRefused p W H words r
   pub bank-15 : IsPicture p W H words → banks p ≤ k → r ≡ refusal 15 0 none
@@ -103,12 +108,24 @@ pub record CallsRefuse : Type 0 where
       → ofCounted (address p W H v) ≡ refusal 14 0 none
   pub locates : (p : Plan) (W H k i : ℕ) → PlanRefused p W H (ofLocated (locate p W H k i))
   pub stores :
-      (p : Plan) (W H : ℕ) (mem : List ℕ) (v : Pixel) (x : ℕ)
-      → WordRefused p W H (length mem) v (ofOutcome (store p W H (lent mem) v x .answer))
+      (p : Plan) (W H : ℕ) (l : Lent) (v : Pixel) (x : ℕ) → LentRefused p W H (sizeOf l) (ofOutcome (store p W H l v x .answer))
+  pub store-14 :
+      (p : Plan) (W H : ℕ) (l : Lent) (v : Pixel) (x : ℕ) → IsLent p W H (sizeOf l) → (Inside W H v → ⊥)
+      → ofOutcome (store p W H l v x .answer) ≡ refusal 14 0 none
   pub loads : (p : Plan) (W H : ℕ) (mem : List ℕ) (v : Pixel) → WordRefused p W H (length mem) v (ofLoaded (load p W H mem v))
-  pub clears :
-      (p : Plan) (W H : ℕ) (mem : List ℕ) (k : ℕ) → BankRefused p W H (length mem) k (ofOutcome (clear p W H (lent mem) k .answer))
+  pub clears : (p : Plan) (W H : ℕ) (l : Lent) (k : ℕ) → LentRefused p W H (sizeOf l) (ofOutcome (clear p W H l k .answer))
+  pub clear-15 :
+      (p : Plan) (W H : ℕ) (l : Lent) (k : ℕ) → IsLent p W H (sizeOf l) → banks p ≤ k
+      → ofOutcome (clear p W H l k .answer) ≡ refusal 15 0 none
   pub sums : (p : Plan) (W H : ℕ) (mem : List ℕ) (k : ℕ) → BankRefused p W H (length mem) k (ofCounted (sum p W H mem k))
+  -- Card 6: "11, 13 for the sums and 15 for the bank"
+  pub makes-sums : (p : Plan) (W H : ℕ) (l : Lent) → LentRefused p W H (sizeOf l) (ofOutcome (makeSums p W H l .answer))
+  pub read-sum-11 : (p : Plan) (sums : List ℕ) (k : ℕ) → (IsPlan p → ⊥) → ofCounted (readSum p sums k) ≡ refusal 11 0 none
+  pub read-sum-13 :
+      (p : Plan) (sums : List ℕ) (k : ℕ) → IsPlan p → length sums < banks p → ofCounted (readSum p sums k) ≡ refusal 13 0 none
+  pub read-sum-15 :
+      (p : Plan) (sums : List ℕ) (k : ℕ) → IsPlan p → banks p ≤ length sums → banks p ≤ k
+      → ofCounted (readSum p sums k) ≡ refusal 15 0 none
   pub fetches :
       (book : Book) (r : ℕ) (p : Plan) (W H : ℕ) (mem : List ℕ) (n : ℕ) (o : Pixel) (out : List ℕ)
       → FetchRefused book r p W H (length mem) n (ofFetch r (fetch book r p W H mem n o out .answer))

@@ -11,7 +11,7 @@ use lib.ListN.{replicate}
 use Rattle.scope.specs.Plans.{Pixel, at, plan}
 use Rattle.scope.specs.Books.{bookOf}
 use Rattle.scope.specs.Numbers.{Answer, ofVerdict}
-use Rattle.scope.specs.Calls.{fewest, check}
+use Rattle.scope.specs.Calls.{fewest, check, lent}
 use Rattle.scope.specs.promises.Demand as Demand
 use Rattle.scope.specs.values.Rows.{Row, Hold, row, is, refused, clashes, crowds, values, counted, caseOf, neg, px, one, two, down, three, threeAndThree, square, cross, findsFor, checksFor, fetchAnswerFor, fetchedFor, ringAnswerFor, ringFetchedFor, replied}
 use Rattle.scope.specs.values.CycleEdges.{strip, crossed, fewFirst, between}
@@ -241,12 +241,12 @@ fetches =
 lists : List Row
 unfolding row is plan cycled stores fetches replied flatMap Demand.replies Demand.replyDue Demand.banksRead Demand.cyclesRead
 lists =
-    row (is (flatMap replied (Demand.replies (cycled 2 (plan 2 0 1)) (replicate 4 0) (stores ++ fetches)))) (is (0 ∷ 0 ∷ 0 ∷ 0 ∷ 3 ∷ 5 ∷ 6 ∷ 7 ∷ 3 ∷ 14 ∷ 3 ∷ 17 ∷ 3 ∷ 16 ∷ 3 ∷ []))
-    ∷ row (is (flatMap replied (map (Demand.replyDue (cycled 2 (plan 2 0 1)) 4 stores) fetches))) (is (0 ∷ 3 ∷ 5 ∷ 6 ∷ 7 ∷ 3 ∷ 14 ∷ 3 ∷ 17 ∷ 3 ∷ 16 ∷ 3 ∷ []))
-    ∷ row (is (flatMap replied (Demand.replies (cycled 9 (plan 2 0 1)) (replicate 4 0) (stores ++ fetches)))) (is (0 ∷ 0 ∷ 0 ∷ 20 ∷ 3 ∷ 3 ∷ 3 ∷ 3 ∷ 20 ∷ 3 ∷ 20 ∷ 3 ∷ 20 ∷ 3 ∷ []))
-    ∷ row (is (flatMap replied (map (Demand.replyDue (cycled 9 (plan 2 0 1)) 4 stores) fetches))) (is (20 ∷ 3 ∷ 3 ∷ 3 ∷ 3 ∷ 20 ∷ 3 ∷ 20 ∷ 3 ∷ 20 ∷ 3 ∷ []))
-    ∷ row (is (flatMap replied (Demand.replies (cycled 2 (plan 1 0 1)) (replicate 3 0) fetches))) (is (10 ∷ 0 ∷ 0 ∷ 1 ∷ 2 ∷ 3 ∷ 3 ∷ 3 ∷ 3 ∷ 10 ∷ 0 ∷ 0 ∷ 1 ∷ 2 ∷ 3 ∷ 17 ∷ 3 ∷ 10 ∷ 0 ∷ 0 ∷ 1 ∷ 2 ∷ 3 ∷ []))
-    ∷ row (is (flatMap replied (map (Demand.replyDue (cycled 2 (plan 1 0 1)) 3 []) fetches))) (is (10 ∷ 0 ∷ 0 ∷ 1 ∷ 2 ∷ 3 ∷ 3 ∷ 3 ∷ 3 ∷ 10 ∷ 0 ∷ 0 ∷ 1 ∷ 2 ∷ 3 ∷ 17 ∷ 3 ∷ 10 ∷ 0 ∷ 0 ∷ 1 ∷ 2 ∷ 3 ∷ []))
+    row (is (flatMap replied (Demand.replies (cycled 2 (plan 2 0 1)) (lent (replicate 4 0) (0 ∷ 0 ∷ [])) (stores ++ fetches)))) (is (0 ∷ 0 ∷ 0 ∷ 0 ∷ 3 ∷ 5 ∷ 6 ∷ 7 ∷ 3 ∷ 14 ∷ 3 ∷ 17 ∷ 3 ∷ 16 ∷ 3 ∷ []))
+    ∷ row (is (flatMap replied (map (Demand.replyDue (cycled 2 (plan 2 0 1)) (lent (replicate 4 0) (0 ∷ 0 ∷ [])) stores) fetches))) (is (0 ∷ 3 ∷ 5 ∷ 6 ∷ 7 ∷ 3 ∷ 14 ∷ 3 ∷ 17 ∷ 3 ∷ 16 ∷ 3 ∷ []))
+    ∷ row (is (flatMap replied (Demand.replies (cycled 9 (plan 2 0 1)) (lent (replicate 4 0) (0 ∷ 0 ∷ [])) (stores ++ fetches)))) (is (0 ∷ 0 ∷ 0 ∷ 20 ∷ 3 ∷ 3 ∷ 3 ∷ 3 ∷ 20 ∷ 3 ∷ 20 ∷ 3 ∷ 20 ∷ 3 ∷ []))
+    ∷ row (is (flatMap replied (map (Demand.replyDue (cycled 9 (plan 2 0 1)) (lent (replicate 4 0) (0 ∷ 0 ∷ [])) stores) fetches))) (is (20 ∷ 3 ∷ 3 ∷ 3 ∷ 3 ∷ 20 ∷ 3 ∷ 20 ∷ 3 ∷ 20 ∷ 3 ∷ []))
+    ∷ row (is (flatMap replied (Demand.replies (cycled 2 (plan 1 0 1)) (lent (replicate 3 0) []) fetches))) (is (10 ∷ 0 ∷ 0 ∷ 1 ∷ 2 ∷ 3 ∷ 3 ∷ 3 ∷ 3 ∷ 10 ∷ 0 ∷ 0 ∷ 1 ∷ 2 ∷ 3 ∷ 17 ∷ 3 ∷ 10 ∷ 0 ∷ 0 ∷ 1 ∷ 2 ∷ 3 ∷ []))
+    ∷ row (is (flatMap replied (map (Demand.replyDue (cycled 2 (plan 1 0 1)) (lent (replicate 3 0) []) []) fetches))) (is (10 ∷ 0 ∷ 0 ∷ 1 ∷ 2 ∷ 3 ∷ 3 ∷ 3 ∷ 3 ∷ 10 ∷ 0 ∷ 0 ∷ 1 ∷ 2 ∷ 3 ∷ 17 ∷ 3 ∷ 10 ∷ 0 ∷ 0 ∷ 1 ∷ 2 ∷ 3 ∷ []))
     ∷ row (is (flatMap (Demand.banksRead (cycled 2 (plan 2 0 1))) (stores ++ fetches))) (is (0 ∷ 1 ∷ 0 ∷ 1 ∷ 0 ∷ 1 ∷ 0 ∷ 1 ∷ 0 ∷ []))
     ∷ row (is (flatMap (Demand.cyclesRead (cycled 2 (plan 2 0 1))) (stores ++ fetches))) (is (0 ∷ 0 ∷ 1 ∷ 0 ∷ 0 ∷ 1 ∷ 0 ∷ 0 ∷ 1 ∷ []))
     ∷ []

@@ -13,16 +13,16 @@ use Rattle.scope.specs.Plans.{at, plan}
 use Rattle.scope.specs.Banks.{bankOf}
 use Rattle.scope.specs.Books.{bookOf}
 use Rattle.scope.specs.Numbers.{value}
-use Rattle.scope.specs.Calls.{find}
+use Rattle.scope.specs.Calls.{Lent, lent, sizeOf, find}
 use Rattle.scope.specs.promises.Demand.{Call, write, read, store, fetch, fetched, Setting, reply, run, test, replyDue, banksRead, cyclesRead, pictureWords, CallHolds, Demand3}
 
--- a picture of 2 by 1, and a memory of its two words and another
+-- a picture of 2 by 1, and a memory of its two words and another, with one sum
 unfoldable pub pair : Setting
 unfolding bookOf plan at
 pair = record { book = bookOf ((at (pos 0) (pos 0) ∷ at (pos 1) (pos 0) ∷ []) ∷ []); r = 2; plan = plan 1 0 1; W = 2; H = 1 }
 
-abbrev pub words : List ℕ
-words = 0 ∷ 0 ∷ 7 ∷ []
+abbrev pub words : Lent
+words = lent (0 ∷ 0 ∷ 7 ∷ []) (3 ∷ [])
 
 -- a store at each pixel, and a fetch of the pattern into an output of three words
 unfoldable pub stores : List Call
@@ -49,7 +49,7 @@ module _ (demand-3 : Demand3) where
   unfolding pair find pictureWords
   after-stores = demand-3 pair 1024 words (stores ++ (last ∷ [])) refl (omega arith) refl .each stores last [] refl
 
-  due : replyDue pair 3 stores last ≡ fetched (value 2) (8 ∷ 9 ∷ 5 ∷ [])
+  due : replyDue pair words stores last ≡ fetched (value 2) (8 ∷ 9 ∷ 5 ∷ [])
   unfolding pair stores last replyDue
   due = refl
 
@@ -57,7 +57,7 @@ module _ (demand-3 : Demand3) where
   unfolding bankOf plan at
   same-bank = refl
 
-  fetch-taken : test pair 3 last ≡ none
+  fetch-taken : test pair (sizeOf words) last ≡ none
   unfolding pair last test
   fetch-taken = refl
 

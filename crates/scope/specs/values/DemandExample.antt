@@ -8,12 +8,12 @@ use mathlib.Core.Option.{none}
 use mathlib.Core.List.{List, [], _∷_, _++_}
 use native.Mathlib.Omega.{arith}
 use lib.IntN.{pos, natAbs}
-use lib.ListN.{length, getD, drop}
+use lib.ListN.{getD, drop}
 use Rattle.scope.specs.Plans.{Pixel, at, plan, banks, patternAt}
 use Rattle.scope.specs.Banks.{bankOf, wordOf, wordIn}
 use Rattle.scope.specs.Books.{bookOf}
 use Rattle.scope.specs.Numbers.{value}
-use Rattle.scope.specs.Calls.{find}
+use Rattle.scope.specs.Calls.{Lent, lent, sizeOf, find}
 use Rattle.scope.specs.promises.Meaning.{Inside}
 use Rattle.scope.specs.promises.Demand.{Call, write, read, store, clear, load, fetch, fetched, Setting, reply, run, test, replyDue, lastStored, banksRead, cyclesRead, pictureWords, CallHolds, ListHolds, Demand3}
 
@@ -22,15 +22,20 @@ unfoldable pub sized : ℕ → ℕ → Setting
 unfolding bookOf plan at
 sized W H = record { book = bookOf ((at (pos 0) (pos 0) ∷ at (pos 1) (pos 0) ∷ []) ∷ []); r = 1; plan = plan 2 0 1; W = W; H = H }
 
--- a memory of one word more than a picture of 2 by 2 has, one of exactly the words of a picture of 1 by 1, and one for no word
-abbrev pub longer : List ℕ
-longer = 0 ∷ 0 ∷ 0 ∷ 0 ∷ 7 ∷ []
+-- a memory of one word more than a picture of 2 by 2 has, one of exactly the words of a picture of 1 by 1, and one for no word, each with
+-- sums of some numbers, one more than banks, as many and one less
+abbrev pub longer : Lent
+longer = lent (0 ∷ 0 ∷ 0 ∷ 0 ∷ 7 ∷ []) (3 ∷ 1 ∷ 4 ∷ [])
 
-abbrev pub exact : List ℕ
-exact = 0 ∷ 0 ∷ []
+abbrev pub exact : Lent
+exact = lent (0 ∷ 0 ∷ []) (3 ∷ 1 ∷ [])
 
-abbrev pub other : List ℕ
-other = 7 ∷ []
+abbrev pub other : Lent
+other = lent (7 ∷ []) (3 ∷ [])
+
+-- and one of the words of a picture of 1 by 1 with one sum less than banks
+abbrev pub few : Lent
+few = lent (0 ∷ 0 ∷ []) (3 ∷ [])
 
 -- two stores in row 1, and a fetch of the pattern there into an output of three words
 unfoldable pub stores : List Call
@@ -52,20 +57,22 @@ pub record ReadOff : Type 0 where
   pub words-fetched : reply (sized 2 2) (run (sized 2 2) longer stores) last ≡ fetched (value 2) (8 ∷ 9 ∷ 5 ∷ [])
   -- so does the ring fetch, from the wrapped pixels; it is taken there, and not in a picture of 1 by 1, as 2 does not divide 1
   pub words-around : reply (sized 2 2) (run (sized 2 2) longer stores) around ≡ fetched (value 2) (9 ∷ 8 ∷ 5 ∷ [])
-  pub around-taken : test (sized 2 2) 5 around ≡ none
-  pub around-refused : test (sized 1 1) 2 around ≡ none → ⊥
+  pub around-taken : test (sized 2 2) (sizeOf longer) around ≡ none
+  pub around-refused : test (sized 1 1) (sizeOf exact) around ≡ none → ⊥
   -- bank 1 may be cleared; the pixel (2, 0) may not be loaded, and in a picture without a row nothing is taken
-  pub clear-taken : test (sized 2 2) 5 (write (clear 1)) ≡ none
-  pub outside-refused : test (sized 2 2) 5 (read (load (at (pos 2) (pos 0)))) ≡ none → ⊥
-  pub no-row-refused : test (sized 2 0) 1 (write (clear 1)) ≡ none → ⊥
+  pub clear-taken : test (sized 2 2) (sizeOf longer) (write (clear 1)) ≡ none
+  pub outside-refused : test (sized 2 2) (sizeOf longer) (read (load (at (pos 2) (pos 0)))) ≡ none → ⊥
+  pub no-row-refused : test (sized 2 0) (sizeOf other) (write (clear 1)) ≡ none → ⊥
+  -- nor is a clear with too few sums
+  pub few-sums-refused : test (sized 1 1) (sizeOf few) (write (clear 1)) ≡ none → ⊥
   -- the two words of the fetch come from two banks
   pub banks-differ : bankOf (plan 2 0 1) (at (pos 0) (pos 1)) ≡ bankOf (plan 2 0 1) (at (pos 1) (pos 1)) → ⊥
   -- after the stores the word of (1, 1) stands there, and the fifth word of the memory is as it was
-  pub word-stands : wordIn (plan 2 0 1) 2 2 (run (sized 2 2) longer stores) (at (pos 1) (pos 1)) ≡ 9
-  pub rest-stays : drop 4 (run (sized 2 2) longer stores) ≡ 7 ∷ []
-  pub as-long : length (run (sized 2 2) longer stores) ≡ 5
+  pub word-stands : wordIn (plan 2 0 1) 2 2 (run (sized 2 2) longer stores .memory) (at (pos 1) (pos 1)) ≡ 9
+  pub rest-stays : drop 4 (run (sized 2 2) longer stores .memory) ≡ 7 ∷ []
+  pub as-long : sizeOf (run (sized 2 2) longer stores) ≡ record { words = 5; entries = 3 }
   -- a picture of one pixel leaves bank 1 without a pixel: its word is 0
-  pub other-is-0 : getD (run (sized 1 1) exact (write (store (at (pos 0) (pos 0)) 6) ∷ [])) 1 0 ≡ 0
+  pub other-is-0 : getD (run (sized 1 1) exact (write (store (at (pos 0) (pos 0)) 6) ∷ []) .memory) 1 0 ≡ 0
 
 module _ (demand-3 : Demand3) where
   -- the premises hold
@@ -81,6 +88,10 @@ module _ (demand-3 : Demand3) where
   unfolding sized find pictureWords
   no-row calls = demand-3 (sized 2 0) 1024 other calls refl (omega arith) refl
 
+  few-sums : (calls : List Call) → ListHolds (sized 1 1) few calls
+  unfolding sized find pictureWords
+  few-sums calls = demand-3 (sized 1 1) 1024 few calls refl (omega arith) refl
+
   -- what holds of a call made alone, and of the fetch after the stores
   alone : (c : Call) → CallHolds (sized 2 2) longer [] c
   alone c = two-by-two (c ∷ []) .each [] c [] refl
@@ -88,46 +99,50 @@ module _ (demand-3 : Demand3) where
   after-stores : (c : Call) → CallHolds (sized 2 2) longer stores c
   after-stores c = two-by-two (stores ++ (c ∷ [])) .each stores c [] refl
 
-  due : replyDue (sized 2 2) 5 stores last ≡ fetched (value 2) (8 ∷ 9 ∷ 5 ∷ [])
+  due : replyDue (sized 2 2) longer stores last ≡ fetched (value 2) (8 ∷ 9 ∷ 5 ∷ [])
   unfolding sized stores last replyDue
   due = refl
 
-  due-around : replyDue (sized 2 2) 5 stores around ≡ fetched (value 2) (9 ∷ 8 ∷ 5 ∷ [])
+  due-around : replyDue (sized 2 2) longer stores around ≡ fetched (value 2) (9 ∷ 8 ∷ 5 ∷ [])
   unfolding sized stores around replyDue
   due-around = refl
 
-  may-go-around : test (sized 2 2) 5 around ≡ none
+  may-go-around : test (sized 2 2) (sizeOf longer) around ≡ none
   unfolding sized around patternAt
   may-go-around =
       let used : patternAt ((sized 2 2) .book) 0 .used ≡ 2 = refl in
-      alone around .taken (omega arith, omega arith) (omega arith, omega arith)
-      (omega arith, record { W-multiple = (1, refl); H-multiple = (2, refl); shift-multiple = (0, refl) }, omega (arith, used))
+      alone around .taken
+      (((omega arith, omega arith), (omega arith, omega arith)), omega arith, record { W-multiple = (1, refl); H-multiple = (2, refl); shift-multiple = (0, refl) }, omega (arith, used))
 
-  not-around : test (sized 1 1) 2 around ≡ none → ⊥
+  not-around : test (sized 1 1) (sizeOf exact) around ≡ none → ⊥
   unfolding sized around
   not-around e =
-      let (k, W-is) = one-by-one (around ∷ []) .each [] around [] refl .only-legal e .2 .1 .W-multiple in
+      let (k, W-is) = one-by-one (around ∷ []) .each [] around [] refl .only-legal e .2 .W-multiple in
       absurd (omega (arith, W-is))
 
-  stored-last : lastStored (sized 2 2) 5 stores (at (pos 1) (pos 1)) ≡ 9
+  stored-last : lastStored (sized 2 2) (sizeOf longer) stores (at (pos 1) (pos 1)) ≡ 9
   unfolding sized stores lastStored at
   stored-last = refl
 
-  may-clear : test (sized 2 2) 5 (write (clear 1)) ≡ none
+  may-clear : test (sized 2 2) (sizeOf longer) (write (clear 1)) ≡ none
   unfolding sized banks
-  may-clear = alone (write (clear 1)) .taken (omega arith, omega arith) (omega arith, omega arith) (omega arith)
+  may-clear = alone (write (clear 1)) .taken (((omega arith, omega arith), (omega arith, omega arith)), omega arith, omega arith)
 
-  not-loaded : test (sized 2 2) 5 (read (load (at (pos 2) (pos 0)))) ≡ none → ⊥
+  not-loaded : test (sized 2 2) (sizeOf longer) (read (load (at (pos 2) (pos 0)))) ≡ none → ⊥
   unfolding sized at
   not-loaded e =
-      let k = alone (read (load (at (pos 2) (pos 0)))) .only-legal e .2 in
+      let k = alone (read (load (at (pos 2) (pos 0)))) .only-legal e .1 in
       absurd (omega (arith, ap natAbs (k .column), k .i-below))
 
-  nothing-taken : test (sized 2 0) 1 (write (clear 1)) ≡ none → ⊥
+  nothing-taken : test (sized 2 0) (sizeOf other) (write (clear 1)) ≡ none → ⊥
   unfolding sized
-  nothing-taken e = absurd (omega (arith, no-row (write (clear 1) ∷ []) .each [] (write (clear 1)) [] refl .only-legal e .1 .0))
+  nothing-taken e = absurd (omega (arith, no-row (write (clear 1) ∷ []) .each [] (write (clear 1)) [] refl .only-legal e .0 .1 .0))
 
-  fetch-taken : test (sized 2 2) 5 last ≡ none
+  not-without-sums : test (sized 1 1) (sizeOf few) (write (clear 1)) ≡ none → ⊥
+  unfolding sized banks
+  not-without-sums e = absurd (omega (arith, few-sums (write (clear 1) ∷ []) .each [] (write (clear 1)) [] refl .only-legal e .1))
+
+  fetch-taken : test (sized 2 2) (sizeOf longer) last ≡ none
   unfolding sized last test
   fetch-taken = refl
 
@@ -139,11 +154,11 @@ module _ (demand-3 : Demand3) where
   unfolding at
   corner = record { i = 1; j = 1; column = refl; row = refl; i-below = omega arith; j-below = omega arith }
 
-  stands : wordIn (plan 2 0 1) 2 2 (run (sized 2 2) longer stores) (at (pos 1) (pos 1)) ≡ 9
+  stands : wordIn (plan 2 0 1) 2 2 (run (sized 2 2) longer stores .memory) (at (pos 1) (pos 1)) ≡ 9
   unfolding sized
   stands = two-by-two stores .words (at (pos 1) (pos 1)) corner ∙ stored-last
 
-  stays : drop 4 (run (sized 2 2) longer stores) ≡ 7 ∷ []
+  stays : drop 4 (run (sized 2 2) longer stores .memory) ≡ 7 ∷ []
   unfolding sized pictureWords
   stays = two-by-two stores .rest
 
@@ -154,7 +169,7 @@ module _ (demand-3 : Demand3) where
       let row : v .row ≡ pos 0 = h .row ∙ ap pos (omega (arith, h .j-below)) in
       absurd (omega (arith, rw (column, row) at e))
 
-  other-0 : getD (run (sized 1 1) exact (write (store (at (pos 0) (pos 0)) 6) ∷ [])) 1 0 ≡ 0
+  other-0 : getD (run (sized 1 1) exact (write (store (at (pos 0) (pos 0)) 6) ∷ []) .memory) 1 0 ≡ 0
   unfolding sized pictureWords
   other-0 = one-by-one (write (store (at (pos 0) (pos 0)) 6) ∷ []) .others 1 (omega arith) no-pixel
 
@@ -168,6 +183,7 @@ module _ (demand-3 : Demand3) where
         clear-taken = may-clear;
         outside-refused = not-loaded;
         no-row-refused = nothing-taken;
+        few-sums-refused = not-without-sums;
         banks-differ = two-banks;
         word-stands = stands;
         rest-stays = stays;

@@ -1,15 +1,16 @@
 -- Document 01, "Figures to agree with": the starred figures and the examples of the table of refusals, row by row, the figures
--- that document 02 changes or adds, those of its Cards 4 and 5 worked out by hand, and the one theorem that checks the
+-- that document 02 changes or adds, those of its Cards 4 to 6 worked out by hand, and the one theorem that checks the
 -- definitions on them by computation. The other files of this folder have more rows.
 -- Card 1: "The 2 by 2 square of pixels moves from 4, 2, 1 to 2, 0, 2; the other figures in document 01 are unaffected."
 -- Assumes nothing.
 use mathlib.Core.Path.{refl}
 use mathlib.Core.List.{List, [], _∷_, _++_}
+use lib.ListN.{replicate}
 use lib.IntN.{pos}
 use Rattle.scope.specs.Plans.{at, plan}
-use Rattle.scope.specs.Calls.{readBook, normal, find, bank, depth, address, locate, load}
+use Rattle.scope.specs.Calls.{readBook, normal, find, bank, depth, address, locate, lent, store, load, clear, sum, makeSums, readSum}
 use Rattle.scope.specs.Program.{ascii, programText}
-use Rattle.scope.specs.values.Rows.{Row, Hold, row, is, refused, clashes, crowds, planned, counted, loaded, located, neg, px, one, two, three, threeAndThree, gap, square, cross, fivePixels, sixPairs, finds, findsFor, reads, checks, checksFor, fetches, rings, ringAnswerFor, ringFetchedFor, cyclesAnswer, cyclesLeft}
+use Rattle.scope.specs.values.Rows.{Row, Hold, row, is, refused, clashes, crowds, planned, counted, loaded, located, done, neg, px, one, two, three, threeAndThree, gap, square, cross, fivePixels, sixPairs, finds, findsFor, reads, checks, checksFor, fetches, rings, ringAnswerFor, ringFetchedFor, cyclesAnswer, cyclesLeft, upTo}
 
 starred : List Row
 unfolding row is refused finds planned counted located normal bank depth address locate plan one three threeAndThree gap square cross sixPairs px at neg
@@ -120,9 +121,33 @@ card5 =
     ∷ row (ringFetchedFor 1 square (plan 32 0 32) 32 32 1024 0 (px 31 31) (8 ∷ 8 ∷ 8 ∷ 8 ∷ [])) (is (1024 ∷ 993 ∷ 32 ∷ 1 ∷ []))
     ∷ []
 
+-- Card 6. Plan 2, 0, 1 on 2 by 2 has the words of bank 0, then those of bank 1: 1, 2 and 3, 4. With the sums 3, 7 and an entry past N: a
+-- store of 9 at (1, 0) over the word 3, one of 3 over itself, a clear of bank 1, and the sums made afresh from 5, 6. A bank of two words
+-- passes 2^16, and one of 69,632 words passes 2^32. Sums that start wrong, at 0 with a word 3 or at 2^64 - 1, go below 0 or past 2^64 and
+-- are told modulo 2^64.
+card6 : List Row
+unfolding row is refused done counted store clear sum makeSums readSum plan px upTo
+card6 =
+    row (is (store (plan 2 0 1) 2 2 (lent (upTo 4) (3 ∷ 7 ∷ 8 ∷ [])) (px 1 0) 9 .content .sums)) (is (3 ∷ 13 ∷ 8 ∷ []))
+    ∷ row (is (store (plan 2 0 1) 2 2 (lent (upTo 4) (3 ∷ 7 ∷ 8 ∷ [])) (px 1 0) 3 .content .sums)) (is (3 ∷ 7 ∷ 8 ∷ []))
+    ∷ row (is (clear (plan 2 0 1) 2 2 (lent (upTo 4) (3 ∷ 7 ∷ 8 ∷ [])) 1 .content .sums)) (is (3 ∷ 0 ∷ 8 ∷ []))
+    ∷ row (is (makeSums (plan 2 0 1) 2 2 (lent (upTo 4) (5 ∷ 6 ∷ 8 ∷ [])) .content .sums)) (is (3 ∷ 7 ∷ 8 ∷ []))
+    ∷ row (is (makeSums (plan 2 0 1) 2 2 (lent (upTo 4) (5 ∷ 6 ∷ 8 ∷ [])) .content .memory)) (is (1 ∷ 2 ∷ 3 ∷ 4 ∷ []))
+    ∷ row (counted (readSum (plan 2 0 1) (3 ∷ 7 ∷ 8 ∷ []) 1)) (is (7 ∷ []))
+    ∷ row (counted (readSum (plan 2 0 1) (3 ∷ 7 ∷ 8 ∷ []) 2)) (refused 15 0)
+    ∷ row (counted (readSum (plan 2 0 1) (3 ∷ []) 0)) (refused 13 0)
+    ∷ row (is (store (plan 1 0 1) 2 1 (lent (1 ∷ 65535 ∷ []) (65536 ∷ [])) (px 0 0) 65535 .content .sums)) (is (131070 ∷ []))
+    ∷ row (counted (sum (plan 1 0 1) 2 1 (65535 ∷ 65535 ∷ []) 0)) (is (131070 ∷ []))
+    ∷ row (is (store (plan 2 0 1) 2 2 (lent (upTo 4) (0 ∷ 0 ∷ [])) (px 1 0) 0 .content .sums)) (is (0 ∷ 0xFFFF_FFFF_FFFF_FFFD ∷ []))
+    ∷ row (is (store (plan 2 0 1) 2 2 (lent (upTo 4) (0 ∷ 0 ∷ [])) (px 1 0) 5 .content .sums)) (is (0 ∷ 2 ∷ []))
+    ∷ row (is (store (plan 2 0 1) 2 2 (lent (upTo 4) (0 ∷ 0xFFFF_FFFF_FFFF_FFFF ∷ [])) (px 1 0) 5 .content .sums)) (is (0 ∷ 1 ∷ []))
+    ∷ row (done (store (plan 2 0 1) 2 2 (lent (upTo 4) (3 ∷ [])) (px 2 0) 9 .answer)) (refused 13 0)
+    ∷ row (is (makeSums (plan 1 0 1) 4096 17 (lent (replicate 69632 65535) (0 ∷ [])) .content .sums)) (is (4563333120 ∷ []))
+    ∷ []
+
 figures : List Row
-unfolding starred examples card3 card4 card5
-figures = starred ++ examples ++ card3 ++ card4 ++ card5
+unfolding starred examples card3 card4 card5 card6
+figures = starred ++ examples ++ card3 ++ card4 ++ card5 ++ card6
 
 figures-hold : Hold figures
 unfolding figures

@@ -5,8 +5,10 @@ use Prim.Native.Nat.{ℕ}
 use mathlib.Core.Path.{refl}
 use mathlib.Core.Bool.{true, false}
 use mathlib.Core.List.{List, [], _∷_, _++_, map, flatMap}
+use lib.ListN.{replicate}
 use Rattle.scope.specs.Plans.{at, plan}
 use Rattle.scope.specs.Books.{bookOf}
+use Rattle.scope.specs.Calls.{lent}
 use Rattle.scope.specs.promises.Demand as Demand
 use Rattle.scope.specs.values.Rows.{Row, Hold, row, is, neg, px, two, replied}
 use Rattle.scope.specs.declared.Plan.{Plan}
@@ -38,11 +40,11 @@ fetches =
 lists : List Row
 unfolding row is plan ringed stores fetches replied flatMap Demand.replies Demand.replyDue
 lists =
-    row (is (flatMap replied (Demand.replies (ringed 1 (plan 2 0 1) 2) (0 ∷ 0 ∷ 0 ∷ 0 ∷ 4 ∷ []) (stores ++ fetches)))) (is (0 ∷ 0 ∷ 0 ∷ 0 ∷ 0 ∷ 2 ∷ 8 ∷ 7 ∷ 3 ∷ 0 ∷ 2 ∷ 6 ∷ 5 ∷ 14 ∷ 3 ∷ 3 ∷ 17 ∷ 3 ∷ 16 ∷ 3 ∷ []))
-    ∷ row (is (flatMap replied (map (Demand.replyDue (ringed 1 (plan 2 0 1) 2) 5 stores) fetches))) (is (0 ∷ 2 ∷ 8 ∷ 7 ∷ 3 ∷ 0 ∷ 2 ∷ 6 ∷ 5 ∷ 14 ∷ 3 ∷ 3 ∷ 17 ∷ 3 ∷ 16 ∷ 3 ∷ []))
-    ∷ row (is (flatMap replied (Demand.replies (ringed 1 (plan 2 0 1) 3) (0 ∷ 0 ∷ 0 ∷ 0 ∷ 0 ∷ 0 ∷ 0 ∷ 0 ∷ []) fetches))) (is (18 ∷ 3 ∷ 3 ∷ 3 ∷ 18 ∷ 3 ∷ 3 ∷ 0 ∷ 2 ∷ 0 ∷ 0 ∷ 17 ∷ 3 ∷ 18 ∷ 3 ∷ []))
-    ∷ row (is (flatMap replied (map (Demand.replyDue (ringed 1 (plan 2 0 1) 3) 8 []) fetches))) (is (18 ∷ 3 ∷ 3 ∷ 3 ∷ 18 ∷ 3 ∷ 3 ∷ 0 ∷ 2 ∷ 0 ∷ 0 ∷ 17 ∷ 3 ∷ 18 ∷ 3 ∷ []))
-    ∷ row (is (flatMap replied (Demand.replies (ringed 1 (plan 2 0 1) 2) (0 ∷ 0 ∷ 0 ∷ 0 ∷ []) (stores ++ (Demand.write (Demand.clear 1) ∷ fetches))))) (is (0 ∷ 0 ∷ 0 ∷ 0 ∷ 0 ∷ 0 ∷ 2 ∷ 0 ∷ 7 ∷ 3 ∷ 0 ∷ 2 ∷ 0 ∷ 5 ∷ 14 ∷ 3 ∷ 3 ∷ 17 ∷ 3 ∷ 16 ∷ 3 ∷ []))
+    row (is (flatMap replied (Demand.replies (ringed 1 (plan 2 0 1) 2) (lent (0 ∷ 0 ∷ 0 ∷ 0 ∷ 4 ∷ []) (0 ∷ 0 ∷ [])) (stores ++ fetches)))) (is (0 ∷ 0 ∷ 0 ∷ 0 ∷ 0 ∷ 2 ∷ 8 ∷ 7 ∷ 3 ∷ 0 ∷ 2 ∷ 6 ∷ 5 ∷ 14 ∷ 3 ∷ 3 ∷ 17 ∷ 3 ∷ 16 ∷ 3 ∷ []))
+    ∷ row (is (flatMap replied (map (Demand.replyDue (ringed 1 (plan 2 0 1) 2) (lent (0 ∷ 0 ∷ 0 ∷ 0 ∷ 4 ∷ []) (0 ∷ 0 ∷ [])) stores) fetches))) (is (0 ∷ 2 ∷ 8 ∷ 7 ∷ 3 ∷ 0 ∷ 2 ∷ 6 ∷ 5 ∷ 14 ∷ 3 ∷ 3 ∷ 17 ∷ 3 ∷ 16 ∷ 3 ∷ []))
+    ∷ row (is (flatMap replied (Demand.replies (ringed 1 (plan 2 0 1) 3) (lent (replicate 8 0) []) fetches))) (is (18 ∷ 3 ∷ 3 ∷ 3 ∷ 18 ∷ 3 ∷ 3 ∷ 0 ∷ 2 ∷ 0 ∷ 0 ∷ 17 ∷ 3 ∷ 18 ∷ 3 ∷ []))
+    ∷ row (is (flatMap replied (map (Demand.replyDue (ringed 1 (plan 2 0 1) 3) (lent (replicate 8 0) []) []) fetches))) (is (18 ∷ 3 ∷ 3 ∷ 3 ∷ 18 ∷ 3 ∷ 3 ∷ 0 ∷ 2 ∷ 0 ∷ 0 ∷ 17 ∷ 3 ∷ 18 ∷ 3 ∷ []))
+    ∷ row (is (flatMap replied (Demand.replies (ringed 1 (plan 2 0 1) 2) (lent (0 ∷ 0 ∷ 0 ∷ 0 ∷ []) (0 ∷ 0 ∷ [])) (stores ++ (Demand.write (Demand.clear 1) ∷ fetches))))) (is (0 ∷ 0 ∷ 0 ∷ 0 ∷ 0 ∷ 0 ∷ 2 ∷ 0 ∷ 7 ∷ 3 ∷ 0 ∷ 2 ∷ 0 ∷ 5 ∷ 14 ∷ 3 ∷ 3 ∷ 17 ∷ 3 ∷ 16 ∷ 3 ∷ []))
     ∷ []
 
 lists-hold : Hold lists
@@ -58,8 +60,8 @@ cycles =
     ∷ row (is (flatMap (Demand.cyclesRead (ringed 1 (plan 2 0 1) 2)) fetches)) (is (0 ∷ 0 ∷ 0 ∷ 0 ∷ 0 ∷ 0 ∷ 0 ∷ 0 ∷ []))
     ∷ row (is (flatMap (Demand.banksRead (ringed 2 (plan 1 0 1) 3)) fetches)) (is (0 ∷ 0 ∷ 0 ∷ 0 ∷ 0 ∷ 0 ∷ 0 ∷ 0 ∷ []))
     ∷ row (is (flatMap (Demand.cyclesRead (ringed 2 (plan 1 0 1) 3)) fetches)) (is (0 ∷ 1 ∷ 0 ∷ 1 ∷ 0 ∷ 1 ∷ 0 ∷ 1 ∷ []))
-    ∷ row (is (flatMap replied (Demand.replies (ringed 1 (plan 1 0 4) 2) (0 ∷ 0 ∷ 0 ∷ 0 ∷ 0 ∷ 0 ∷ 0 ∷ 0 ∷ []) fetches))) (is (10 ∷ 0 ∷ 0 ∷ 1 ∷ 3 ∷ 3 ∷ 3 ∷ 10 ∷ 0 ∷ 0 ∷ 1 ∷ 3 ∷ 3 ∷ 10 ∷ 0 ∷ 0 ∷ 1 ∷ 3 ∷ 3 ∷ 17 ∷ 3 ∷ 10 ∷ 0 ∷ 0 ∷ 1 ∷ 3 ∷ []))
-    ∷ row (is (flatMap replied (map (Demand.replyDue (ringed 1 (plan 1 0 4) 2) 8 []) fetches))) (is (10 ∷ 0 ∷ 0 ∷ 1 ∷ 3 ∷ 3 ∷ 3 ∷ 10 ∷ 0 ∷ 0 ∷ 1 ∷ 3 ∷ 3 ∷ 10 ∷ 0 ∷ 0 ∷ 1 ∷ 3 ∷ 3 ∷ 17 ∷ 3 ∷ 10 ∷ 0 ∷ 0 ∷ 1 ∷ 3 ∷ []))
+    ∷ row (is (flatMap replied (Demand.replies (ringed 1 (plan 1 0 4) 2) (lent (replicate 8 0) []) fetches))) (is (10 ∷ 0 ∷ 0 ∷ 1 ∷ 3 ∷ 3 ∷ 3 ∷ 10 ∷ 0 ∷ 0 ∷ 1 ∷ 3 ∷ 3 ∷ 10 ∷ 0 ∷ 0 ∷ 1 ∷ 3 ∷ 3 ∷ 17 ∷ 3 ∷ 10 ∷ 0 ∷ 0 ∷ 1 ∷ 3 ∷ []))
+    ∷ row (is (flatMap replied (map (Demand.replyDue (ringed 1 (plan 1 0 4) 2) (lent (replicate 8 0) []) []) fetches))) (is (10 ∷ 0 ∷ 0 ∷ 1 ∷ 3 ∷ 3 ∷ 3 ∷ 10 ∷ 0 ∷ 0 ∷ 1 ∷ 3 ∷ 3 ∷ 10 ∷ 0 ∷ 0 ∷ 1 ∷ 3 ∷ 3 ∷ 17 ∷ 3 ∷ 10 ∷ 0 ∷ 0 ∷ 1 ∷ 3 ∷ []))
     ∷ []
 
 cycles-hold : Hold cycles

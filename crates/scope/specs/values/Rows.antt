@@ -19,7 +19,9 @@ use Rattle.scope.specs.declared.Planned.{Planned}
 use Rattle.scope.specs.declared.Counted.{Counted}
 use Rattle.scope.specs.declared.Loaded.{Loaded}
 use Rattle.scope.specs.declared.Located.{Located}
+use Rattle.scope.specs.code.Words.{ofPlaced}
 use Rattle.scope.specs.declared.Outcome.{Outcome}
+use Rattle.scope.specs.declared.Placed.{Placed}
 use Rattle.scope.specs.declared.Verdict.{Verdict}
 use Rattle.scope.specs.declared.CheckAnswer.{CheckAnswer}
 use Rattle.scope.specs.declared.FetchAnswer.{FetchAnswer}
@@ -70,6 +72,10 @@ loaded r = values (λ n. pos n ∷ []) (ofLoaded r)
 unfoldable pub located : Located → Answer (List ℤ)
 unfolding values
 located r = values (λ v. v .column ∷ v .row ∷ []) (ofLocated r)
+
+unfoldable pub placed : Placed → Answer (List ℤ)
+unfolding values ofPlaced
+placed r = values (λ x. pos (x .bank) ∷ pos (x .word) ∷ []) (ofPlaced r)
 
 unfoldable pub done : Outcome → Answer (List ℤ)
 unfolding values
@@ -231,3 +237,4 @@ unfolding numbers
 replied (Demand.wrote x) = numbers (λ u. []) x
 replied (Demand.loaded x) = numbers (λ n. n ∷ []) x
 replied (Demand.fetched x out) = numbers (λ n. n ∷ []) x ++ out
+replied (Demand.summed x) = numbers (λ n. n ∷ []) x

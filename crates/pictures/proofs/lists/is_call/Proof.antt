@@ -12,30 +12,30 @@ use Rattle.pictures.proofs.lists.is_call.Tie as tie
 
 -- test by test
 module _ (kind i j n : ℕ) where
-  no-kind : 4 < kind → false ≡ isCall kind i j n
+  no-kind : 7 < kind → false ≡ isCall kind i j n
   unfolding isCall
-  no-kind h = rw (lt-leb kind 4 h) refl
+  no-kind h = rw (lt-leb kind 7 h) refl
 
-  module _ (a : kind ≤ 4) where
+  module _ (a : kind ≤ 7) where
     no-column : 65535 < i → false ≡ isCall kind i j n
     unfolding isCall
-    no-column h = rw (le-leb kind 4 a, le-ltb i 65536 (omega arith)) refl
+    no-column h = rw (le-leb kind 7 a, le-ltb i 65536 (omega arith)) refl
 
     module _ (b : i ≤ 65535) where
       no-row : 65535 < j → false ≡ isCall kind i j n
       unfolding isCall
-      no-row h = rw (le-leb kind 4 a, lt-ltb i 65536 (omega arith), le-ltb j 65536 (omega arith)) refl
+      no-row h = rw (le-leb kind 7 a, lt-ltb i 65536 (omega arith), le-ltb j 65536 (omega arith)) refl
 
       module _ (c : j ≤ 65535) where
         no-store : 0 < kind → true ≡ isCall kind i j n
         unfolding isCall
         no-store h =
-            rw (le-leb kind 4 a, lt-ltb i 65536 (omega arith), lt-ltb j 65536 (omega arith), le-leb 1 kind (omega arith)) refl
+            rw (le-leb kind 7 a, lt-ltb i 65536 (omega arith), lt-ltb j 65536 (omega arith), le-leb 1 kind (omega arith)) refl
 
         stored-word : kind ≤ 0 → ltb n 65536 ≡ isCall kind i j n
         unfolding isCall
         stored-word h =
-            rw (le-leb kind 4 a, lt-ltb i 65536 (omega arith), lt-ltb j 65536 (omega arith), lt-leb 1 kind (omega arith)) refl
+            rw (le-leb kind 7 a, lt-ltb i 65536 (omega arith), lt-ltb j 65536 (omega arith), lt-leb 1 kind (omega arith)) refl
 
 returns : tie.Need-returns
 returns c = no-kind _ _ _ _ (c .if1 .taken)

@@ -6,6 +6,7 @@ use mathlib.Core.Path.{_≡_, sym, _∙_, ap, subst}
 use lib.ListN.{length, getD, drop, length-drop, length-take}
 use borrow.Author.Needs.{needs}
 use Rattle.scope.specs.Plans.{patternAt}
+use Rattle.scope.specs.Calls.{lent}
 use Rattle.book.proofs.Scanning.{entry-number-below}
 use Rattle.pictures.specs.Fetching.{entryFor}
 use Rattle.pictures.specs.Lists.{setting, roomAt, BegunAt, noStart}
@@ -18,14 +19,14 @@ use Rattle.pictures.proofs.lists.make_calls.Statement.{statement}
 use Rattle.pictures.proofs.lists.make_calls.Tie as tie
 
 abbrev Inv-loop : tie.InvT-loop
-Inv-loop r p w h mem₀ numbers outs₀ rows₀ book starts left₀ k₀ q₀ at₀ mem outs rows left k q at =
-    Going (setting book r p w h) numbers mem₀ outs₀ rows₀ left k q at mem outs rows
+Inv-loop r p w h mem₀ sums₀ numbers outs₀ rows₀ book starts left₀ k₀ q₀ at₀ mem sums outs rows left k q at =
+    Going (setting book r p w h) numbers (lent mem₀ sums₀) outs₀ rows₀ left k q at (lent mem sums) outs rows
 
 abbrev μ-loop : tie.MeasureT-loop
-μ-loop r p w h mem₀ numbers outs₀ rows₀ book starts left₀ k₀ q₀ at₀ mem outs rows left k q at = left
+μ-loop r p w h mem₀ sums₀ numbers outs₀ rows₀ book starts left₀ k₀ q₀ at₀ mem sums outs rows left k q at = left
 
 loop-holds : tie.Need-loop-holds Inv-loop μ-loop
-loop-holds c = let s = c .before .before .before .before in going-start _ _ _ _ _ (s .pre .1) (s .pre .2)
+loop-holds c = let s = c .before .before .before .before .before in going-start _ _ _ _ _ (s .pre .1) (s .pre .2)
 
 -- where the number of what the next call begins with is known
 module _ (c : tie.After-start-number Inv-loop μ-loop) where
@@ -36,7 +37,7 @@ module _ (c : tie.After-start-number Inv-loop μ-loop) where
   turn = inside .before
 
   abbrev began : tie.Start Inv-loop μ-loop
-  began = turn .before .before .before .before .before
+  began = turn .before .before .before .before .before .before
 
   abbrev number : ℕ
   number = getD (began .args .numbers .now) (turn .loop .k + 3) 0
@@ -48,13 +49,13 @@ module _ (c : tie.After-start-number Inv-loop μ-loop) where
   numbers-there = omega (arith, turn .loop .inv .numbers-left, inside .loop-test .taken)
 
   numbers-small : length (began .args .numbers .now) * 8 < 2 ^ 63
-  numbers-small = began .good .1 .1 .1 .1 .1 .1 .1 .0 .1
+  numbers-small = began .good .1 .1 .1 .1 .1 .1 .1 .1 .0 .1
 
   row-there : turn .loop .q + 12 ≤ length (turn .loop .rows)
   row-there = omega (arith, turn .loop .inv .row-room, inside .loop-test .taken)
 
   rows-small : length (turn .loop .rows) * 8 < 2 ^ 63
-  rows-small = omega (arith, turn .loop .inv .rows-long, began .good .1 .1 .1 .1 .1 .1 .1 .1 .1 .0 .1)
+  rows-small = omega (arith, turn .loop .inv .rows-long, began .good .1 .1 .1 .1 .1 .1 .1 .1 .1 .1 .0 .1)
 
   begun :
       let u = began .args in
@@ -89,7 +90,7 @@ module _ (c : tie.After-room-of Inv-loop μ-loop) where
 make-call-requires : tie.Need-make-call-requires Inv-loop μ-loop
 unfolding patternAt
 make-call-requires c κs =
-    let e = entered (c .before .before .before .before) in
+    let e = entered (c .before .before .before .before .before) in
     let s = begun (numbered e) in (
       λ found.
           let shown = started _ _ _ _ _ _ _ (sym (found-by _ (s .outcome-is)) ∙ found) in
@@ -99,19 +100,19 @@ make-call-requires c κs =
 
 -- the call was made
 abbrev roomed : tie.After-make-call Inv-loop μ-loop → tie.After-room-of Inv-loop μ-loop
-roomed c = c .before .before .before .before .before
+roomed c = c .before .before .before .before .before .before
 
 put-row-requires : tie.Need-put-row-requires Inv-loop μ-loop
 unfolding patternAt
 put-row-requires c κs =
-    let m = c .before .before .before .before .before in
+    let m = c .before .before .before .before .before .before .before in
     let e = entered (roomed m) in
     let made = m .make-call .ensures _ (begun (numbered e)) (own-entry e) in
     (row-long made, simp (length-take, length-drop) (omega (arith, row-there (numbered e))))
 
 -- and its reply put
-abbrev replied : tie.After-slice-known6 Inv-loop μ-loop → tie.After-make-call Inv-loop μ-loop
-replied c = c .before .before .before .before .before .before .before .before
+abbrev replied : tie.After-slice-known8 Inv-loop μ-loop → tie.After-make-call Inv-loop μ-loop
+replied c = c .before .before .before .before .before .before .before .before .before .before
 
 loop-again : tie.Need-loop-again Inv-loop μ-loop
 unfolding patternAt
@@ -122,8 +123,9 @@ loop-again c =
     let s = numbered e in
     going-on _ _ _ _ _ (turn s .loop .inv) (inside s .loop-test .taken) (r .room-of .ensures)
     (m .make-call .kept .1 .1 .1 .1 .1 .1 .0)
+    (m .make-call .kept .1 .1 .1 .1 .1 .1 .1 .0)
     (m .make-call .ensures _ (begun s) (own-entry e))
-    (m .make-call .kept .1 .1 .1 .1 .1 .1 .1 .1 .1 .1 .1 .0)
+    (m .make-call .kept .1 .1 .1 .1 .1 .1 .1 .1 .1 .1 .1 .1 .0)
     (c .before .before .put-row .ensures)
 
 pub make-calls-spec : {M : Type 1} → statement M
@@ -144,11 +146,11 @@ make-calls-spec =
     (λ c κs. search needs)
     (λ c. omega (arith, room-fits c))
     (λ c. search needs) (λ c. search needs) (λ c. search needs) (λ c. search needs) (λ c. search needs) (λ c. search needs) (λ c. search needs) (λ c. search needs) (λ c. search needs)
-    (λ c. room-fits (c .before .before .before))
+    (λ c. room-fits (c .before .before .before .before))
     make-call-requires
-    (λ c. let s = known (roomed (c .before .before .before .before)) in record { fits = omega (arith, row-there s, rows-small s) })
-    (λ c. omega (arith, row-there (known (roomed (c .before .before .before .before)))))
-    (λ c. omega (arith, row-there (known (roomed (c .before .before .before .before)))))
+    (λ c. let s = known (roomed (c .before .before .before .before .before .before)) in record { fits = omega (arith, row-there s, rows-small s) })
+    (λ c. omega (arith, row-there (known (roomed (c .before .before .before .before .before .before)))))
+    (λ c. omega (arith, row-there (known (roomed (c .before .before .before .before .before .before)))))
     (λ c. search needs)
     put-row-requires
     (λ c. let s = known (roomed (replied c)) in record { fits = omega (arith, numbers-there s, numbers-small s) })
@@ -156,6 +158,7 @@ make-calls-spec =
     (λ c. omega arith) (λ c. omega arith)
     loop-again
     (λ c. c .before .loop .inv .mem-long)
+    (λ c. c .before .loop .inv .sums-long)
     (λ c. c .before .loop .inv .outs-long)
     (λ c. c .before .loop .inv .rows-long)
     (λ c. going-end _ _ _ _ _ (c .before .loop .inv) (omega arith)))

@@ -2,13 +2,13 @@
 -- tests for a word.
 -- Assumes nothing.
 use Prim.Native.Nat.{ℕ}
-use mathlib.Core.Path.{_≡_, sym, _∙_, ap}
+use mathlib.Core.Path.{_≡_, _∙_, ap}
 use mathlib.Core.Option.{Option, none, some}
 use mathlib.Core.List.{[], _∷_}
 use borrow.Author.Needs.{needs}
-use Rattle.scope.specs.Plans.{Pixel, at}
+use Rattle.scope.specs.Plans.{Pixel}
 use Rattle.scope.specs.Banks.{wordOf}
-use Rattle.scope.specs.Numbers.{planTest, sidesTest, outsideTest}
+use Rattle.scope.specs.Numbers.{outsideTest}
 use Rattle.scope.specs.Calls.{answered, pictureTest, addressTest, wordTest}
 use Rattle.scope.specs.code.Words.{word}
 use Rattle.scope.specs.declared.Plan.{Plan}
@@ -16,10 +16,10 @@ use Rattle.scope.specs.declared.Counted.{Counted}
 use Rattle.scope.specs.declared.Refusal.{Refusal}
 use Rattle.scope.proofs.PlanFacts.{pixel-handed}
 use Rattle.book.proofs.Outcomes.{done-found-nothing, refused-found}
-use Rattle.checks.proofs.Chains.{chain-refuses, chain-goes-on, gives-refusal}
-use Rattle.checks.proofs.Tests.{plan-legal-iff, sides-legal-iff}
+use Rattle.checks.proofs.Chains.{chain-refuses, gives-refusal}
 use Rattle.pictures.specs.Places.{wordPlace}
 use Rattle.pictures.proofs.CallTests.{picture-test-iff}
+use Rattle.pictures.proofs.PictureTests.{only-outside}
 use Rattle.pictures.proofs.places.word_place.Statement.{statement}
 use Rattle.pictures.proofs.places.word_place.Tie as tie
 
@@ -33,17 +33,15 @@ module _ (p : Plan) (W H words : ℕ) (v : Pixel) where
       gives-refusal (chain-refuses (pictureTest p W H words) (outside ∷ []) r e) Counted.Refused (Counted.Number (wordOf p W H v))
 
   module _ (passed : pictureTest p W H words ≡ none) where
-    only-outside : addressTest p W H v ≡ wordTest p W H words v
+    tests-same : addressTest p W H v ≡ wordTest p W H words v
     unfolding wordTest
-    only-outside =
+    tests-same =
         let picture = picture-test-iff p W H words .0 passed in
-        chain-goes-on (planTest p) (sidesTest W H ∷ outside ∷ []) (plan-legal-iff p .1 (picture .plan))
-        ∙ chain-goes-on (sidesTest W H) (outside ∷ []) (sides-legal-iff W H .1 (picture .W-side, picture .H-side))
-        ∙ sym (chain-goes-on (pictureTest p W H words) (outside ∷ []) passed)
+        only-outside p W H v passed (picture .plan) (picture .W-side) (picture .H-side)
 
     word-is-place : word p W H v ≡ wordPlace p W H words v
     unfolding word wordPlace
-    word-is-place = ap (λ (t : Option Refusal). answered t Counted.Refused (Counted.Number (wordOf p W H v))) only-outside
+    word-is-place = ap (λ (t : Option Refusal). answered t Counted.Refused (Counted.Number (wordOf p W H v))) tests-same
 
 returns : tie.Need-returns
 returns c =

@@ -3,8 +3,9 @@
 use borrow.Author.Needs.{needs}
 use Rattle.scope.specs.Banks.{addressOf}
 use Rattle.scope.specs.Calls.{address}
+use Rattle.scope.specs.declared.Counted.{Counted}
 use Rattle.scope.proofs.PlanFacts.{pixel-handed}
-use Rattle.scope.proofs.MethodAnswers.{pixel-done, refusal-told, number-told}
+use Rattle.scope.proofs.MethodAnswers.{pixel-done, refusal-told, value-told}
 use Rattle.scope.proofs.Plan.address.Statement.{statement}
 use Rattle.scope.proofs.Plan.address.Tie as tie
 
@@ -14,8 +15,8 @@ returns c =
     let o = c .before .before .before in
     let u = o .before .args in
     let f = o .before .fits in
-    refusal-told (u .self) (u .w) (u .h) (pixel-handed (f .i) (f .j)) (o .pixel-outcome .ensures) (addressOf (u .self) (u .w) (u .h))
-    (c .before .r .given .1)
+    refusal-told (u .self) (u .w) (u .h) (pixel-handed (f .i) (f .j)) (o .pixel-outcome .ensures) Counted.Refused Counted.Number
+    (addressOf (u .self) (u .w) (u .h)) (c .before .r .given .1)
 
 returns-2 : tie.Need-returns-2
 unfolding address
@@ -23,8 +24,8 @@ returns-2 c =
     let o = c .before .before .before in
     let u = o .before .args in
     let f = o .before .fits in
-    number-told (u .self) (u .w) (u .h) (pixel-handed (f .i) (f .j)) (o .pixel-outcome .ensures) (addressOf (u .self) (u .w) (u .h))
-    (c .before .enum-told .given .1) (c .address-number .ensures)
+    value-told (u .self) (u .w) (u .h) (pixel-handed (f .i) (f .j)) (o .pixel-outcome .ensures) Counted.Refused Counted.Number
+    (addressOf (u .self) (u .w) (u .h)) (c .before .enum-told .given .1) (c .address-number .ensures)
 
 pub address-spec : {M : Type 1} → statement M
 address-spec =
