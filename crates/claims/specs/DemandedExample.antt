@@ -47,7 +47,8 @@ unfoldable pub both : Call
 unfolding at
 both = read (fetch false 0 (at (pos 1) (pos 0)) (5 ∷ 5 ∷ 5 ∷ []))
 
--- the four words of the picture and one more, the sums of the banks, which are some numbers, and one more, the fetch's room and one word more, and the replies and one number more
+-- the four words of the picture and one more, sums that are some numbers and one entry more, the fetch's room and one word more, and
+-- the replies and one number more
 abbrev pub start : Buffers
 start = buffers (0 ∷ 0 ∷ 0 ∷ 0 ∷ 7 ∷ []) (3 ∷ 1 ∷ 4 ∷ []) (5 ∷ 5 ∷ 5 ∷ 6 ∷ []) (replicate 72 1 ++ (4 ∷ []))
 

@@ -10,10 +10,11 @@ use Rattle.scope.specs.Plans.{banks}
 use Rattle.scope.specs.Banks.{overStart}
 use Rattle.scope.specs.Calls.{Lent, sizeOf}
 use Rattle.scope.specs.promises.Demand.{Call, Reply, Setting, run}
+use Rattle.scope.specs.values.SumEdges.{square}
 use Rattle.scope.specs.promises.SumPromises.{Words16, Stores16, AllStore16, SumsAre, SumsHold}
 use Rattle.checks.proofs.Chains.{Gives}
 use Rattle.pictures.specs.Lists.{callOf, callAt, roomAt, callsFrom, callsOf, replyNumbers, Buffers, leftBy, madeList, runList, SumsMet, SumsDemanded}
-use Rattle.pictures.specs.SumsExample.{SumsFollow, square, five, start, ReadOff, read-off}
+use Rattle.pictures.specs.SumsExample.{SumsFollow, five, start, ReadOff, read-off}
 use Rattle.pictures.specs.declared.lists.Listed.{Listed}
 use Rattle.pictures.proofs.ListFaults.{made-passes}
 use Rattle.pictures.proofs.MadeCalls.{any-call, each-call}

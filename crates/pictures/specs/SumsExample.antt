@@ -1,20 +1,19 @@
 -- What `SumsDemanded` says, read off in a small picture: its premises are met there, and each part of its claim gives a plain fact. It
 -- speaks of every answer and all buffers that are those of `runList`, and names no code: that the code's are, the contract of `run_list`
--- says. Plan 2, 0, 1 on 2 by 2 has the words of bank 0, then those of bank 1.
+-- says. The picture is that of SumEdges (scope).
 -- Assumes nothing.
-use Prim.Native.Nat.{ℕ, zero, suc}
+use Prim.Native.Nat.{ℕ}
 use mathlib.Core.Path.{_≡_, refl}
 use mathlib.Core.List.{List, [], _∷_, _++_, flatMap}
 use native.Mathlib.Omega.{arith}
-use lib.IntN.{pos}
 use lib.ListN.{getD, drop, replicate}
-use Rattle.scope.specs.Plans.{at, plan, banks}
+use Rattle.scope.specs.Plans.{plan, banks}
 use Rattle.scope.specs.Banks.{bankSum, overStart}
-use Rattle.scope.specs.Books.{bookOf}
 use Rattle.scope.specs.Calls.{sizeOf}
 use Rattle.scope.specs.promises.Demand.{Setting, replies, test}
 use Rattle.scope.specs.promises.SumPromises.{Words16, walking}
-use Rattle.pictures.specs.Lists.{setting, callsOf, replyNumbers, Buffers, buffers, runList, SumsMet, SumsDemanded}
+use Rattle.scope.specs.values.SumEdges.{square, begun, words-16}
+use Rattle.pictures.specs.Lists.{callsOf, replyNumbers, Buffers, buffers, runList, SumsMet, SumsDemanded}
 use Rattle.pictures.specs.declared.lists.Listed.{Listed}
 
 -- The claim follows where the answer and what is left are those of the definition.
@@ -22,10 +21,6 @@ abbrev pub SumsFollow : Type 0
 SumsFollow =
     (g : Setting) (numbers : List ℕ) (b : Buffers) → Words16 (b .picture .memory) → (x : Listed) (left : Buffers)
     → x ≡ runList g numbers b .answer → left ≡ runList g numbers b .content → SumsDemanded x g numbers b left
-
-unfoldable pub square : Setting
-unfolding bookOf at plan
-square = setting (bookOf ((at (pos 0) (pos 0) ∷ []) ∷ [])) 1 (plan 2 0 1) 2 2
 
 -- the sum of bank 1 is read, the sums are made afresh, 9 is stored at (1, 0), and the sums of bank 1 and of bank 2, which is none, are read
 abbrev pub first : List ℕ
@@ -37,9 +32,9 @@ rest = (0 ∷ 1 ∷ 0 ∷ 9 ∷ 0 ∷ []) ++ (7 ∷ 0 ∷ 0 ∷ 1 ∷ 0 ∷ []) 
 abbrev pub five : List ℕ
 five = first ++ (5 ∷ 0 ∷ 0 ∷ 0 ∷ 0 ∷ []) ++ rest
 
--- the words 1, 2, 3, 4, sums that are some numbers and one entry more, no output, and the replies and one number more
+-- the words and sums of SumEdges, no output, and the replies and one number more
 abbrev pub start : Buffers
-start = buffers (1 ∷ 2 ∷ 3 ∷ 4 ∷ []) (5 ∷ 6 ∷ 8 ∷ []) [] (replicate 60 1 ++ (4 ∷ []))
+start = buffers (begun .memory) (begun .sums) [] (replicate 60 1 ++ (4 ∷ []))
 
 -- a reply's numbers: two, then 0
 abbrev pub reply : ℕ → ℕ → List ℕ
@@ -51,13 +46,6 @@ pub record ReadOff (left : Buffers) : Type 0 where
   pub past-stays : drop 2 (left .picture .sums) ≡ 8 ∷ []
   pub as-long : sizeOf (left .picture) ≡ record { words = 4; entries = 3 }
   pub replies-told : left .rows ≡ reply 0 6 ++ reply 0 0 ++ reply 0 0 ++ reply 0 13 ++ reply 15 0 ++ (4 ∷ [])
-
-words-16 : Words16 (1 ∷ 2 ∷ 3 ∷ 4 ∷ [])
-words-16 zero = omega arith
-words-16 (suc zero) = omega arith
-words-16 (suc (suc zero)) = omega arith
-words-16 (suc (suc (suc zero))) = omega arith
-words-16 (suc (suc (suc (suc i)))) = omega arith
 
 module _ (follow : SumsFollow) (left : Buffers) (is : left ≡ runList square five start .content) where
   -- the premises hold

@@ -17,8 +17,8 @@ use Rattle.scope.specs.promises.Demand as Demand
 use Rattle.scope.specs.promises.SumPromises.{Words16, Stores16, AllStore16, SumsAre, walking, SumsHold, SumsKept}
 use Rattle.scope.specs.values.Rows.{Row, Hold, row, is, refused, done, counted, placed, px, upTo, replied}
 
--- The bank and the word of (2, 3) under 5, 2, 1. Plan 2, 0, 1 on 2 by 2: one entry is too few and two are enough. 13 comes after 11 and 12, and before 14 and 15; a look-up asks for no
--- sides.
+-- The bank and the word of (2, 3) under 5, 2, 1. Plan 2, 0, 1 on 2 by 2: one entry is too few and two are enough. 13 comes after 11
+-- and 12, and before 14 and 15; a look-up asks for no sides.
 orders : List Row
 unfolding row is refused done counted placed place store clear makeSums readSum plan px upTo
 orders =
@@ -108,7 +108,7 @@ pub record SumsReadOff : Type 0 where
   pub as-long : sizeOf (Demand.run square begun whole) ≡ record { words = 4; entries = 3 }
   pub read-as-walked : Demand.replies square begun whole ≡ Demand.replies square begun (before ++ (Demand.write Demand.makeSums ∷ walked))
 
-words-16 : Words16 (1 ∷ 2 ∷ 3 ∷ 4 ∷ [])
+pub words-16 : Words16 (1 ∷ 2 ∷ 3 ∷ 4 ∷ [])
 words-16 zero = omega arith
 words-16 (suc zero) = omega arith
 words-16 (suc (suc zero)) = omega arith
