@@ -1,4 +1,6 @@
 // The program: reads a book from standard input and writes the plan with the fewest banks, or the number of the refusal.
+#![tactic(auto)]
+
 ghost use Rattle.std.specs.Prelude.{◌≡◌, ◌≤◌, ◌<◌, length};
 ghost use Rattle.bankplan.specs.Input.{AnswersInput};
 

@@ -169,6 +169,6 @@ lower_by_cell v w h k less = by_rows (in_window v h) (in_window w k) (ℕ_discre
         Lower.by_column (offset_injective v.row w.row r s e)
         (offset_ascends v.column w.column c d (omega (arith, cell_inside v c r, cell_inside w d s)))
     by_rows (c, r) (d, s) (no e) =
-        Lower.by_Row
+        Lower.by_row
         (offset_ascends v.row w.row r s
         (omega (arith, cell_inside v c r, cell_inside w d s, offset_below v.column c, offset_below w.column d)))

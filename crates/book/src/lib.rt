@@ -1,4 +1,6 @@
 // Books as records and as bytes: the tests, the reader, a pattern's part of the bytes, the writer.
+#![tactic(auto)]
+
 mod cells;
 mod part;
 mod reader;

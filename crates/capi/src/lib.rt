@@ -1,6 +1,8 @@
 // The library for C and Rust: the calls on numbers, slices and arrays. Each answers a number, 0 where it was not refused, and
 // puts what it has to tell at the start of `answer`, the rest of the twelve unchanged: its values, or the refusal's place and,
 // of 10, the clash's pattern and its r + 1 positions.
+#![tactic(auto)]
+
 mod flat;
 mod list;
 mod memory;

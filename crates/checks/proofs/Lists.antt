@@ -43,7 +43,7 @@ module _ {A : Type 0} where
 -- an entry of a mapped list is the image of the entry
 pub get_d_map :
     {A B : Type 0} (f : A → B) (xs : List A) (i : ℕ) (d : A) (e : B) → i < length xs → get_or (map f xs) i e ≡ f (get_or xs i d)
-get_d_map f xs i d e h = get_d_other (map f xs) i e (f d) (omega (arith, length-map xs f)) ∙ ListN.get_d_map f xs i d
+get_d_map f xs i d e h = get_d_other (map f xs) i e (f d) (omega (arith, length-map xs f)) ∙ ListN.get_or-map f xs i d
 
 module _ {A B : Type 0} (f : A → List B) where
   -- the entries of a joined list are the entries of its parts

@@ -30,23 +30,23 @@ lower_iff p q =
     either_iff (lt_z p.row q.row) (same_number p.row q.row && lt_z p.column q.column)
     (less_iff p.row q.row)
     (and_iff _ _ (same_number_means p.row q.row) (less_iff p.column q.column))
-    Lower.by_Row
+    Lower.by_row
     (λ t. Lower.by_column t.0 t.1)
     apart
   where
     apart : Lower p q → (p.row <ℤ q.row) ⊎ ((p.row ≡ q.row) × (p.column <ℤ q.column))
-    apart (Lower.by_Row h) = inl h
+    apart (Lower.by_row h) = inl h
     apart (Lower.by_column e h) = inr (e, h)
 
 -- No pixel is lower than itself, the order goes on, and of two different pixels one is lower.
 pub not_lower_than_itself : (v w : Pixel) → v ≡ w → Lower v w → ⊥
-not_lower_than_itself v w e (Lower.by_Row h) = lt_not_same v.row w.row (ap (λ (u : Pixel). u.row) e) h
+not_lower_than_itself v w e (Lower.by_row h) = lt_not_same v.row w.row (ap (λ (u : Pixel). u.row) e) h
 not_lower_than_itself v w e (Lower.by_column r h) = lt_not_same v.column w.column (ap (λ (u : Pixel). u.column) e) h
 
 pub lower_goes_on : {u v w : Pixel} → Lower u v → Lower v w → Lower u w
-lower_goes_on {u} {v} {w} (Lower.by_Row h) (Lower.by_Row k) = Lower.by_Row (lt_transitive u.row v.row w.row h k)
-lower_goes_on {u} {v} {w} (Lower.by_Row h) (Lower.by_column e k) = Lower.by_Row (subst (λ (z : ℤ). u.row <ℤ z) e h)
-lower_goes_on {u} {v} {w} (Lower.by_column e h) (Lower.by_Row k) = Lower.by_Row (subst (λ (z : ℤ). z <ℤ w.row) (sym e) k)
+lower_goes_on {u} {v} {w} (Lower.by_row h) (Lower.by_row k) = Lower.by_row (lt_transitive u.row v.row w.row h k)
+lower_goes_on {u} {v} {w} (Lower.by_row h) (Lower.by_column e k) = Lower.by_row (subst (λ (z : ℤ). u.row <ℤ z) e h)
+lower_goes_on {u} {v} {w} (Lower.by_column e h) (Lower.by_row k) = Lower.by_row (subst (λ (z : ℤ). z <ℤ w.row) (sym e) k)
 lower_goes_on {u} {v} {w} (Lower.by_column e h) (Lower.by_column d k) =
     Lower.by_column (e ∙ d) (lt_transitive u.column v.column w.column h k)
 
@@ -59,14 +59,14 @@ lower_or v w other not-above = by_rows (compared v.row w.row)
     by_columns e (more h) = absurd (not-above (Lower.by_column (sym e) h))
 
     by_rows : Compared v.row w.row → Lower v w
-    by_rows (less h) = Lower.by_Row h
+    by_rows (less h) = Lower.by_row h
     by_rows (same e) = by_columns e (compared v.column w.column)
-    by_rows (more h) = absurd (not-above (Lower.by_Row h))
+    by_rows (more h) = absurd (not-above (Lower.by_row h))
 
 -- moving both keeps the order
 pub lower_moved : (o : Pixel) {v w : Pixel} → Lower v w → Lower (plus o v) (plus o w)
 unfolding plus
-lower_moved o {v} {w} (Lower.by_Row h) = Lower.by_Row (lt_of_moved v.row w.row o.row h)
+lower_moved o {v} {w} (Lower.by_row h) = Lower.by_row (lt_of_moved v.row w.row o.row h)
 lower_moved o {v} {w} (Lower.by_column e h) =
     Lower.by_column (ap (λ (z : ℤ). o.row +ℤ z) e) (lt_of_moved v.column w.column o.column h)
 

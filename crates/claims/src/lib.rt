@@ -1,4 +1,6 @@
 // Demand 3 about the code: the finder, then a list of calls under its plan. proofs/ has every promise, kept in one value.
+#![tactic(auto)]
+
 ghost use Rattle.std.specs.Prelude.{◌≡◌};
 ghost use Rattle.pictures.specs.Lists.{buffers};
 ghost use Rattle.claims.specs.Demanded.{find_and_run, Demanded};

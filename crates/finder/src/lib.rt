@@ -1,5 +1,7 @@
 // For r cycles: the finder, the least count, the clash and the cycles of one pattern under a plan, and the check of a supplier's two
 // vectors.
+#![tactic(auto)]
+
 mod bank_tables;
 mod cells;
 mod checking;

@@ -1,6 +1,6 @@
 -- Whole numbers divided by a positive one, rounded down, as document 01 rounds: "q rounded down", "0 ≤ r < d", "the remainder from 0 to a - 1".
 -- Assumes nothing.
-use Rattle.std.specs.Prelude.{ℕ, suc, ◌+◌, ◌-◌, ◌*◌, ◌/◌, ◌%◌, ◌≤◌, ◌<◌, ◌≡◌, ◌↔◌, Bool, true, false, eqb, ℤ, pos, negsuc, neg_ℤ, ◌+ℤ◌, ◌*ℤ◌}
+use Rattle.std.specs.Prelude.{ℕ, suc, ◌+◌, ◌-◌, ◌*◌, ◌/◌, ◌%◌, ◌≤◌, ◌<◌, ◌≡◌, ◌↔◌, Bool, true, false, eqb, ℤ, pos, negsuc, ◌+ℤ◌, ◌*ℤ◌}
 
 -- z/d rounded down; `negsuc n` is -(n + 1)
 unfoldable pub floor_div : ℤ → ℕ → ℤ

@@ -1,6 +1,6 @@
 -- Worked values of the definitions, in one list, and the one theorem that checks them by computation.
 -- Assumes nothing.
-use Rattle.std.specs.Prelude.{ℕ, ◌≡◌, refl, List, [], ◌∷◌, map, ℤ, pos, negsuc, neg_ℤ}
+use Rattle.std.specs.Prelude.{ℕ, ◌≡◌, refl, List, [], ◌∷◌, map, ℤ, pos, neg_ℤ}
 use Rattle.integers.specs.Division.{floor_div, floor_mod, ceil_div}
 use Rattle.integers.specs.Gcd.{gcd}
 

@@ -1,4 +1,6 @@
 // Whole numbers at machine widths: the greatest common divisor, and signed numbers divided by positive ones.
+#![tactic(auto)]
+
 ghost use Rattle.std.specs.Prelude.{◌≡◌, ◌+◌, ◌<◌, pos, nat_abs, ◌+ℤ◌};
 ghost use Rattle.std.specs.Int.Signed.{mag};
 ghost use Rattle.integers.specs.Division.{floor_div, floor_mod};

@@ -41,7 +41,7 @@ moved_in_cycles r p t o plan suiting =
     bank_at_lem : (i : ℕ) → i < length t → get_or (map (bank_of p) (map (plus o) t)) i 0 ≡ bank_of p (plus o (pixel_in t i))
     bank_at_lem i below =
         get_d_map (bank_of p) (map (plus o) t) i (plus o origin) 0 (omega (arith, length-map t (plus o)))
-        ∙ ap (bank_of p) (ListN.get_d_map (plus o) t i origin)
+        ∙ ap (bank_of p) (ListN.get_or-map (plus o) t i origin)
 
 -- those of a fetch
 pub fetched_in_cycles :

@@ -1,4 +1,6 @@
 // The normal form of two vectors.
+#![tactic(auto)]
+
 ghost use Rattle.std.specs.Prelude.{◌≡◌, suc, ◌≤◌, ◌<◌, pos};
 ghost use Rattle.integers.specs.Division.{floor_mod};
 ghost use Rattle.scope.specs.Plans.{at, determinant_size, upright, falling};

@@ -1,4 +1,6 @@
 // Pictures in a lent memory: store, load, clear, sum, fetch and ring fetch, the sums of the banks, and a list of such calls.
+#![tactic(auto)]
+
 mod banks;
 mod fetching;
 mod lists;

@@ -1,4 +1,6 @@
 // The record list: the bank and the address of every pixel of a lent list. All goes by the methods of the plan.
+#![tactic(auto)]
+
 ghost use Rattle.std.specs.Prelude.{◌≡◌};
 ghost use Rattle.scope.specs.Calls.{fill_records};
 ghost use Rattle.records.specs.Filling.{is_placeable, placed_if, fill_answer};

@@ -1,5 +1,7 @@
 // The reduction by itself, for the tests alone: they call it on numbers that no call of the library reaches, and read its
 // machine code.
+#![tactic(auto)]
+
 ghost use Rattle.std.specs.Prelude.{◌≡◌, ◌+◌};
 ghost use Rattle.integers.specs.Division.{floor_div, floor_mod};
 

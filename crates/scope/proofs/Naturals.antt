@@ -12,7 +12,7 @@ use mir.Syntax.{w16, w32}
 use mir.Val.{Fits, SFits, to_z, of_z}
 use mir.Facts.{to_z-of_z}
 use Rattle.integers.specs.Division.{floor_mod}
-use Rattle.scope.specs.Plans.{Pixel, at, is_plan}
+use Rattle.scope.specs.Plans.{at, is_plan}
 use Rattle.scope.specs.Banks.{bank_of, inside, across, address_of}
 use Rattle.scope.specs.Numbers.{is_side}
 use Rattle.scope.specs.promises.Meaning.{Inside}

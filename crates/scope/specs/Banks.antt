@@ -1,7 +1,7 @@
 -- Document 01, "Banks and addresses": where a pixel's word stands. Document 02, Card 6: the sums of the banks.
 -- Assumes nothing.
-use Rattle.std.specs.Prelude.{ℕ, ◌+◌, ◌*◌, ◌/◌, ◌%◌, ◌^◌, Bool, true, false, ◌&&◌, ltb, ℤ, pos, negsuc, nat_abs, ◌+ℤ◌, ◌-ℤ◌, ◌*ℤ◌, length, get_or, take, drop, replicate, set}
-use mathlib.Core.List.{List, [], ◌∷◌, ◌++◌, foldr}
+use Rattle.std.specs.Prelude.{ℕ, ◌+◌, ◌*◌, ◌/◌, ◌%◌, ◌^◌, Bool, false, ◌&&◌, ltb, ℤ, pos, negsuc, nat_abs, ◌+ℤ◌, ◌-ℤ◌, ◌*ℤ◌, length, get_or, take, drop, replicate, set}
+use mathlib.Core.List.{List, ◌++◌, foldr}
 use Rattle.integers.specs.Division.{floor_div, floor_mod, ceil_div}
 use Rattle.scope.specs.Search.{gather}
 use Rattle.scope.specs.Plans.{Pixel, banks}

@@ -1,7 +1,7 @@
 -- Document 01, "Pattern book": the bytes of a book, and the record of them.
 -- Assumes nothing.
-use Rattle.std.specs.Prelude.{ℕ, zero, suc, ◌+◌, ◌*◌, Bool, true, false, cond, ltb, ℤ, pos, ◌-ℤ◌, length, get_or, take, drop}
-use mathlib.Core.List.{List, [], ◌∷◌, ◌++◌, map, flat_map}
+use Rattle.std.specs.Prelude.{ℕ, zero, suc, ◌+◌, ◌*◌, cond, ltb, ℤ, pos, ◌-ℤ◌, length, get_or, take, drop}
+use mathlib.Core.List.{List, [], ◌∷◌, map, flat_map}
 use Rattle.integers.specs.Division.{floor_mod}
 use Rattle.scope.specs.Search.{gather}
 use Rattle.scope.specs.Plans.{Pixel, patterns}

@@ -1,8 +1,8 @@
 -- Document 01, "Finding and checking": what the finder looks for, what a clash is, and how large a plan can be.
 -- Assumes nothing.
-use Rattle.std.specs.Prelude.{ℕ, suc, ◌+◌, ◌*◌, ◌-◌, ◌/◌, ◌%◌, max, ◌≤◌, ◌≡◌, Bool, ◌&&◌, ltb, eqb, ℤ, pos, nat_abs, length, get_or}
+use Rattle.std.specs.Prelude.{ℕ, suc, ◌+◌, ◌-◌, ◌/◌, ◌%◌, max, ◌≤◌, ◌≡◌, Bool, ◌&&◌, ltb, eqb, pos, nat_abs, length, get_or}
 use Rattle.std.proofs.Math.Option.{Option, none, some}
-use mathlib.Core.List.{List, [], ◌∷◌, map, flat_map, foldr}
+use mathlib.Core.List.{List, [], map, flat_map, foldr}
 use Rattle.scope.specs.Search.{first, whenever}
 use Rattle.scope.specs.Plans.{Pixel, at, minus, differences, plan, banks, lattice_test, suits_all}
 use Rattle.scope.specs.declared.Plan.{Plan}

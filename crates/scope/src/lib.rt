@@ -1,5 +1,7 @@
 // Document 01's types. What each call does with them is defined in specs/; a plan's methods are in plans.rt, its formulas
 // in formulas.rt, the number, place and clash of a refusal in refusals.rt.
+#![tactic(auto)]
+
 mod formulas;
 mod plans;
 mod refusals;
@@ -7,7 +9,7 @@ mod refusals;
 pub use refusals::{Row, number_of, row_of};
 
 // A pattern: the columns and rows of its pixels, of which the first `used` count.
-#[derive(Drop)]
+#[derive(Clone, Copy)]
 pub struct Pattern {
     pub columns: [i8; 64],
     pub rows: [i8; 64],
@@ -15,14 +17,14 @@ pub struct Pattern {
 }
 
 // A book record: the patterns numbered from 0, of which the first `count` count.
-#[derive(Drop)]
+#[derive(Clone, Copy)]
 pub struct Book {
     pub patterns: [Pattern; 16],
     pub count: usize,
 }
 
 // A plan. Any three numbers can stand here; a call refuses by 11 those that are no plan.
-#[derive(Drop)]
+#[derive(Clone, Copy)]
 pub struct Plan {
     pub a: u32,
     pub b: u32,
@@ -30,7 +32,7 @@ pub struct Plan {
 }
 
 // Pixels of one pattern in one bank, more than r of them: the pattern's number and the first two positions.
-#[derive(Drop)]
+#[derive(Clone, Copy)]
 pub struct Clash {
     pub pattern: usize,
     pub earlier: usize,
@@ -39,7 +41,7 @@ pub struct Clash {
 
 // A row of a record list, laid out as C does. A call fills in the bank and the address.
 #[repr(C)]
-#[derive(Drop)]
+#[derive(Clone, Copy)]
 pub struct PixelRecord {
     pub column: i16,
     pub row: i16,
@@ -49,7 +51,7 @@ pub struct PixelRecord {
 
 // The refusals in the order of their numbers, 1 to 20. The number in the first five and in `Lower` is the place: a byte offset
 // where the call was given a book's bytes, and 0 where it was given a record.
-#[derive(Drop)]
+#[derive(Clone, Copy)]
 pub enum Refusal {
     Ends(usize),
     Count(usize),
@@ -74,14 +76,14 @@ pub enum Refusal {
 }
 
 // A plan and how many banks it has above the least for its r.
-#[derive(Drop)]
+#[derive(Clone, Copy)]
 pub struct Checked {
     pub plan: Plan,
     pub surplus: u32,
 }
 
 // What the check says of a supplier's two vectors.
-#[derive(Drop)]
+#[derive(Clone, Copy)]
 pub enum Verdict {
     Suits(Checked),
     Clashes(Clash),
@@ -89,70 +91,70 @@ pub enum Verdict {
 }
 
 // The answer of the finder and of the normal form.
-#[derive(Drop)]
+#[derive(Clone, Copy)]
 pub enum Planned {
     Plan(Plan),
     Refused(Refusal),
 }
 
 // The answer of the bank, the depth, the address and both calls for a sum, and of the writer and the fetches, which count what they put.
-#[derive(Drop)]
+#[derive(Clone, Copy)]
 pub enum Counted {
     Number(u64),
     Refused(Refusal),
 }
 
 // The answer of a load.
-#[derive(Drop)]
+#[derive(Clone, Copy)]
 pub enum Loaded {
     Word(u16),
     Refused(Refusal),
 }
 
 // The answer of the reverse map: column and row.
-#[derive(Drop)]
+#[derive(Clone, Copy)]
 pub enum Located {
     Pixel(i16, i16),
     Refused(Refusal),
 }
 
 // A pixel's bank, and its word in the memory.
-#[derive(Drop)]
+#[derive(Clone, Copy)]
 pub struct Place {
     pub bank: u64,
     pub word: u64,
 }
 
 // The answer where a plan is asked for both.
-#[derive(Drop)]
+#[derive(Clone, Copy)]
 pub enum Placed {
     At(Place),
     Refused(Refusal),
 }
 
 // The answer of a call that has nothing to tell but that it was done.
-#[derive(Drop)]
+#[derive(Clone, Copy)]
 pub enum Outcome {
     Done,
     Refused(Refusal),
 }
 
 // The check's verdict for r, and beside it the r + 1 positions of its clash in nine places, then 0; without a clash all are 0.
-#[derive(Drop)]
+#[derive(Clone, Copy)]
 pub struct CheckAnswer {
     pub verdict: Verdict,
     pub positions: [usize; 9],
 }
 
 // What a fetch or the cycles count, and beside it the positions of the clash in the same way.
-#[derive(Drop)]
+#[derive(Clone, Copy)]
 pub struct FetchAnswer {
     pub counted: Counted,
     pub positions: [usize; 9],
 }
 
 // The answer of the reader. The book holds an array, so it stands beside the enum; on a refusal it is empty.
-#[derive(Drop)]
+#[derive(Clone, Copy)]
 pub struct Reading {
     pub book: Book,
     pub outcome: Outcome,

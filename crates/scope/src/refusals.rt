@@ -6,7 +6,7 @@ ghost use Rattle.scope.specs.code.RefusalRows.{clash_if};
 use crate::{Clash, Refusal};
 
 // A refusal's number, its place, and its clash if the number is 10.
-#[derive(Drop)]
+#[derive(Clone, Copy)]
 pub struct Row(pub u64, pub u64, pub Clash);
 
 // A refusal's row of the table.

@@ -1,4 +1,6 @@
 // What the program writes: the two lines of a plan, or the line of a refusal.
+#![tactic(auto)]
+
 mod lines;
 mod program;
 

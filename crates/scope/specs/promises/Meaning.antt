@@ -1,7 +1,7 @@
 -- What the lists and tests of the definitions mean, in plain numbers, and that a legal call is never refused. Statements;
 -- Promises.antt has them all. A small letter is a test that computes, as `is_plan`, a capital what it means, as `IsPlan`.
 -- Assumes nothing.
-use Rattle.std.specs.Prelude.{ℕ, suc, ◌+◌, ◌*◌, ◌/◌, ◌≤◌, ◌<◌, ◌≡◌, ◌↔◌, true, ℤ, pos, negsuc, ◌+ℤ◌, length, get_or, ◌≤ℤ◌, ◌<ℤ◌}
+use Rattle.std.specs.Prelude.{ℕ, suc, ◌*◌, ◌/◌, ◌≤◌, ◌<◌, ◌≡◌, ◌↔◌, true, ℤ, pos, negsuc, ◌+ℤ◌, length, get_or, ◌≤ℤ◌, ◌<ℤ◌}
 use Rattle.std.proofs.Math.Option.{Option, none, some}
 use mathlib.Core.List.{List, [], ◌∷◌, ◌++◌, Memᴰ}
 use Rattle.integers.specs.Gcd.{Multiple}

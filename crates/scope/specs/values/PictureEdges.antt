@@ -6,7 +6,7 @@ use mathlib.Core.List.{List, [], ◌∷◌, ◌++◌, map, flat_map}
 use Rattle.scope.specs.Plans.{Pixel, at, plan}
 use Rattle.scope.specs.Books.{book_of}
 use Rattle.scope.specs.Numbers.{Answer}
-use Rattle.scope.specs.Calls.{check, bank, depth, address, locate, lent, store, load, clear, sum, fetch, ring_fetch, fill_records}
+use Rattle.scope.specs.Calls.{check, depth, address, locate, lent, store, load, clear, sum, fetch, ring_fetch, fill_records}
 use Rattle.scope.specs.code.Words.{word}
 use Rattle.scope.specs.promises.Demand as Demand
 use Rattle.scope.specs.values.Rows.{Row, Hold, row, is, refused, clashes, counted, fetched_by, loaded, located, done, records, neg, px, one, two, down, gap, finds, checks, up_to, fetched_for, fetch_answer_for, ring_fetched_for, ring_answer_for, replied}

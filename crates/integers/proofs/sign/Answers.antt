@@ -7,19 +7,15 @@ use lib.Signed.{mag_shr, shr_z}
 use mir.Syntax.{w32}
 use mir.Facts.{to_z-of_z}
 use Rattle.integers.specs.Division.{floor_div}
-use Rattle.integers.proofs.sign.Statement.{statement}
-use Rattle.integers.proofs.sign.Tie as tie
+use Rattle.integers.proofs.sign.Goals as goal
 
 shifted : (z : ℤ) → shr_z z 2147483648 ≡ floor_div z 2147483648
 unfolding floor_div
 shifted (pos n) = refl
 shifted (negsuc n) = refl
 
-returns : tie.Need-returns
+pub returns : goal.returns
 returns c =
     let f = c.ranges.z in
     rw (to_z-of_z f)
     (to_z-of_z {w = w32} (record { sfits = omega (arith, mag_shr c.args.z 2147483648, f.sfits) }) ∙ shifted c.args.z)
-
-pub sign-spec : {M : Type 1} → statement M
-sign-spec = tie.close (tie.spec returns)

@@ -8,7 +8,6 @@ use lib.IntN.{ℤ, pos, nat_abs, ◌-ℤ◌, ◌*ℤ◌}
 use mir.Syntax.{w16, w32}
 use mir.Val.{SFits, to_z, of_z}
 use mir.Facts.{to_z-of_z}
-use borrow.Author.Rules.{rules}
 use Rattle.integers.specs.Division.{floor_div, floor_mod}
 use Rattle.integers.proofs.Divisions.{remainder_below}
 use Rattle.integers.proofs.Raised.{widened_fits, widened_is}
@@ -18,8 +17,14 @@ use Rattle.scope.specs.Banks.{bank_of}
 use Rattle.scope.specs.promises.Meaning.{IsPlan}
 use Rattle.scope.specs.declared.Plan.{Plan}
 use Rattle.scope.proofs.PlanFacts.{plan_means, d_at_most}
-use Rattle.scope.proofs.formulas.bank_number.Statement.{statement}
+use Rattle.scope.proofs.formulas.bank_number.Lts as lts
 use Rattle.scope.proofs.formulas.bank_number.Tie as tie
+use Rattle.scope.proofs.formulas.bank_number.Reads as reads
+use Rattle.scope.proofs.formulas.bank_number.Goals as goal
+
+-- what is known at a step of the code
+abbrev Start : Type 0
+Start = lts.Start tie.the-claims reads.Pre reads.Post
 
 -- the row j as it is handed to the division by d, and what comes of it
 module _ (p : Plan) (plan : IsPlan p) (j : ℤ) (g : SFits w16 j) where
@@ -62,35 +67,36 @@ module _ (p : Plan) (plan : IsPlan p) (j : ℤ) (g : SFits w16 j) where
     bank-is f e = rw (to_z-of_z f, quotient-read, quotient_is q-is, remainder_is r-is) at e
 
 -- where the function starts
-module _ (c : tie.Start) where
+module _ (c : Start) where
   plan : IsPlan c.args.p
   plan = plan_means _ c.requires
 
   bounds : (1 ≤ c.args.p.d) × (c.args.p.d ≤ 1024)
   bounds = (plan.d_least, d_at_most _ plan)
 
-bank-in-requires : tie.Need-bank-in-requires
-bank-in-requires c κs =
-    let s = c.before.before.before in (
-      s.requires,
-      read_small _ (plan s) _ s.ranges.j c.before.quotient.ensures c.remainder.ensures,
-      remainder-less _ (plan s) _ s.ranges.j c.remainder.ensures,
-    )
+pub bank_in-requires : goal.bank_in-requires
+bank_in-requires c = (
+  c.requires,
+  read_small _ (plan c.before.before.before) _ c.ranges.j c.quotient-q.ensures c.remainder-r.ensures,
+  remainder-less _ (plan c.before.before.before) _ c.ranges.j c.remainder-r.ensures,
+)
 
-returns : tie.Need-returns
+pub returns : goal.returns
 returns c =
-    let r = c.before in
-    let s = r.before.before.before in
-    bank-is _ (plan s) _ s.ranges.j r.before.quotient.ensures r.remainder.ensures s.ranges.i c.bank_in.ensures
+    bank-is _ (plan c.before.before.before.before) _ c.ranges.j c.quotient-q.ensures c.remainder-r.ensures c.ranges.i c.bank_in.ensures
 
-pub bank-number-spec : {M : Type 1} → statement M
-bank-number-spec =
-    tie.close
-    (tie.spec
-    (λ c. omega (arith, bounds c.before)) (λ c. record { fits = omega (arith, bounds c.before) })
-    (λ c. widened_fits w16 w32 tt c.before.args.j c.before.ranges.j)
-    (λ c κs. search rules)
-    (λ c. widened_fits w16 w32 tt c.before.before.args.j c.before.before.ranges.j)
-    (λ c κs. search rules)
-    bank-in-requires
-    returns)
+pub overflow_sub-top : goal.overflow_sub-top
+overflow_sub-top c =
+    omega (arith, bounds c.before)
+
+pub overflow_cast-top : goal.overflow_cast-top
+overflow_cast-top c =
+    record { fits = omega (arith, bounds c.before) }
+
+pub overflow_cast-j : goal.overflow_cast-j
+overflow_cast-j c =
+    widened_fits w16 w32 tt c.args.j c.ranges.j
+
+pub overflow_cast-j-2 : goal.overflow_cast-j-2
+overflow_cast-j-2 c =
+    widened_fits w16 w32 tt c.args.j c.ranges.j

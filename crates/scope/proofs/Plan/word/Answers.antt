@@ -3,7 +3,6 @@
 use Prim.Native.Nat.{ℕ}
 use mathlib.Core.Path.{◌≡◌, refl, sym, ◌∙◌, ap}
 use mathlib.Core.Option.{Option, none, some}
-use borrow.Author.Rules.{rules}
 use Rattle.scope.specs.Plans.{Pixel}
 use Rattle.scope.specs.Banks.{bank_of, word_of}
 use Rattle.scope.specs.Calls.{answered, address_test}
@@ -13,8 +12,7 @@ use Rattle.scope.specs.declared.Counted.{Counted}
 use Rattle.scope.specs.declared.Placed.{Placed}
 use Rattle.scope.specs.declared.Refusal.{Refusal}
 use Rattle.scope.proofs.PlanFacts.{pixel_handed}
-use Rattle.scope.proofs.Plan.word.Statement.{statement}
-use Rattle.scope.proofs.Plan.word.Tie as tie
+use Rattle.scope.proofs.Plan.word.Goals as goal
 
 -- the word of an answer that has a place
 abbrev wordFrom : Placed → Counted
@@ -35,17 +33,12 @@ word-is p W H v = by-test (address_test p W H v)
 given : (p : Plan) (W H : ℕ) {u v : Pixel} {x y : Placed} → u ≡ v → x ≡ place p W H u → x ≡ y → wordFrom y ≡ word p W H v
 given p W H {u} {v} same is e = ap wordFrom (sym e ∙ is) ∙ word-is p W H u ∙ ap (word p W H) same
 
-returns : tie.Need-returns
-returns c =
-    let k = c.before.before.before in
-    let f = k.before.ranges in
-    given _ _ _ (pixel_handed f.i f.j) k.place.ensures c.before.placed.given.1
+pub returns-in-At : goal.returns-in-At
+returns-in-At c =
+    let f = c.ranges in
+    given _ _ _ (pixel_handed f.i f.j) c.place-placed.ensures c.in-At.is
 
-returns-2 : tie.Need-returns-2
-returns-2 c =
-    let k = c.before.before.before in
-    let f = k.before.ranges in
-    given _ _ _ (pixel_handed f.i f.j) k.place.ensures c.before.placed2.given.1
-
-pub word-spec : {M : Type 1} → statement M
-word-spec = tie.close (tie.spec (λ c κs. search rules) (λ c. search rules) (λ c. search rules) returns returns-2)
+pub returns-in-Refused : goal.returns-in-Refused
+returns-in-Refused c =
+    let f = c.ranges in
+    given _ _ _ (pixel_handed f.i f.j) c.place-placed.ensures c.in-Refused.is

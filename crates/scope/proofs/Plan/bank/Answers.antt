@@ -12,8 +12,7 @@ use Rattle.scope.specs.declared.Refusal.TheVariants.{NotPlan}
 use Rattle.scope.proofs.Chains.{gives_value, gives_refusal}
 use Rattle.scope.proofs.PlanFacts.{pixel_handed}
 use Rattle.scope.proofs.MethodAnswers.{fails, holds, demand_met, demand_fails}
-use Rattle.scope.proofs.Plan.bank.Statement.{statement}
-use Rattle.scope.proofs.Plan.bank.Tie as tie
+use Rattle.scope.proofs.Plan.bank.Goals as goal
 
 module _ (p : Plan) (v : Pixel) where
   bank-refused : is_plan p ≡ false → Refused NotPlan ≡ bank p v
@@ -24,20 +23,20 @@ module _ (p : Plan) (v : Pixel) where
   unfolding bank plan_test
   bank-given e = gives_value (demand_met (is_plan p) NotPlan e) Refused refl
 
-returns : tie.Need-returns
-returns c = bank-refused _ _ (fails c.before.is-plan.ensures c.if1.true)
+pub returns-then-not-is_plan : goal.returns-then-not-is_plan
+returns-then-not-is_plan c = bank-refused _ _ (fails c.is_plan.ensures c.if-not-is_plan.true-raw)
 
-plan : (c : tie.Else1) → is_plan c.before.before.args.self ≡ true
-plan c = holds c.before.is-plan.ensures c.if1.false
+plan : (c : goal.Else-not-is_plan) → is_plan c.args.self ≡ true
+plan c = holds c.is_plan.ensures c.if-not-is_plan.false-raw
 
-bank-number-requires : tie.Need-bank-number-requires
-bank-number-requires c κs = plan c
+pub bank_number-requires : goal.bank_number-requires
+bank_number-requires c = plan c
 
-returns-2 : tie.Need-returns-2
-returns-2 c =
-    let s = c.before.before.before in
-    ap Number (c.bank-number.ensures ∙ ap (bank_of s.args.self) (pixel_handed s.ranges.i s.ranges.j))
+pub returns : goal.returns
+returns c =
+    ap Number (c.bank_number.ensures ∙ ap (bank_of c.args.self) (pixel_handed c.ranges.i c.ranges.j))
     ∙ bank-given _ _ (plan c.before)
 
-pub bank-spec : {M : Type 1} → statement M
-bank-spec = tie.close (tie.spec (λ c κs. tt) returns bank-number-requires returns-2)
+pub is_plan-requires : goal.is_plan-requires
+is_plan-requires c =
+    tt

@@ -13,10 +13,9 @@ use lib.IntN.{pos}
 use mir.Syntax.{w16}
 use mir.Val.{to_z}
 use mir.Facts.{to_z-of_z}
-use borrow.Author.Rules.{rules}
 use borrow.Author.Tests.{le-leb, lt-leb}
 use Rattle.integers.specs.Division.{ceil_div}
-use Rattle.integers.proofs.Digits.{digits-below}
+use Rattle.integers.proofs.Digits.{digits_below}
 use Rattle.integers.proofs.Sizes.{small_fits}
 use Rattle.scope.specs.Search.{whenever}
 use Rattle.scope.specs.Plans.{Pixel, at, banks, is_plan}
@@ -31,8 +30,7 @@ use Rattle.scope.proofs.Ceilings.{Rounds, ceiling_at_most, blocks_at_most, produ
 use Rattle.scope.proofs.Chains.{none_whenever, some_whenever, chain_of_one, answered_none, answered_some}
 use Rattle.scope.proofs.PlanFacts.{plan_means, sides_round}
 use Rattle.scope.proofs.MethodAnswers.{fails, holds, both_pass, past_first}
-use Rattle.scope.proofs.formulas.reverse_map.Statement.{statement}
-use Rattle.scope.proofs.formulas.reverse_map.Tie as tie
+use Rattle.scope.proofs.formulas.reverse_map.Goals as goal
 
 -- a product above i has a positive factor
 factor-least : (m n i : ℕ) → i < m * n → 0 < m
@@ -141,14 +139,14 @@ module _ (p : Plan) (W H k i : ℕ) (plan : is_plan p ≡ true) (sides : is_side
     column-small =
         omega (
           arith,
-          digits-below C p.a (mod-lt i across) (mod-lt (slanted p C k i) {m = p.a} by-a.1),
+          digits_below C p.a (mod-lt i across) (mod-lt (slanted p C k i) {m = p.a} by-a.1),
           rw (← e) at (blocks_at_most W p.a),
           by-a,
         )
 
     row_small : row p C k i < 5120
     row_small =
-        omega (arith, digits-below (ceil_div H p.d) p.d strip-below r-below, blocks_at_most H p.d, by-d)
+        omega (arith, digits_below (ceil_div H p.d) p.d strip-below r-below, blocks_at_most H p.d, by-d)
 
     slanted-small : slanted p C k i < 8388608
     slanted-small = omega (arith, slant-most, mod-lt k {m = p.a} by-a.1, by-a.2)
@@ -184,63 +182,98 @@ module _ (p : Plan) (W H k i : ℕ) (plan : is_plan p ≡ true) (sides : is_side
           pixel = pixel-there;
         }
 
-returns : tie.Need-returns
-returns c =
-    let (plan, sides) = c.before.before.requires in
-    no-bank _ _ _ _ _ plan sides (rw (← c.before.banks.ensures) c.if1.true)
+pub returns-then-banks-k : goal.returns-then-banks-k
+returns-then-banks-k c =
+    let (plan, sides) = c.requires in
+    no-bank _ _ _ _ _ plan sides (rw (← c.banks.ensures) c.if-banks-k.true)
 
 -- the bank is there
-bank-there : (c : tie.Else1) → c.before.before.args.k < banks c.before.before.args.p
-bank-there c = rw (← c.before.banks.ensures) c.if1.false
+bank-there : (c : goal.Else-banks-k) → c.args.k < banks c.args.p
+bank-there c = rw (← c.banks.ensures) c.if-banks-k.false
 
-depth-number-requires : tie.Need-depth-number-requires
-depth-number-requires c κs = c.before.before.requires
+pub depth_number-requires : goal.depth_number-requires
+depth_number-requires c = c.requires
 
-returns-2 : tie.Need-returns-2
-returns-2 c =
-    let k = c.before in
-    let (plan, sides) = k.before.before.before.requires in
-    no_address _ _ _ _ _ plan sides (bank-there k.before) (rw (← k.depth-number.ensures) c.if2.true)
+pub returns-then-depth_number-i : goal.returns-then-depth_number-i
+returns-then-depth_number-i c =
+    let (plan, sides) = c.requires in
+    no_address _ _ _ _ _ plan sides (bank-there c.before.before) (rw (← c.depth_number.ensures) c.if-depth_number-i.true)
 
-rounded-up-requires : tie.Need-rounded-up-requires
-rounded-up-requires c κs = let (plan, sides) = c.before.before.before.before.requires in (sides_round _ _ _ plan sides).0
+pub rounded_up-across-requires : goal.rounded_up-across-requires
+rounded_up-across-requires c = let (plan, sides) = c.requires in (sides_round _ _ _ plan sides).0
 
 -- the address is there too, and the width was divided
 there :
-    (c : tie.After-rounded-up) →
-    let v = c.before.before.before.before.before.args in
-    There v.p v.w v.h v.k v.i c.rounded-up.result
+    (c : goal.After-rounded_up-across) →
+    let v = c.args in
+    There v.p v.w v.h v.k v.i c.rounded_up-across.result
 there c =
-    let k = c.before in
-    let (plan, sides) = k.before.before.before.before.requires in
-    is-there _ _ _ _ _ plan sides (bank-there k.before.before) (rw (← k.before.depth-number.ensures) k.if2.false)
-    c.rounded-up.ensures
+    let (plan, sides) = c.requires in
+    is-there _ _ _ _ _ plan sides (bank-there c.before.before.before) (rw (← c.depth_number.ensures) c.if-depth_number-i.false)
+    c.rounded_up-across.ensures
 
-returns-3 : tie.Need-returns-3
-returns-3 c = (there c.before.before).no-pixel (fails c.before.is-inside.ensures c.if3.true)
+pub returns-then-not-is_inside : goal.returns-then-not-is_inside
+returns-then-not-is_inside c = (there c.before.before).no-pixel (fails c.is_inside.ensures c.if-not-is_inside.true-raw)
 
-returns-4 : tie.Need-returns-4
-returns-4 c = (there c.before.before).pixel (holds c.before.is-inside.ensures c.if3.false)
+pub returns : goal.returns
+returns c = (there c.before.before).pixel (holds c.is_inside.ensures c.if-not-is_inside.false-raw)
 
-pub reverse-map-spec : {M : Type 1} → statement M
-reverse-map-spec =
-    tie.close
-    (tie.spec
-    (λ c κs. search rules)
-    returns
-    depth-number-requires
-    returns-2
-    rounded-up-requires
-    (λ c. record { fits = omega (arith, (there c).bank-small) }) (λ c. record { fits = omega (arith, (there c).address-small) })
-    (λ c. (there c).across) (λ c. (there c).across)
-    (λ c. record { fits = omega (arith, (there c).column-small) }) (λ c. (there c).a-least)
-    (λ c. record { fits = omega (arith, (there c).slanted-small) }) (λ c. record { fits = omega (arith, (there c).slanted-small) })
-    (λ c. (there c).a-least)
-    (λ c. record { fits = omega (arith, (there c).column-small) })
-    (λ c. small_fits w16 5119 _ (omega (arith, (there c).column-small)) (lit< tt))
-    (λ c. record { fits = omega (arith, (there c).row_small) }) (λ c. (there c).a-least)
-    (λ c. record { fits = omega (arith, (there c).row_small) })
-    (λ c. small_fits w16 5119 _ (omega (arith, (there c).row_small)) (lit< tt))
-    (λ c κs. search rules)
-    returns-3
-    returns-4)
+pub overflow_cast-bank : goal.overflow_cast-bank
+overflow_cast-bank c =
+    record { fits = omega (arith, (there c).bank-small) }
+
+pub overflow_cast-address : goal.overflow_cast-address
+overflow_cast-address c =
+    record { fits = omega (arith, (there c).address-small) }
+
+pub nonzero_div-q : goal.nonzero_div-q
+nonzero_div-q c =
+    (there c).across
+
+pub nonzero_rem-column : goal.nonzero_rem-column
+nonzero_rem-column c =
+    (there c).across
+
+pub overflow_mul-column : goal.overflow_mul-column
+overflow_mul-column c =
+    record { fits = omega (arith, (there c).column-small) }
+
+pub nonzero_rem-column-2 : goal.nonzero_rem-column-2
+nonzero_rem-column-2 c =
+    (there c).a-least
+
+pub overflow_mul-column-2 : goal.overflow_mul-column-2
+overflow_mul-column-2 c =
+    record { fits = omega (arith, (there c).slanted-small) }
+
+pub overflow_add-column : goal.overflow_add-column
+overflow_add-column c =
+    record { fits = omega (arith, (there c).slanted-small) }
+
+pub nonzero_rem-column-3 : goal.nonzero_rem-column-3
+nonzero_rem-column-3 c =
+    (there c).a-least
+
+pub overflow_add-column-2 : goal.overflow_add-column-2
+overflow_add-column-2 c =
+    record { fits = omega (arith, (there c).column-small) }
+
+pub overflow_cast-column : goal.overflow_cast-column
+overflow_cast-column c =
+    small_fits w16 5119 _ (omega (arith, (there c).column-small)) (lit< tt)
+
+pub overflow_mul-row : goal.overflow_mul-row
+overflow_mul-row c =
+    record { fits = omega (arith, (there c).row_small) }
+
+pub nonzero_div-row : goal.nonzero_div-row
+nonzero_div-row c =
+    (there c).a-least
+
+pub overflow_add-row : goal.overflow_add-row
+overflow_add-row c =
+    record { fits = omega (arith, (there c).row_small) }
+
+pub overflow_cast-row : goal.overflow_cast-row
+overflow_cast-row c =
+    small_fits w16 5119 _ (omega (arith, (there c).row_small)) (lit< tt)

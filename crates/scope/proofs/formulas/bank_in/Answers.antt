@@ -1,6 +1,6 @@
 -- `scope::formulas::bank_in` meets its contract: i - b × q fits 32 bits.
 -- Assumes nothing.
-use Prim.Native.Nat.{ℕ, ◌+◌, ◌*◌, ◌-◌, ◌≤◌, ◌<◌}
+use Prim.Native.Nat.{ℕ, ◌+◌, ◌*◌, ◌-◌, ◌≤◌}
 use native.Mathlib.Omega.{arith}
 use native.Mathlib.Nat.{sub-add_cancel}
 use mathlib.Core.Path.{◌≡◌, sym, ◌∙◌, ap, ap₂, subst}
@@ -8,7 +8,6 @@ use lib.IntN.{ℤ, pos, nat_abs, ◌-ℤ◌, ◌*ℤ◌}
 use mir.Syntax.{w16, w32}
 use mir.Val.{SFits, to_z, of_z}
 use mir.Facts.{to_z-of_z}
-use borrow.Author.Rules.{rules}
 use Rattle.integers.specs.Division.{floor_mod}
 use Rattle.integers.proofs.Divisions.{remainder_below}
 use Rattle.integers.proofs.Raised.{widened_fits, widened_is}
@@ -17,8 +16,7 @@ use Rattle.scope.specs.promises.Meaning.{IsPlan}
 use Rattle.scope.specs.declared.Plan.{Plan}
 use Rattle.scope.proofs.Naturals.{digits_at_most}
 use Rattle.scope.proofs.PlanFacts.{plan_means, a_at_most, d_at_most}
-use Rattle.scope.proofs.formulas.bank_in.Statement.{statement}
-use Rattle.scope.proofs.formulas.bank_in.Tie as tie
+use Rattle.scope.proofs.formulas.bank_in.Goals as goal
 
 -- The code forms b × q and i - b × q at 32 bits.
 module _ (p : Plan) (plan : IsPlan p) (q i : ℤ) (small : nat_abs q ≤ 32768) (f : SFits w16 i) where
@@ -57,7 +55,7 @@ module _ (p : Plan) (plan : IsPlan p) (q i : ℤ) (small : nat_abs q ≤ 32768) 
   column-is e = e ∙ ap₂ floor_mod (to_z-of_z moved-fits ∙ moved-is) (sub-add_cancel plan.a_least)
 
 -- where the function starts
-module _ (c : tie.Start) where
+module _ (c : goal.Start) where
   plan : IsPlan c.args.p
   plan = plan_means _ c.requires.0
 
@@ -69,31 +67,46 @@ module _ (c : tie.Start) where
 remainder-small : (z : ℤ) (k : ℕ) {r : ℕ} → k ≤ 1023 → r ≡ floor_mod z (k + 1) → r ≤ 1023
 remainder-small z k h e = rw e (omega (arith, remainder_below z (k + 1) (omega arith)))
 
-add-result : tie.Need-overflow-add-result
-add-result c =
-    let s = c.before.before.before.before in
-    let most = bounds s in
-    let sum-most = digits_at_most s.args.r s.args.p.a c.before.remainder.result (omega (arith, most, s.requires.2)) (omega (arith, most))
-    (remainder-small _ _ (omega (arith, most)) c.before.remainder.ensures) in
+pub overflow_add-result : goal.overflow_add-result
+overflow_add-result c =
+    let most = bounds c.before.before.before.before in
+    let sum-most = digits_at_most c.args.r c.args.p.a c.remainder-c.result (omega (arith, most, c.requires.2)) (omega (arith, most))
+    (remainder-small _ _ (omega (arith, most)) c.remainder-c.ensures) in
     record { fits = omega (arith, sum-most) }
 
-returns : tie.Need-returns
+pub returns : goal.returns
 returns c =
-    let s = c.before.before.before.before in
-    let u = s.args in
-    ap (λ (x : ℕ). u.r * u.p.a + x) (column-is u.p (plan s) u.q u.i s.requires.1 s.ranges.i c.before.remainder.ensures)
+    let u = c.args in
+    ap (λ (x : ℕ). u.r * u.p.a + x) (column-is u.p (plan c.before.before.before.before) u.q u.i c.requires.1 c.ranges.i c.remainder-c.ensures)
 
-pub bank-in-spec : {M : Type 1} → statement M
-bank-in-spec =
-    tie.close
-    (tie.spec
-    (λ c. widened_fits w16 w32 tt c.args.i c.ranges.i)
-    (λ c. let s = c.before in b-fits s.args.p (plan s) s.args.q s.args.i s.requires.1 s.ranges.i)
-    (λ c. let s = c.before in product-fits s.args.p (plan s) s.args.q s.args.i s.requires.1 s.ranges.i)
-    (λ c. let s = c.before in moved-fits s.args.p (plan s) s.args.q s.args.i s.requires.1 s.ranges.i)
-    (λ c. omega (arith, bounds c.before.before)) (λ c. record { fits = omega (arith, bounds c.before.before) })
-    (λ c κs. search rules)
-    (λ c. record { fits = omega (arith, (add-result c).ranges) })
-    add-result
-    (λ c. record { fits = omega (arith, (add-result c).ranges) })
-    returns)
+pub overflow_cast-i : goal.overflow_cast-i
+overflow_cast-i c =
+    widened_fits w16 w32 tt c.args.i c.ranges.i
+
+pub overflow_cast-p : goal.overflow_cast-p
+overflow_cast-p c =
+    b-fits c.args.p (plan c.before) c.args.q c.args.i c.requires.1 c.ranges.i
+
+pub overflow_mul-p : goal.overflow_mul-p
+overflow_mul-p c =
+    product-fits c.args.p (plan c.before) c.args.q c.args.i c.requires.1 c.ranges.i
+
+pub overflow_sub-i : goal.overflow_sub-i
+overflow_sub-i c =
+    moved-fits c.args.p (plan c.before) c.args.q c.args.i c.requires.1 c.ranges.i
+
+pub overflow_sub-p : goal.overflow_sub-p
+overflow_sub-p c =
+    omega (arith, bounds c.before.before)
+
+pub overflow_cast-p-2 : goal.overflow_cast-p-2
+overflow_cast-p-2 c =
+    record { fits = omega (arith, bounds c.before.before) }
+
+pub overflow_mul-result : goal.overflow_mul-result
+overflow_mul-result c =
+    record { fits = omega (arith, (overflow_add-result c).fits) }
+
+pub overflow_cast-result : goal.overflow_cast-result
+overflow_cast-result c =
+    record { fits = omega (arith, (overflow_add-result c).fits) }

@@ -1,0 +1,17 @@
+-- `integers::raised8` meets its contract.
+-- Assumes nothing.
+use mir.Syntax.{w8, w64}
+use Rattle.integers.proofs.Raised.{widened_fits, sum_fits, unsigned_fits, raised_right}
+use Rattle.integers.proofs.raised8.Goals as goal
+
+pub overflow_cast-result : goal.overflow_cast-result
+overflow_cast-result c = widened_fits w8 w64 tt c.args.z c.ranges.z
+
+pub overflow_add-result : goal.overflow_add-result
+overflow_add-result c = sum_fits w8 tt tt c.args.z c.ranges.z _ tt
+
+pub overflow_cast-result-2 : goal.overflow_cast-result-2
+overflow_cast-result-2 c = unsigned_fits w8 tt tt c.args.z c.ranges.z
+
+pub returns : goal.returns
+returns c = raised_right w8 tt tt c.args.z c.ranges.z
