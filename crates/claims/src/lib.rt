@@ -10,7 +10,7 @@ use pictures::{Listed, run_list};
 use scope::{Book, Plan, Planned, Refusal};
 
 // The finder's plan and what came of the list under it, or the finder's refusal: then nothing was changed.
-#[derive(Drop)]
+#[derive(Clone, Copy)]
 pub enum FoundRun {
     Ran(Plan, Listed),
     Refused(Refusal),

@@ -10,7 +10,7 @@ ghost use Rattle.finder.specs.Clashing.{met_at, single_test, suits_outcome, suit
 use scope::{Clash, Counted, Outcome, Pattern, Plan, Refusal};
 
 // Whether more than r pixels of a pattern meet in one bank, and which are the first two.
-#[derive(Drop)]
+#[derive(Clone, Copy)]
 pub enum Met {
     At(Clash),
     Nowhere,
@@ -85,7 +85,7 @@ pub(crate) fn class_positions(p: Plan, t: Pattern, e: usize, r: u8) -> [usize; 9
 }
 
 // Whether a plan suits a pattern for r, and beside it the positions of the clash in nine places.
-#[derive(Drop)]
+#[derive(Clone, Copy)]
 pub struct Suited {
     pub outcome: Outcome,
     pub positions: [usize; 9],

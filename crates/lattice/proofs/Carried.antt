@@ -121,6 +121,7 @@ module _ (a : ℕ) (positive : 0 < a) where
       (falling (suc (p % q)) (at (pos y) (pos q)) (at (pos ((x + p / q * (a - y)) % a)) (pos (p % q)))).column
       a
   unfolding at next minus times floor_div
+  column_goes x p y zero l h = absurd (omega (arith, l))
   column_goes x p y (suc r) l h =
       rw (falling_goes (suc r) v w r refl, ← (taken_off (p / suc r) x y h))
       (falling_alike (suc r) (suc (p % suc r)) w w (next v w (suc r)) _ (suc r) (p % suc r)

@@ -19,7 +19,7 @@ use scope::{Book, FetchAnswer, Outcome, Pattern, Plan};
 
 // What came of a list: it was made, or it was not and nothing changed, because the numbers from this place on are no call's, or
 // because the outputs or the replies are too short.
-#[derive(Drop)]
+#[derive(Clone, Copy)]
 pub enum Listed {
     Made,
     NotCalls(u64),

@@ -8,15 +8,20 @@ use lib.IntN.{ℤ, pos, negsuc, ◌+ℤ◌, ◌-ℤ◌}
 use mir.Syntax.{w16, w32}
 use mir.Val.{SFits, to_z, of_z}
 use mir.Facts.{to_z-of_z}
-use borrow.Author.Rules.{rules}
 use Rattle.integers.specs.Division.{floor_mod}
 use Rattle.integers.proofs.Integers.{pos_injective}
 use Rattle.integers.proofs.Ring.{ring, reify}
 use Rattle.integers.proofs.Raised.{widened_fits, widened_is, raised_read, lowered}
 use Rattle.integers.proofs.Sizes.{small_fits, size_of_difference, fitting_size}
 use Rattle.scope.specs.Plans.{at, upright}
-use Rattle.lattice.proofs.upright_column.Statement.{statement}
+use Rattle.lattice.proofs.upright_column.Lts as lts
 use Rattle.lattice.proofs.upright_column.Tie as tie
+use Rattle.lattice.proofs.upright_column.Reads as reads
+use Rattle.lattice.proofs.upright_column.Goals as goal
+
+-- what is known at a step of the code
+abbrev After-raised16 : Type 0
+After-raised16 = lts.After-raised16 tie.the-claims reads.Pre reads.Post
 
 -- the column of an upright vector, n being the row raised
 turned-column : (x1 x2 : ℤ) (n : ℕ) → pos n ≡ x2 +ℤ pos 32768 → n < 32768 → (upright (at x1 x2)).column ≡ pos 0 -ℤ x1
@@ -38,40 +43,33 @@ module _ (z : ℤ) (f : SFits w16 z) where
   turned-is : to_z w32 (of_z w32 (pos 0 -ℤ to_z w32 (of_z w32 (to_z w16 (of_z w16 z))))) ≡ pos 0 -ℤ z
   turned-is = to_z-of_z turned-fits ∙ ap (λ (y : ℤ). pos 0 -ℤ y) (widened_is w16 w32 tt z f)
 
-row-raised : (c : tie.After-raised16) → pos c.raised16.result ≡ c.before.args.x2 +ℤ pos 32768
-row-raised c = raised_read 32768 c.before.ranges.x2 c.raised16.ensures.0
+row-raised : (c : After-raised16) → pos c.raised16.result ≡ c.args.x2 +ℤ pos 32768
+row-raised c = raised_read 32768 c.ranges.x2 c.raised16.ensures.0
 
-sub-remainder : tie.Need-overflow-sub-remainder
-sub-remainder c = turned-fits _ c.before.before.ranges.x1
+pub overflow_sub-x1 : goal.overflow_sub-x1
+overflow_sub-x1 c = turned-fits _ c.ranges.x1
 
-returns : tie.Need-returns
-returns c =
-    let k = c.before.before in
-    let a = k.before.args in
+pub returns-then-raised16-lt32768 : goal.returns-then-raised16-lt32768
+returns-then-raised16-lt32768 c =
+    let a = c.args in
     c.remainder.ensures
     ∙ ap₂ floor_mod
-    (turned-is a.x1 k.before.ranges.x1 ∙ sym (turned-column a.x1 a.x2 _ (row-raised k) c.before.if1.true))
+    (turned-is a.x1 c.ranges.x1 ∙ sym (turned-column a.x1 a.x2 _ (row-raised c.before.before) c.if-raised16-lt32768.true))
     (omega arith)
 
-returns-2 : tie.Need-returns-2
-returns-2 c =
-    let k = c.before.before in
-    let a = k.before.args in
-    c.remainder2.ensures
+pub returns-else-raised16-lt32768 : goal.returns-else-raised16-lt32768
+returns-else-raised16-lt32768 c =
+    let a = c.args in
+    c.remainder-else-raised16-lt32768.ensures
     ∙ ap₂ floor_mod
-    (widened_is w16 w32 tt a.x1 k.before.ranges.x1
-    ∙ sym (kept-column a.x1 a.x2 _ (row-raised k) c.before.if1.false))
+    (widened_is w16 w32 tt a.x1 c.ranges.x1
+    ∙ sym (kept-column a.x1 a.x2 _ (row-raised c.before.before) c.if-raised16-lt32768.false))
     (omega arith)
 
-pub upright-column-spec : {M : Type 1} → statement M
-upright-column-spec =
-    tie.close
-    (tie.spec
-    (λ c. search rules) (λ c. search rules) (λ c κs. search rules)
-    (λ c. widened_fits w16 w32 tt _ c.before.before.ranges.x1)
-    sub-remainder
-    (λ c κs. search rules) (λ c. search rules)
-    (λ c. widened_fits w16 w32 tt _ c.before.before.ranges.x1)
-    (λ c κs. search rules) (λ c. search rules)
-    returns
-    returns-2)
+pub overflow_cast-x1 : goal.overflow_cast-x1
+overflow_cast-x1 c =
+    widened_fits w16 w32 tt _ c.ranges.x1
+
+pub overflow_cast-x1-else-raised16-lt32768 : goal.overflow_cast-x1-else-raised16-lt32768
+overflow_cast-x1-else-raised16-lt32768 c =
+    widened_fits w16 w32 tt _ c.ranges.x1

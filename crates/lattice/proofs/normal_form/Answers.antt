@@ -8,7 +8,6 @@ use mathlib.Core.List.{[], ◌∷◌}
 use lib.IntN.{nat_abs}
 use mir.Syntax.{w16}
 use mir.Facts.{to_z-of_z}
-use borrow.Author.Rules.{rules}
 use Rattle.integers.specs.Division.{floor_mod}
 use Rattle.integers.specs.Gcd.{gcd}
 use Rattle.integers.proofs.Divisions.{remainder_below}
@@ -28,8 +27,17 @@ use Rattle.checks.proofs.Tests.{independent_iff, size_within_iff}
 use Rattle.checks.proofs.Deciding.{independent_decides, size_decides}
 use Rattle.lattice.proofs.Carried.{falling_of_upright}
 use Rattle.lattice.proofs.NormalForm.{normal_form_is_plan}
-use Rattle.lattice.proofs.normal_form.Statement.{statement}
+use Rattle.lattice.proofs.normal_form.Lts as lts
 use Rattle.lattice.proofs.normal_form.Tie as tie
+use Rattle.lattice.proofs.normal_form.Reads as reads
+use Rattle.lattice.proofs.normal_form.Goals as goal
+
+-- what is known at a step of the code
+abbrev After-determinant_size-n : Type 0
+After-determinant_size-n = lts.After-determinant_size tie.the-claims reads.Pre reads.Post
+
+abbrev Else-n-eq0 : Type 0
+Else-n-eq0 = lts.Else1 tie.the-claims reads.Pre reads.Post
 
 -- what the call answers, by the determinant's size
 module _ (x y : Pixel) where
@@ -63,38 +71,38 @@ unfolding normal_form
 form-is x y e f g = rw (e, f, g)
 
 -- the two vectors, and the determinant's size as the code has it
-module _ (c : tie.After-determinant-size) where
+module _ (c : After-determinant_size-n) where
   abbrev x : Pixel
-  x = at c.before.args.x1 c.before.args.x2
+  x = at c.args.x1 c.args.x2
 
   abbrev y : Pixel
-  y = at c.before.args.y1 c.before.args.y2
+  y = at c.args.y1 c.args.y2
 
-  determinant-size-is : c.determinant-size.result ≡ determinant_size x y
+  determinant-size-is : c.determinant_size-n.result ≡ determinant_size x y
   determinant-size-is =
-      let f = c.before.ranges in
-      c.determinant-size.ensures ∙ ap₂ determinant_size (pixel_handed f.x1 f.x2) (pixel_handed f.y1 f.y2)
+      let f = c.ranges in
+      c.determinant_size-n.ensures ∙ ap₂ determinant_size (pixel_handed f.x1 f.x2) (pixel_handed f.y1 f.y2)
 
-returns : tie.Need-returns
-returns c =
-    sym (dependent-answer (x c.before) (y c.before) (sym (determinant-size-is c.before) ∙ c.if1.true))
+pub returns-then-n-eq0 : goal.returns-then-n-eq0
+returns-then-n-eq0 c =
+    sym (dependent-answer (x c.before) (y c.before) (sym (determinant-size-is c.before) ∙ c.if-n-eq0.true))
 
-independent : (c : tie.Else1) → Independent (x c.before) (y c.before)
-independent c = is-independent (x c.before) (y c.before) (λ e. c.if1.false (determinant-size-is c.before ∙ e))
+independent : (c : Else-n-eq0) → Independent (x c.before) (y c.before)
+independent c = is-independent (x c.before) (y c.before) (λ e. c.if-n-eq0.false (determinant-size-is c.before ∙ e))
 
-returns-2 : tie.Need-returns-2
-returns-2 c =
+pub returns-then-n-gt1024 : goal.returns-then-n-gt1024
+returns-then-n-gt1024 c =
     sym
     (large-answer (x c.before.before) (y c.before.before) (independent c.before)
     (omega (arith, determinant-size-is c.before.before)))
 
 -- the normal form is a plan, and the code's d and a are its own
-module _ (c : tie.After-gcd-of) where
+module _ (c : goal.After-gcd_of-d) where
   -- past the first test, and where the determinant's size is known
-  abbrev passed : tie.Else1
+  abbrev passed : Else-n-eq0
   passed = c.before.before.before.before
 
-  abbrev sized : tie.After-determinant-size
+  abbrev sized : After-determinant_size-n
   sized = passed.before
 
   abbrev form : Plan
@@ -106,58 +114,57 @@ module _ (c : tie.After-gcd-of) where
   is-plan : IsPlan form
   is-plan = normal_form_is_plan (x sized) (y sized) (independent passed) most
 
-  p-is : c.before.before.size.result ≡ nat_abs sized.before.args.x2
-  p-is = c.before.before.size.ensures ∙ ap nat_abs (to_z-of_z sized.before.fits.x2)
+  p-is : c.size-p.result ≡ nat_abs sized.args.x2
+  p-is = c.size-p.ensures ∙ ap nat_abs (to_z-of_z sized.ranges.x2)
 
-  q-is : c.before.size2.result ≡ nat_abs sized.before.args.y2
-  q-is = c.before.size2.ensures ∙ ap nat_abs (to_z-of_z sized.before.fits.y2)
+  q-is : c.size-q.result ≡ nat_abs sized.args.y2
+  q-is = c.size-q.ensures ∙ ap nat_abs (to_z-of_z sized.ranges.y2)
 
-  d-is : c.gcd-of.result ≡ form.d
+  d-is : c.gcd_of-d.result ≡ form.d
   unfolding normal_form at
-  d-is = c.gcd-of.ensures ∙ ap₂ gcd p-is q-is
+  d-is = c.gcd_of-d.ensures ∙ ap₂ gcd p-is q-is
 
   abbrev a : ℕ
-  a = sized.determinant-size.result / c.gcd-of.result
+  a = sized.determinant_size-n.result / c.gcd_of-d.result
 
   a-is : a ≡ form.a
   unfolding normal_form at
   a-is = ap₂ (λ (m n : ℕ). m / n) (determinant-size-is sized) d-is
 
   a_small : (0 < a) × (a ≤ 1024)
-  a_small = omega (arith, a-is, is-plan.a_least, div-le_self sized.determinant-size.result c.gcd-of.result)
+  a_small = omega (arith, a-is, is-plan.a_least, div-le_self sized.determinant_size-n.result c.gcd_of-d.result)
 
-div-a : tie.Need-nonzero-div-a
-div-a c = omega (arith, d-is c, (is-plan c).d_least)
+pub nonzero_div-a : goal.nonzero_div-a
+nonzero_div-a c = omega (arith, d-is c, (is-plan c).d_least)
 
 -- the columns that are carried along, and where they lead
-module _ (c : tie.After-upright-column2) where
-  abbrev g : tie.After-gcd-of
+module _ (c : goal.After-upright_column-y) where
+  abbrev g : goal.After-gcd_of-d
   g = c.before.before
 
-  x-column-is : c.before.upright-column.result ≡ floor_mod (upright (x (sized g))).column (a g)
+  x-column-is : c.upright_column-x.result ≡ floor_mod (upright (x (sized g))).column (a g)
   x-column-is =
-      let f = (sized g).before.fits in
-      c.before.upright-column.ensures ∙ ap (λ (v : Pixel). floor_mod (upright v).column (a g)) (pixel_handed f.x1 f.x2)
+      let f = (sized g).ranges in
+      c.upright_column-x.ensures ∙ ap (λ (v : Pixel). floor_mod (upright v).column (a g)) (pixel_handed f.x1 f.x2)
 
-  y-column-is : c.upright-column2.result ≡ floor_mod (upright (y (sized g))).column (a g)
+  y-column-is : c.upright_column-y.result ≡ floor_mod (upright (y (sized g))).column (a g)
   y-column-is =
-      let f = (sized g).before.fits in
-      c.upright-column2.ensures ∙ ap (λ (v : Pixel). floor_mod (upright v).column (a g)) (pixel_handed f.y1 f.y2)
+      let f = (sized g).ranges in
+      c.upright_column-y.ensures ∙ ap (λ (v : Pixel). floor_mod (upright v).column (a g)) (pixel_handed f.y1 f.y2)
 
-b-is : (c : tie.After-falling-column) → c.falling-column.result ≡ (form (g c.before)).b
+b-is : (c : goal.After-falling_column-b) → c.falling_column-b.result ≡ (form (g c.before)).b
 unfolding normal_form at
 b-is c =
-    let k = c.before in
-    let m = g k in
+    let m = g c.before in
     rw (
       ← (a-is m),
-      ← (falling_of_upright (a m) (a_small m).0 (x (sized m)) (y (sized m)) _ _ _ _ (x-column-is k) (p-is m) (y-column-is k)
+      ← (falling_of_upright (a m) (a_small m).0 (x (sized m)) (y (sized m)) _ _ _ _ (x-column-is c.before) (p-is m) (y-column-is c.before)
           (q-is m)),
     )
-    c.falling-column.ensures
+    c.falling_column-b.ensures
 
-falling-column-requires : tie.Need-falling-column-requires
-falling-column-requires c κs =
+pub falling_column-b-requires : goal.falling_column-b-requires
+falling_column-b-requires c =
     let m = g c in
     let v = (sized m).before in
     omega (
@@ -168,40 +175,32 @@ falling-column-requires c κs =
       y-column-is c,
       remainder_below (upright (y (sized m))).column (a m) (a_small m).0,
       p-is m,
-      fitting_size w16 v.args.x2 v.fits.x2,
+      fitting_size w16 v.args.x2 v.ranges.x2,
       q-is m,
-      fitting_size w16 v.args.y2 v.fits.y2,
+      fitting_size w16 v.args.y2 v.ranges.y2,
     )
 
-cast-t16 : tie.Need-overflow-cast-t16
-cast-t16 c = omega (arith, a_small (g c.before))
+pub overflow_cast-result : goal.overflow_cast-result
+overflow_cast-result c = omega (arith, a_small (g c.before))
 
-cast-t17 : tie.Need-overflow-cast-t17
-cast-t17 c = let m = g c.before in omega (arith, b-is c, (is-plan m).b_below, a-is m, a_small m)
+pub overflow_cast-result-2 : goal.overflow_cast-result-2
+overflow_cast-result-2 c = let m = g c.before in omega (arith, b-is c, (is-plan m).b_below, a-is m, a_small m)
 
-cast-t18 : tie.Need-overflow-cast-t18
-cast-t18 c =
+pub overflow_cast-result-3 : goal.overflow_cast-result-3
+overflow_cast-result-3 c =
     let m = g c.before in omega (arith, d-is m, (is-plan m).most, mul-le-mul_right (form m).d (is-plan m).a_least)
 
-returns-3 : tie.Need-returns-3
+pub returns : goal.returns
 unfolding plan
-returns-3 c =
+returns c =
     let m = g c.before in
     ap Planned.Plan (form-is (x (sized m)) (y (sized m)) (a-is m) (b-is c) (d-is m))
     ∙ sym (form-answer (x (sized m)) (y (sized m)) (independent (passed m)) (most m))
 
-pub normal-form-spec : {M : Type 1} → statement M
-normal-form-spec =
-    tie.close
-    (tie.spec
-    (λ c κs. search rules)
-    returns
-    returns-2
-    (λ c κs. search rules) (λ c κs. search rules) (λ c κs. search rules)
-    div-a
-    (λ c κs. a_small c) (λ c κs. a_small c.before)
-    falling-column-requires
-    cast-t16
-    cast-t17
-    cast-t18
-    returns-3)
+pub upright_column-x-requires : goal.upright_column-x-requires
+upright_column-x-requires c =
+    a_small c
+
+pub upright_column-y-requires : goal.upright_column-y-requires
+upright_column-y-requires c =
+    a_small c.before
