@@ -7,12 +7,10 @@ use lib.IntN.{ℤ, pos, negsuc, ◌-ℤ◌}
 use mir.Syntax.{w8, w16}
 use mir.Val.{SFits, to_z, of_z}
 use mir.Facts.{to_z-of_z, to_z_pos, sfits_widen}
-use borrow.Author.Rules.{rules}
 use Rattle.integers.proofs.Integers.{own_parts, parts_add, same_integer}
 use Rattle.scope.specs.Books.{signed}
 use Rattle.book.proofs.Bytes.{twos_complement}
-use Rattle.book.proofs.scanner.signed_byte.Statement.{statement}
-use Rattle.book.proofs.scanner.signed_byte.Tie as tie
+use Rattle.book.proofs.scanner.signed_byte.Goals as goal
 
 -- what the code takes from a byte of the upper half
 module _ (b : ℕ) (upper : 128 ≤ b) (byte : b < 256) where
@@ -37,18 +35,14 @@ module _ (b : ℕ) (upper : 128 ≤ b) (byte : b < 256) where
   upper-right : to_z w8 (of_z w8 (to_z w16 (of_z w16 difference))) ≡ signed b
   upper-right = to_z-of_z cast_fits ∙ to_z-of_z fits ∙ difference-is ∙ sym (twos_complement.high b upper byte)
 
-sub-result : tie.Need-overflow-sub-result
-sub-result c = fits c.before.args.b c.if1.false c.before.ranges.b.fits
+pub overflow_sub-result : goal.overflow_sub-result
+overflow_sub-result c = fits c.args.b c.if-b-lt128.false c.ranges.b.fits
 
-cast-result-3 : tie.Need-overflow-cast-result-3
-cast-result-3 c = cast_fits c.before.args.b c.if1.false c.before.ranges.b.fits
+pub overflow_cast-result-else-b-lt128-2 : goal.overflow_cast-result-else-b-lt128-2
+overflow_cast-result-else-b-lt128-2 c = cast_fits c.args.b c.if-b-lt128.false c.ranges.b.fits
 
-returns : tie.Need-returns
-returns c = to_z_pos w8 c.if1.true ∙ sym (twos_complement.low c.before.args.b c.if1.true)
+pub returns-then-b-lt128 : goal.returns-then-b-lt128
+returns-then-b-lt128 c = to_z_pos w8 c.if-b-lt128.true ∙ sym (twos_complement.low c.args.b c.if-b-lt128.true)
 
-returns-2 : tie.Need-returns-2
-returns-2 c = upper-right c.before.args.b c.if1.false c.before.ranges.b.fits
-
-pub signed-byte-spec : {M : Type 1} → statement M
-signed-byte-spec =
-    tie.close (tie.spec (λ c. search rules) (λ c. search rules) sub-result cast-result-3 returns returns-2)
+pub returns-else-b-lt128 : goal.returns-else-b-lt128
+returns-else-b-lt128 c = upper-right c.args.b c.if-b-lt128.false c.ranges.b.fits

@@ -1,0 +1,82 @@
+-- `book::record::pixels_outcome` meets its contract. The loop's invariant: the pixels before position e pass their tests, and
+-- the entries are theirs. The measure is what is left of the count.
+-- Assumes nothing.
+use Prim.Native.Nat.{ℕ}
+use native.Mathlib.Omega.{arith}
+use mathlib.Core.Path.{◌≡◌, refl, sym}
+use mathlib.Core.List.{List}
+use lib.IntN.{ℤ, pos}
+use lib.ListN.{get_or}
+use mir.Syntax.{w8}
+use mir.Val.{to_z, of_z}
+use Rattle.scope.specs.Plans.{at, pixel_at}
+use Rattle.scope.specs.declared.Pattern.{Pattern}
+use Rattle.scope.proofs.PlanFacts.{entry_handed}
+use Rattle.book.proofs.PixelLoops.{no_pixel_passed, pixel_not_taken, one_more_pixel, all_pixels_passed}
+use Rattle.book.proofs.record.pixels_outcome.Lts as lts
+use Rattle.book.proofs.record.pixels_outcome.Tie as tie
+use Rattle.book.proofs.record.pixels_outcome.Reads as reads
+use Rattle.book.proofs.record.pixels_outcome.Goals as goal
+
+-- what is known at a step of the code
+abbrev After-pixel_outcome-outcome : Type 0
+After-pixel_outcome-outcome = lts.After-pixel_outcome tie.the-claims reads.Pre reads.Post goal.the-invariant-loop-e goal.the-decreases-loop-e
+
+abbrev At-loop-e : Type 0
+At-loop-e = lts.At-loop tie.the-claims reads.Pre reads.Post goal.the-invariant-loop-e goal.the-decreases-loop-e
+
+-- the loop's columns, rows and count as the record they came from
+abbrev pattern : List ℤ → List ℤ → ℕ → Pattern
+pattern columns rows used = record { columns = columns; rows = rows; used = used }
+
+pub loop-e-init : goal.loop-e-init
+loop-e-init c = (omega arith, no_pixel_passed _ _)
+
+-- the head of the turn in which a pixel was tested
+abbrev head : After-pixel_outcome-outcome → At-loop-e
+head c = c.before.before.before.before.before
+
+-- the pixel that was handed over is the pattern's at position e
+pixel-is :
+    (c : After-pixel_outcome-outcome) →
+    let columns = (head c).args.t.columns in
+    let rows = (head c).args.t.rows in
+    pixel_at (head c).args.t (head c).loop-e.e
+    ≡ at (to_z w8 (of_z w8 (get_or columns (head c).loop-e.e (pos 0)))) (to_z w8 (of_z w8 (get_or rows (head c).loop-e.e (pos 0))))
+unfolding pixel_at at
+pixel-is c =
+    sym (entry_handed w8 _ _ c.pixel_outcome-arg-1.given c.pixel_outcome-arg-in-loop-e-1.given)
+
+pub returns-in-Refused : goal.returns-in-Refused
+returns-in-Refused c =
+    pixel_not_taken (head c.before.before).loop-e.invariant.1 c.pixel_outcome-outcome.ensures (pixel-is c.before.before) refl
+    c.loop-e-test.true c.in-Refused.is
+
+pub loop-e-preserved : goal.loop-e-preserved
+loop-e-preserved c = (
+  omega arith,
+  one_more_pixel (head c.before.before).loop-e.invariant.1 c.pixel_outcome-outcome.ensures (pixel-is c.before.before) refl c.in_default.is,
+)
+
+pub returns : goal.returns
+returns c = all_pixels_passed c.loop-e.invariant.1 c.loop-e-test.false
+
+pub bounds-columns-e : goal.bounds-columns-e
+bounds-columns-e c =
+    omega arith
+
+pub bounds-rows-e : goal.bounds-rows-e
+bounds-rows-e c =
+    omega arith
+
+pub pixel_outcome-outcome-requires : goal.pixel_outcome-outcome-requires
+pixel_outcome-outcome-requires c =
+    (c.loop-e.invariant.1.passed.size, omega arith)
+
+pub overflow_add-e : goal.overflow_add-e
+overflow_add-e c =
+    omega arith
+
+pub loop-e-smaller : goal.loop-e-smaller
+loop-e-smaller c =
+    omega arith
