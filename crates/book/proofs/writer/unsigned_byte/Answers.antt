@@ -5,14 +5,12 @@ use native.Mathlib.Omega.{arith}
 use mathlib.Core.Path.{◌≡◌, refl, sym, ◌∙◌, ap}
 use mathlib.Core.List.{[], ◌∷◌}
 use lib.IntN.{ℤ, pos, ◌+ℤ◌, ◌*ℤ◌}
-use borrow.Author.Rules.{rules}
 use Rattle.integers.specs.Division.{floor_mod}
 use Rattle.integers.proofs.Divisions.{remainder_of_pos, remainder_of_shift}
 use Rattle.integers.proofs.Ring.{ring, linear, ◌·◌, reify}
 use Rattle.integers.proofs.Raised.{raised_read}
 use Rattle.scope.specs.Books.{unsigned}
-use Rattle.book.proofs.writer.unsigned_byte.Statement.{statement}
-use Rattle.book.proofs.writer.unsigned_byte.Tie as tie
+use Rattle.book.proofs.writer.unsigned_byte.Goals as goal
 
 -- n is z raised by 128
 byte-of-raised : (n : ℕ) (z : ℤ) → pos n ≡ z +ℤ pos 128 → (n + 128) % 256 ≡ unsigned z
@@ -24,9 +22,6 @@ byte-of-raised n z e =
     ∙ ap (λ (y : ℤ). floor_mod y 256) shifted
     ∙ remainder_of_shift 256 (omega arith) z (pos 1)
 
-returns : tie.Need-returns
+pub returns : goal.returns
 returns c =
-    byte-of-raised c.raised8.result c.before.args.z (raised_read 128 c.before.ranges.z c.raised8.ensures.0)
-
-pub unsigned-byte-spec : {M : Type 1} → statement M
-unsigned-byte-spec = tie.close (tie.spec (λ c κs. search rules) (λ c. search rules) (λ c. search rules) returns)
+    byte-of-raised c.raised8.result c.args.z (raised_read 128 c.ranges.z c.raised8.ensures.0)

@@ -7,7 +7,6 @@ use mathlib.Core.Path.{◌≡◌, ◌∙◌, ap}
 use mathlib.Core.Option.{Option, none, some}
 use mathlib.Core.List.{List, [], ◌∷◌}
 use lib.ListN.{length}
-use borrow.Author.Rules.{rules}
 use Rattle.scope.specs.Search.{first_of}
 use Rattle.scope.specs.Banks.{over_start}
 use Rattle.scope.specs.Books.{book_bytes}
@@ -21,8 +20,7 @@ use Rattle.checks.proofs.Deciding.{output_decides}
 use Rattle.checks.proofs.BookTests.{book_legal_iff}
 use Rattle.checks.proofs.Legal.{write_test_iff}
 use Rattle.book.proofs.Outcomes.{record_taken, record_turned_down}
-use Rattle.book.proofs.writer.write_book.Statement.{statement}
-use Rattle.book.proofs.writer.write_book.Tie as tie
+use Rattle.book.proofs.writer.write_book.Goals as goal
 
 -- What the call answers and what stands in the output, by its tests.
 module _ (book : Book) (out : List ℕ) where
@@ -60,45 +58,22 @@ module _ (book : Book) (out : List ℕ) where
       value_given tests Counted.Refused out number (over_start bytes out)
       ((write_test_iff book (length out)).1 ((book_legal_iff book).0 legal, enough))
 
-returns : tie.Need-returns
+pub returns-in-Refused : goal.returns-in-Refused
+returns-in-Refused c =
+    book-refused _ _ c.in-Refused.r
+    (record_turned_down _ c.record_outcome-outcome.ensures c.in-Refused.is)
+
+pub byte_count-size-requires : goal.byte_count-size-requires
+byte_count-size-requires c = record_taken _ c.record_outcome-outcome.ensures c.in_default.is
+
+pub returns-then-out-size : goal.returns-then-out-size
+returns-then-out-size c =
+    output-refused _ _ (record_taken _ c.record_outcome-outcome.ensures c.in_default.is) (omega (arith, c.byte_count-size.ensures))
+
+pub put_book-requires : goal.put_book-requires
+put_book-requires c = (record_taken _ c.record_outcome-outcome.ensures c.in_default.is, omega (arith, c.byte_count-size.ensures))
+
+pub returns : goal.returns
 returns c =
-    let k = c.before in
-    book-refused _ _ k.outcome.given.0.0
-    (record_turned_down _ k.before.before.record_outcome.ensures k.outcome.given.1)
-
--- where the record's tests found nothing
-module _ (c : tie.After-enum-told) where
-  abbrev entry : tie.Start
-  entry = c.before.before.before.before
-
-  legal : record_test entry.args.book ≡ none
-  legal = record_taken _ c.before.before.record_outcome.ensures c.enum_told.given.1
-
-returns-2 : tie.Need-returns-2
-returns-2 c =
-    let k = c.before in output-refused _ _ (legal k.before) (omega (arith, k.byte-count.ensures))
-
-put-book-requires : tie.Need-put-book-requires
-put-book-requires c κs =
-    let k = c.before.before in (legal k.before, omega (arith, k.byte-count.ensures))
-
-returns-3 : tie.Need-returns-3
-returns-3 c =
-    let put = c.before.before in
-    let k = put.before.before.before in
-    let out = (entry k.before).args.out.now in
-    let right = written _ out (legal k.before) (omega (arith, k.byte-count.ensures)) in
-    (ap Counted.Number k.byte-count.ensures ∙ right.0, put.put-book.ensures ∙ right.1)
-
-pub write-book-spec : {M : Type 1} → statement M
-write-book-spec =
-    tie.close
-    (tie.spec
-    (λ c κs. search rules) (λ c. search rules)
-    returns
-    (λ c. search rules)
-    (λ c κs. legal c)
-    returns-2
-    put-book-requires
-    (λ c. search rules)
-    returns-3)
+    let right = written _ c.args.out.now (record_taken _ c.record_outcome-outcome.ensures c.in_default.is) (omega (arith, c.byte_count-size.ensures)) in
+    (ap Counted.Number c.byte_count-size.ensures ∙ right.0, c.put_book.ensures ∙ right.1)

@@ -3,7 +3,6 @@
 use Prim.Native.Nat.{ℕ}
 use mathlib.Core.Path.{◌≡◌, sym, ◌∙◌, ap₂}
 use mathlib.Core.List.{List, []}
-use borrow.Author.Rules.{rules}
 use Rattle.scope.specs.Books.{book_of, book_in}
 use Rattle.scope.specs.Numbers.{bytes_test}
 use Rattle.scope.specs.Calls.{read_book}
@@ -14,8 +13,7 @@ use Rattle.scope.specs.declared.Refusal.{Refusal}
 use Rattle.checks.proofs.Chains.{answered_none, answered_some}
 use Rattle.book.specs.Scan.{outcome_of}
 use Rattle.book.proofs.Outcomes.{done_found_nothing, refused_found}
-use Rattle.book.proofs.reader.read_book.Statement.{statement}
-use Rattle.book.proofs.reader.read_book.Tie as tie
+use Rattle.book.proofs.reader.read_book.Goals as goal
 
 -- the reading where the tests of the bytes s have answered with a refusal, and where they found nothing
 module _ (s : List ℕ) {book : Book} {outcome : Outcome} (answer : outcome ≡ outcome_of (bytes_test s)) where
@@ -32,25 +30,13 @@ module _ (s : List ℕ) {book : Book} {outcome : Outcome} (answer : outcome ≡ 
       ap₂ {C = Reading} (λ b o. record { book = b; outcome = o }) is done
       ∙ sym (answered_none (bytes_test s) _ _ (done_found_nothing (bytes_test s) answer done))
 
-returns : tie.Need-returns
+pub returns-in-Refused : goal.returns-in-Refused
+returns-in-Refused c =
+    refused-reading _ c.bytes_outcome-outcome.ensures c.in-Refused.is c.empty_book-book.ensures
+
+pub book_at-book-requires : goal.book_at-book-requires
+book_at-book-requires c = done_found_nothing _ c.bytes_outcome-outcome.ensures c.in_default.is
+
+pub returns : goal.returns
 returns c =
-    let k = c.before in
-    refused-reading _ k.before.before.bytes-outcome.ensures k.enum_told.given.1 c.empty-book.ensures
-
-book-at-requires : tie.Need-book-at-requires
-book-at-requires c κs = done_found_nothing _ c.before.before.bytes-outcome.ensures c.enum-told2.given.1
-
-returns-2 : tie.Need-returns-2
-returns-2 c =
-    let k = c.before in
-    done-reading _ k.before.before.bytes-outcome.ensures k.enum-told2.given.1 c.book-at.ensures
-
-pub read-book-spec : {M : Type 1} → statement M
-read-book-spec =
-    tie.close
-    (tie.spec
-    (λ c κs. search rules) (λ c. search rules) (λ c κs. search rules)
-    returns
-    (λ c. search rules)
-    book-at-requires
-    returns-2)
+    done-reading _ c.bytes_outcome-outcome.ensures c.in_default.is c.book_at-book.ensures

@@ -5,15 +5,13 @@ use native.Mathlib.Omega.{arith}
 use mathlib.Core.Path.{◌≡◌, ap, ap₂}
 use mathlib.Core.List.{List, []}
 use lib.ListN.{length, take, drop}
-use borrow.Author.Rules.{rules}
 use Rattle.scope.specs.Books.{byte, start, part_in}
 use Rattle.scope.specs.Calls.{part_outcome, pattern_part, part_place}
 use Rattle.scope.specs.declared.Outcome.{Outcome}
 use Rattle.scope.specs.declared.Refusal.{Refusal}
 use Rattle.checks.proofs.Chains.{gives_value, gives_refusal}
 use Rattle.book.proofs.PartAnswers.{refused_part_lem, taken_part, refused_place, start_shows, taken_place, taken_bounds}
-use Rattle.book.proofs.part.pattern_part.Statement.{statement}
-use Rattle.book.proofs.part.pattern_part.Tie as tie
+use Rattle.book.proofs.part.pattern_part.Goals as goal
 
 module _ (s : List ℕ) (n : ℕ) {outcome : Outcome} (answer : outcome ≡ part_outcome s n) where
   -- a refused part is empty, and at the start
@@ -37,53 +35,44 @@ module _ (s : List ℕ) (n : ℕ) {outcome : Outcome} (answer : outcome ≡ part
     at-first-pixel : (p : ℕ × ℕ) → ◌≡◌ {A = ℕ × ℕ} (p.0, at + 1 + p.1) (p.0, p.1 + part_place s n)
     at-first-pixel p = ap {B = ℕ × ℕ} (λ k. (p.0, k)) (omega (arith, taken_place s n answer done is))
 
-returns : tie.Need-returns
+    -- the counts are legal, and it is inside
+    bounds : (byte s at ≤ 64) × (at + 1 + 2 * byte s at ≤ length s)
+    bounds = let b = taken_bounds s n answer done is in (b.1, b.2)
+
+pub returns-in-Refused : goal.returns-in-Refused
+returns-in-Refused c =
+    let answer = c.part_outcome-outcome.ensures in
+    let refused = c.in-Refused.is in
+    record { content = empty-part _ _ answer refused; place = at-start _ _ answer refused _ }
+
+pub start_of-at-requires : goal.start_of-at-requires
+start_of-at-requires c = start_shows _ _ c.part_outcome-outcome.ensures c.in_default.is
+
+pub returns : goal.returns
+unfolding byte
 returns c =
-    let k = c.before in
-    let answer = k.before.before.part-outcome.ensures in
-    let refused = k.enum_told.given.1 in
-    (empty-part _ _ answer refused, at-start _ _ answer refused _)
+    let answer = c.part_outcome-outcome.ensures in
+    let done = c.in_default.is in
+    record {
+      content = part-there _ _ answer done c.start_of-at.ensures;
+      place = at-first-pixel _ _ answer done c.start_of-at.ensures _;
+    }
 
-start-of-requires : tie.Need-start-of-requires
-start-of-requires c κs = start_shows _ _ c.before.before.part-outcome.ensures c.enum-told2.given.1
+pub overflow_add-first : goal.overflow_add-first
+overflow_add-first c = omega (arith, bounds _ _ c.part_outcome-outcome.ensures c.in_default.is c.start_of-at.ensures)
 
--- where the part was not refused, and the place of its pixel count is known
-module _ (c : tie.After-start-of) where
-  abbrev answered : tie.After-part-outcome
-  answered = c.before.before.before
+pub bounds-s-at : goal.bounds-s-at
+bounds-s-at c = omega (arith, bounds _ _ c.part_outcome-outcome.ensures c.in_default.is c.start_of-at.ensures)
 
-  abbrev s : List ℕ
-  s = answered.before.before.args.s.now
+pub overflow_cast-end : goal.overflow_cast-end
+overflow_cast-end c = omega (arith, bounds _ _ c.part_outcome-outcome.ensures c.in_default.is c.start_of-at.ensures)
 
-  abbrev at : ℕ
-  at = c.start_of_lem.result
+pub overflow_mul-end : goal.overflow_mul-end
+overflow_mul-end c = omega (arith, bounds _ _ c.part_outcome-outcome.ensures c.in_default.is c.start_of-at.ensures)
 
-  done : answered.part-outcome.result ≡ Outcome.Done
-  done = c.before.enum-told2.given.1
+pub overflow_add-end : goal.overflow_add-end
+overflow_add-end c = omega (arith, bounds _ _ c.part_outcome-outcome.ensures c.in_default.is c.start_of-at.ensures)
 
-  bounds : (byte s at ≤ 64) × (at + 1 + 2 * byte s at ≤ length s)
-  bounds = let b = taken_bounds _ _ answered.part-outcome.ensures done c.start_of_lem.ensures in (b.1, b.2)
-
-returns-2 : tie.Need-returns-2
+pub slice_bounds-result-end-2 : goal.slice_bounds-result-end-2
 unfolding byte
-returns-2 c =
-    let k = c.before.before in
-    let answer = (answered k).part-outcome.ensures in (
-      part-there _ _ answer (done k) k.start_of_lem.ensures,
-      at-first-pixel _ _ answer (done k) k.start_of_lem.ensures _,
-    )
-
--- the needs without a name: numbers fit and places are inside
-pub pattern-part-spec : {M : Type 1} → statement M
-unfolding byte
-pattern-part-spec =
-    tie.close
-    (tie.spec
-    (λ c κs. search rules) (λ c. search rules) (λ c. search rules) (λ c. search rules) (λ c. search rules)
-    returns
-    (λ c. search rules)
-    start-of-requires
-    (λ c. omega (arith, bounds c)) (λ c. omega (arith, bounds c.before)) (λ c. omega (arith, bounds c.before))
-    (λ c. omega (arith, bounds c.before)) (λ c. omega (arith, bounds c.before))
-    (λ c. search rules) (λ c. search rules) (λ c. (bounds c.before).1)
-    returns-2)
+slice_bounds-result-end-2 c = (bounds _ _ c.part_outcome-outcome.ensures c.in_default.is c.start_of-at.ensures).1
