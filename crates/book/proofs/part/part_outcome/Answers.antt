@@ -1,7 +1,6 @@
 -- `book::part::part_outcome` meets its contract: the bytes' refusal if there is one, else 17 if there is no such pattern.
 -- Assumes nothing.
 use Prim.Native.Nat.{ℕ, ◌≤◌, ◌<◌}
-use native.Mathlib.Omega.{arith}
 use mathlib.Core.Path.{◌≡◌, ◌∙◌}
 use mathlib.Core.Option.{none}
 use mathlib.Core.List.{List}
