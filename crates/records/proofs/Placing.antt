@@ -16,7 +16,7 @@ use Rattle.scope.specs.Plans.{Pixel, at, banks}
 use Rattle.scope.specs.Banks.{bank_of, address_of}
 use Rattle.scope.specs.Numbers.{plan_test, sides_test, outside_test}
 use Rattle.scope.specs.Calls.{bank, address, record_pixel, placed}
-use Rattle.scope.specs.promises.Meaning.{IsPlan, IsSide, Inside, AllInside}
+use Rattle.scope.specs.promises.Meaning.{IsPlan, IsSide, AllInside}
 use Rattle.scope.specs.declared.Plan.{Plan}
 use Rattle.scope.specs.declared.PixelRecord.{PixelRecord}
 use Rattle.scope.specs.declared.Refusal.{Refusal}
@@ -31,7 +31,7 @@ use Rattle.checks.proofs.Legal.{fill_test_iff}
 use Rattle.records.specs.Filling.{is_number, is_placeable, placed_if}
 
 -- a record's pixel handed to a callee is its pixel
-pub record_pixel_handed :
+record_pixel_handed :
     (r : PixelRecord) → mag r.column < 2 ^ hbits w16 → mag r.row < 2 ^ hbits w16
     → at (to_z w16 (of_z w16 r.column)) (to_z w16 (of_z w16 r.row)) ≡ record_pixel r
 unfolding record_pixel at
@@ -44,6 +44,17 @@ pub record_put :
     (record { column = to_z w16 (of_z w16 r.column); row = to_z w16 (of_z w16 r.row); bank = k; address = u })
     (record { column = r.column; row = r.row; bank = k; address = u })
 record_put r k u f g = rw (number_handed w16 f, number_handed w16 g)
+
+-- what the address's and the bank's calls answered, of the record's pixel
+module _ (r : PixelRecord) (f : mag r.column < 2 ^ hbits w16) (g : mag r.row < 2 ^ hbits w16) where
+  abbrev handed : Pixel
+  handed = at (to_z w16 (of_z w16 r.column)) (to_z w16 (of_z w16 r.row))
+
+  pub address_handed : {A : Counted} (p : Plan) (W H : ℕ) → A ≡ address p W H handed → A ≡ address p W H (record_pixel r)
+  address_handed p W H e = rw (record_pixel_handed r f g) at e
+
+  pub bank_handed : {B : Counted} (p : Plan) → B ≡ bank p handed → B ≡ bank p (record_pixel r)
+  bank_handed p e = rw (record_pixel_handed r f g) at e
 
 module _ (p : Plan) (W H : ℕ) (r : PixelRecord) where
   abbrev v : Pixel

@@ -1,16 +1,15 @@
 -- A whole list by its records: one that is not placeable leaves the list as it was, and where all are each is placed.
 -- Assumes nothing.
-use Prim.Native.Nat.{ℕ, ◌+◌, ◌<◌}
+use Prim.Native.Nat.{ℕ, ◌<◌}
 use native.Mathlib.Decide.{ℕ_discrete}
 use native.Mathlib.Omega.{arith}
 use mathlib.Core.Path.{◌≡◌, refl, sym, ◌∙◌, ap, subst}
-use mathlib.Core.Bool.{Bool, true, false, not}
+use mathlib.Core.Bool.{true, false}
 use mathlib.Core.Option.{Option, none, some}
 use mathlib.Core.List.Memᴰ
 use mathlib.Core.List.{List, [], ◌∷◌, map}
 use lib.ListN.{length, get_or, length-map}
 use Rattle.scope.specs.Search.{gather, whenever, first_of}
-use Rattle.scope.specs.Plans.{Pixel}
 use Rattle.scope.specs.Banks.{address_of}
 use Rattle.scope.specs.Numbers.{plan_test, sides_test, outside_test}
 use Rattle.scope.specs.Calls.{answered, address, record_pixel, placed, fill_records}
@@ -114,16 +113,6 @@ module _ (p : Plan) (W H : ℕ) where
 
     abbrev entry : ℕ → PixelRecord
     entry m = get_or rs m no_record
-
-    -- One more record that is placeable.
-    pub one_more_placeable :
-        (i : ℕ) → ((m : ℕ) → m < i → is_placeable p W H (entry m) ≡ true) → is_placeable p W H (entry i) ≡ true →
-        (m : ℕ) → m < i + 1 → is_placeable p W H (entry m) ≡ true
-    one_more_placeable i before e m k = at_place (ℕ_discrete m i)
-      where
-        at_place : Dec (m ≡ i) → is_placeable p W H (entry m) ≡ true
-        at_place (yes is) = rw is e
-        at_place (no other) = before m (omega (arith, k, other))
 
     -- One record that is not placeable: the answer is 11, 12 or 14, and no record changes.
     pub none_filled :

@@ -5,7 +5,6 @@ use mathlib.Core.Path.{◌≡◌, sym, ◌∙◌, ap}
 use mathlib.Core.Bool.{Bool, true, false, not}
 use mathlib.Core.Option.{Option, none, some}
 use mathlib.Core.List.{[], ◌∷◌}
-use borrow.Author.Rules.{rules}
 use Rattle.scope.specs.Search.{whenever, first_of}
 use Rattle.scope.specs.Banks.{depth_of}
 use Rattle.scope.specs.Numbers.{plan_test, sides_test}
@@ -17,8 +16,7 @@ use Rattle.scope.specs.declared.Outcome.{Outcome}
 use Rattle.checks.proofs.Chains.{chain_refuses, chain_goes_on, chain_of_one, tests_as_one, answered_none, answered_some}
 use Rattle.checks.proofs.CountedAnswers.{number_shows, refusal_shows}
 use Rattle.records.specs.Filling.{fill_answer}
-use Rattle.records.proofs.fill_answer.Statement.{statement}
-use Rattle.records.proofs.fill_answer.Tie as tie
+use Rattle.records.proofs.fill_answer.Goals as goal
 
 module _ (p : Plan) (W H : ℕ) (inside : Bool) where
   abbrev depthTest : Option Refusal
@@ -64,14 +62,11 @@ module _ (p : Plan) (W H : ℕ) (inside : Bool) where
       unfolding whenever
       one_outside e = refused Refusal.Outside (past-depth ∙ ap (λ (b : Bool). whenever (not b) Refusal.Outside) e)
 
-returns : tie.Need-returns
-returns c = let r = c.before in no-depth _ _ _ _ r.before.before.depth.ensures _ r.r.given.1
+pub returns-in-Refused : goal.returns-in-Refused
+returns-in-Refused c = no-depth _ _ _ _ c.depth.ensures _ c.in-Refused.is
 
-returns-2 : tie.Need-returns-2
-returns-2 c = let t = c.before in all-inside _ _ _ _ t.before.before.depth.ensures t.enum_told.given.1 c.if1.true
+pub returns-then-inside : goal.returns-then-inside
+returns-then-inside c = all-inside _ _ _ _ c.depth.ensures c.in_default.is c.if-inside.true
 
-returns-3 : tie.Need-returns-3
-returns-3 c = let t = c.before in one_outside _ _ _ _ t.before.before.depth.ensures t.enum_told.given.1 c.if1.false
-
-pub fill-answer-spec : {M : Type 1} → statement M
-fill-answer-spec = tie.close (tie.spec (λ c κs. search rules) (λ c. search rules) returns (λ c. search rules) returns-2 returns-3)
+pub returns-else-inside : goal.returns-else-inside
+returns-else-inside c = one_outside _ _ _ _ c.depth.ensures c.in_default.is c.if-inside.false
