@@ -1,6 +1,6 @@
 -- What a run of calls does to a memory: the word last stored at each pixel stands at its place, call by call.
 -- Assumes nothing.
-use Rattle.std.proofs.Common.{◌≡◌, ℕ, ◌<◌, ◌≤◌, List, [], ◌∷◌, length, get_or, drop, sym, refl, ap, ◌∙◌, arith}
+use Rattle.std.proofs.Common.{◌≡◌, ℕ, ◌<◌, ◌≤◌, List, [], ◌∷◌, length, get_or, drop, sym, refl, ap, ◌∙◌, subst, arith}
 use native.Mathlib.Decide.{ℕ_discrete}
 use mathlib.Core.Option.{Option, none, some}
 use Rattle.integers.proofs.Digits.{digits_determine}
@@ -161,8 +161,14 @@ module _ (g : Setting) (legal_plan : IsPlan g.plan) (start : Lent) (enough : pic
       → Holds g start (λ v. word_after g (size_of start) v (old v) c) (after g l c)
   unfolding answered after word_after
   call_holds old l (read r) h = h
-  call_holds old l (write w) h = rw (after_is g l w, h.as_long) (by_test (test g (size_of start) (write w)) refl)
+  call_holds old l (write w) h =
+      rw (after_is g l w)
+      (subst (λ (s : Size). Holds g start word_then (answered (test g s (write w)) (λ r. l) (done g l w))) (sym h.as_long)
+      (by_test (test g (size_of start) (write w)) refl))
     where
+      word_then : Pixel → ℕ
+      word_then v = word_after g (size_of start) v (old v) (write w)
+
       by_test :
           (t : Option Refusal) → test g (size_of start) (write w) ≡ t
           → Holds g start (λ v. answered t (λ r. old v) (effect g v (old v) w)) (answered t (λ r. l) (done g l w))
@@ -175,4 +181,5 @@ module _ (g : Setting) (legal_plan : IsPlan g.plan) (start : Lent) (enough : pic
       → Holds g start (λ v. stored_since g (size_of start) v (old v) calls) (run g l calls)
   unfolding run stored_since state_after
   run_holds old l [] h = h
-  run_holds old l (c ∷ calls) h = run_holds _ (after g l c) calls (call_holds old l c h)
+  run_holds old l (c ∷ calls) h =
+      run_holds (λ v. word_after g (size_of start) v (old v) c) (after g l c) calls (call_holds old l c h)

@@ -1,7 +1,7 @@
 -- `pictures::places::word_place` meets its contract: 11, 12, 13 are the picture's, and then only 14 is left of the plan's own
 -- tests for a word.
 -- Assumes nothing.
-use Rattle.std.proofs.Common.{◌≡◌, ℕ, [], ◌∷◌, ap, ◌∙◌, rules}
+use Rattle.std.proofs.Common.{◌≡◌, ℕ, [], ◌∷◌, ap, ◌∙◌}
 use mathlib.Core.Option.{Option, none, some}
 use Rattle.scope.specs.Plans.{Pixel}
 use Rattle.scope.specs.Banks.{word_of}
@@ -17,8 +17,7 @@ use Rattle.checks.proofs.Chains.{chain_refuses, gives_refusal}
 use Rattle.pictures.specs.Places.{word_place}
 use Rattle.pictures.proofs.CallTests.{picture_test_iff}
 use Rattle.pictures.proofs.PictureTests.{only_outside}
-use Rattle.pictures.proofs.places.word_place.Statement.{statement}
-use Rattle.pictures.proofs.places.word_place.Tie as tie
+use Rattle.pictures.proofs.places.word_place.Goals as goal
 
 module _ (p : Plan) (W H words : ℕ) (v : Pixel) where
   abbrev outside : Option Refusal
@@ -40,24 +39,12 @@ module _ (p : Plan) (W H words : ℕ) (v : Pixel) where
     unfolding word word_place
     word-is-place = ap (λ (t : Option Refusal). answered t Counted.Refused (Counted.Number (word_of p W H v))) tests_same
 
-returns : tie.Need-returns
+pub returns-in-Refused : goal.returns-in-Refused
+returns-in-Refused c =
+    no-picture _ _ _ _ _ (refused_found _ c.picture_outcome.ensures c.in-Refused.is)
+
+pub returns : goal.returns
 returns c =
-    let r = c.before in
-    no-picture _ _ _ _ _ (refused_found _ r.before.before.picture-outcome.ensures r.r.given.1)
-
-returns-2 : tie.Need-returns-2
-returns-2 c =
-    let k = c.before in
-    let s = k.before.before.before in
     c.word.ensures
-    ∙ ap (word _ _ _) (pixel_handed s.ranges.i s.ranges.j)
-    ∙ word-is-place _ _ _ _ _ (done_found_nothing _ k.before.before.picture-outcome.ensures k.enum_told.given.1)
-
-pub word-place-spec : {M : Type 1} → statement M
-word-place-spec =
-    tie.close
-    (tie.spec
-    (λ c κs. search rules) (λ c. search rules)
-    returns
-    (λ c. search rules) (λ c κs. search rules)
-    returns-2)
+    ∙ ap (word _ _ _) (pixel_handed c.ranges.i c.ranges.j)
+    ∙ word-is-place _ _ _ _ _ (done_found_nothing _ c.picture_outcome.ensures c.in_default.is)

@@ -1,6 +1,6 @@
 -- `pictures::words::store` meets its contract: the tests come with the place, where the word is put and its bank's sum is kept.
 -- Assumes nothing.
-use Rattle.std.proofs.Common.{◌≡◌, ℕ, ◌<◌, [], ◌∷◌, length, get_or, set, sym, refl, ap, ◌∙◌, ap₂, arith, rules}
+use Rattle.std.proofs.Common.{◌≡◌, ℕ, ◌<◌, [], ◌∷◌, length, get_or, set, sym, refl, ap, ◌∙◌, ap₂, arith}
 use mathlib.Core.Option.{Option, none, some}
 use Rattle.scope.specs.Plans.{Pixel}
 use Rattle.scope.specs.Banks.{bank_of, word_of, word_in, exchanged, after_store, sums_after_store}
@@ -21,8 +21,7 @@ use Rattle.lattice.proofs.Words.{pixels_have_words}
 use Rattle.pictures.specs.Places.{lent_depth}
 use Rattle.pictures.proofs.CallTests.{lent_test_iff, store_test_iff}
 use Rattle.pictures.proofs.PictureTests.{only_outside, lent_shows, lent_refusal_shows, leaves_written, leaves_as_it_was}
-use Rattle.pictures.proofs.words.store.Statement.{statement}
-use Rattle.pictures.proofs.words.store.Tie as tie
+use Rattle.pictures.proofs.words.store.Goals as goal
 
 -- what an answer that is a place, or a refusal, shows of its tests
 module _ (t : Option Refusal) (x : Place) {answer : Placed} where
@@ -126,65 +125,41 @@ module _ (p : Plan) (W H : ℕ) (l : Lent) (v : Pixel) (x : ℕ) where
         unfolding store
         done sum_is_lem = leaves_written passed l stored (ap₂ lent memory-is (sums-are sum_is_lem))
 
-returns : tie.Need-returns
-returns c = let r = c.before in no-picture _ _ _ _ _ _ r.before.before.lent-depth.ensures r.r.given.1
+pub returns-in-Refused : goal.returns-in-Refused
+returns-in-Refused c =
+    let (answer, left) = no-picture _ _ _ (lent c.args.mem.now c.args.sums.now) _ c.args.x c.lent_depth.ensures c.in-Refused.is in
+    record { answer = answer; left = left }
 
--- the place is known
-module _ (c : tie.After-placed) where
-  abbrev asked-for : tie.After-place
-  asked-for = c.before.before
+pub returns-in-At : goal.returns-in-At
+returns-in-At c =
+    let (answer, left) = done _ _ _ (lent c.args.mem.now c.args.sums.now) _ c.args.x c.lent_depth.ensures c.in_default.is (pixel_handed c.ranges.i c.ranges.j) c.place-placed.ensures c.in-At.is c.exchange.ensures in
+    record { answer = answer; left = left }
 
-  abbrev sized : tie.After-lent-depth
-  sized = asked-for.before.before.before
+pub returns-in-Refused-placed : goal.returns-in-Refused-placed
+returns-in-Refused-placed c =
+    let (answer, left) = outside _ _ _ (lent c.args.mem.now c.args.sums.now) _ c.args.x c.lent_depth.ensures c.in_default.is (pixel_handed c.ranges.i c.ranges.j) c.place-placed.ensures c.in-Refused-placed.is in
+    record { answer = answer; left = left }
 
-  abbrev began : tie.Start
-  began = sized.before.before.before
+pub offset_bounds-mem-k : goal.offset_bounds-mem-k
+offset_bounds-mem-k c = omega (arith, in_memory _ _ _ (lent c.args.mem.now c.args.sums.now) _ c.args.x c.lent_depth.ensures c.in_default.is (pixel_handed c.ranges.i c.ranges.j) c.place-placed.ensures c.in-At.is)
 
-  word-there : c.placed.given.0.0.word < length began.args.mem.now
-  word-there =
-      in_memory _ _ _ (lent began.args.mem.now began.args.sums.now) _ began.args.x sized.lent-depth.ensures asked-for.before.enum_told.given.1
-      (pixel_handed began.fits.i began.fits.j) asked-for.place.ensures c.placed.given.1
+pub bounds-mem-k : goal.bounds-mem-k
+bounds-mem-k c = in_memory _ _ _ (lent c.args.mem.now c.args.sums.now) _ c.args.x c.lent_depth.ensures c.in_default.is (pixel_handed c.ranges.i c.ranges.j) c.place-placed.ensures c.in-At.is
 
-  sum-there : c.placed.given.0.0.bank < length began.args.sums.now
-  sum-there =
-      in-sums _ _ _ (lent began.args.mem.now began.args.sums.now) _ began.args.x sized.lent-depth.ensures asked-for.before.enum_told.given.1
-      (pixel_handed began.fits.i began.fits.j) asked-for.place.ensures c.placed.given.1
+pub offset_bounds-mem-k-in-At : goal.offset_bounds-mem-k-in-At
+offset_bounds-mem-k-in-At c = omega (arith, in_memory _ _ _ (lent c.args.mem.now c.args.sums.now) _ c.args.x c.lent_depth.ensures c.in_default.is (pixel_handed c.ranges.i c.ranges.j) c.place-placed.ensures c.in-At.is)
 
-returns-2 : tie.Need-returns-2
-returns-2 c =
-    let d = c.before.before.before.before in
-    let s = began d in
-    done _ _ _ _ _ _ (sized d).lent-depth.ensures (asked-for d).before.enum_told.given.1 (pixel_handed s.fits.i s.fits.j)
-    (asked-for d).place.ensures
-    d.placed.given.1
-    c.exchange.ensures
+pub bounds-mem-k-in-At : goal.bounds-mem-k-in-At
+bounds-mem-k-in-At c = in_memory _ _ _ (lent c.args.mem.now c.args.sums.now) _ c.args.x c.lent_depth.ensures c.in_default.is (pixel_handed c.ranges.i c.ranges.j) c.place-placed.ensures c.in-At.is
 
-returns-3 : tie.Need-returns-3
-returns-3 c =
-    let d = c.before in
-    let k = d.before.before in
-    let s = k.before.before.before.before.before.before in
-    outside _ _ _ _ _ _ k.before.before.before.lent-depth.ensures k.before.enum_told.given.1
-    (pixel_handed s.ranges.i s.ranges.j)
-    k.place.ensures
-    d.placed2.given.1
+pub offset_bounds-sums-n : goal.offset_bounds-sums-n
+offset_bounds-sums-n c = omega (arith, in-sums _ _ _ (lent c.args.mem.now c.args.sums.now) _ c.args.x c.lent_depth.ensures c.in_default.is (pixel_handed c.ranges.i c.ranges.j) c.place-placed.ensures c.in-At.is)
 
-pub store_spec : {M : Type 1} → statement M
-store_spec =
-    tie.close
-    (tie.spec
-    (λ c κs. search rules) (λ c. search rules)
-    returns
-    (λ c. search rules) (λ c κs. search rules) (λ c. search rules)
-    (λ c. omega (arith, word-there c.before))
-    (λ c. word-there c.before.before)
-    (λ c. omega (arith, word-there c.before.before))
-    (λ c. word-there c.before.before)
-    (λ c. omega (arith, sum-there c.before.before))
-    (λ c. sum-there c.before.before.before)
-    (λ c κs. search rules)
-    (λ c. omega (arith, sum-there c.before.before.before.before))
-    (λ c. sum-there c.before.before.before.before)
-    (λ c. search rules) (λ c. search rules) (λ c. search rules)
-    returns-2
-    returns-3)
+pub bounds-sums-n : goal.bounds-sums-n
+bounds-sums-n c = in-sums _ _ _ (lent c.args.mem.now c.args.sums.now) _ c.args.x c.lent_depth.ensures c.in_default.is (pixel_handed c.ranges.i c.ranges.j) c.place-placed.ensures c.in-At.is
+
+pub offset_bounds-sums-n-in-At : goal.offset_bounds-sums-n-in-At
+offset_bounds-sums-n-in-At c = omega (arith, in-sums _ _ _ (lent c.args.mem.now c.args.sums.now) _ c.args.x c.lent_depth.ensures c.in_default.is (pixel_handed c.ranges.i c.ranges.j) c.place-placed.ensures c.in-At.is)
+
+pub bounds-sums-n-in-At : goal.bounds-sums-n-in-At
+bounds-sums-n-in-At c = in-sums _ _ _ (lent c.args.mem.now c.args.sums.now) _ c.args.x c.lent_depth.ensures c.in_default.is (pixel_handed c.ranges.i c.ranges.j) c.place-placed.ensures c.in-At.is

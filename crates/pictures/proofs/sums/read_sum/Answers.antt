@@ -1,6 +1,6 @@
 -- `pictures::sums::read_sum` meets its contract: 11, 13, 15, then the entry.
 -- Assumes nothing.
-use Rattle.std.proofs.Common.{◌≡◌, ℕ, ◌<◌, ◌≤◌, true, false, List, [], ◌∷◌, length, get_or, refl, ◌∙◌, arith, rules}
+use Rattle.std.proofs.Common.{◌≡◌, ℕ, ◌<◌, ◌≤◌, true, false, List, [], ◌∷◌, length, get_or, refl, ◌∙◌, arith}
 use mathlib.Core.Option.{some}
 use Rattle.scope.specs.Search.{first_of}
 use Rattle.scope.specs.Plans.{is_plan, banks}
@@ -12,8 +12,14 @@ use Rattle.scope.specs.declared.Refusal.{Refusal}
 use Rattle.scope.proofs.MethodAnswers.{fails, holds, demand_met, demand_fails}
 use Rattle.checks.proofs.Chains.{chain_refuses, chain_goes_on, chain_of_one, gives_value, gives_refusal}
 use Rattle.checks.proofs.Deciding.{sums_decide, bank_decides}
-use Rattle.pictures.proofs.sums.read_sum.Statement.{statement}
+use Rattle.pictures.proofs.sums.read_sum.Lts as lts
 use Rattle.pictures.proofs.sums.read_sum.Tie as tie
+use Rattle.pictures.proofs.sums.read_sum.Reads as reads
+use Rattle.pictures.proofs.sums.read_sum.Goals as goal
+
+-- what is known at a step of the code
+abbrev After-banks : Type 0
+After-banks = lts.After-banks tie.the-claims reads.Pre reads.Post
 
 module _ (p : Plan) (sums : List ℕ) (k : ℕ) where
   refused : {r : Refusal} → read_sum_test p (length sums) k ≡ some r → Counted.Refused r ≡ read_sum p sums k
@@ -47,37 +53,20 @@ module _ (p : Plan) (sums : List ℕ) (k : ℕ) where
       unfolding read_sum
       entry h = gives_value (past-sums ∙ (bank_decides p k).passes (omega (arith, counted))) Counted.Refused refl
 
-returns : tie.Need-returns
-returns c = no-plan _ _ _ (fails c.before.is-plan.ensures c.if1.true)
+pub returns-then-not-is_plan : goal.returns-then-not-is_plan
+returns-then-not-is_plan c = no-plan _ _ _ (fails c.is_plan.ensures c.if-not-is_plan.true-raw)
 
 -- past the test of the plan
-is_one : (c : tie.After-banks) → is_plan c.before.before.before.before.args.p ≡ true
-is_one c = holds c.before.before.is-plan.ensures c.before.if1.false
+is_one : (c : After-banks) → is_plan c.args.p ≡ true
+is_one c = holds c.is_plan.ensures c.if-not-is_plan.false-raw
 
-returns-2 : tie.Need-returns-2
-returns-2 c = let b = c.before in too_few _ _ _ (is_one b) b.banks.ensures c.if2.true
+pub returns-then-sums-banks : goal.returns-then-sums-banks
+returns-then-sums-banks c = too_few _ _ _ (is_one c.before.before) c.banks.ensures c.if-sums-banks.true
 
-returns-3 : tie.Need-returns-3
-returns-3 c =
-    let t = c.before.before in
-    no-bank _ _ _ (is_one t.before) t.before.banks.ensures t.if2.false (omega (arith, c.before.banks2.ensures, t.before.banks.ensures, c.if3.true))
+pub returns-then-banks-k : goal.returns-then-banks-k
+returns-then-banks-k c =
+    no-bank _ _ _ (is_one c.before.before.before.before) c.banks.ensures c.if-sums-banks.false (omega (arith, c.banks-2.ensures, c.banks.ensures, c.if-banks-k.true))
 
-returns-4 : tie.Need-returns-4
-returns-4 c =
-    let e = c.before in
-    let t = e.before.before in
-    entry _ _ _ (is_one t.before) t.before.banks.ensures t.if2.false (omega (arith, e.before.banks2.ensures, t.before.banks.ensures, e.if3.false))
-
-pub read-sum-spec : {M : Type 1} → statement M
-read-sum-spec =
-    tie.close
-    (tie.spec
-    (λ c κs. search rules)
-    returns
-    (λ c κs. search rules)
-    returns-2
-    (λ c κs. search rules)
-    returns-3
-    (λ c. search rules)
-    (λ c. search rules)
-    returns-4)
+pub returns : goal.returns
+returns c =
+    entry _ _ _ (is_one c.before.before.before.before.before) c.banks.ensures c.if-sums-banks.false (omega (arith, c.banks-2.ensures, c.banks.ensures, c.if-banks-k.false))

@@ -1,7 +1,7 @@
 -- `pictures::banks::sum` meets its contract: where the bank's tests find nothing its words are summed, and elsewhere the
 -- refusal comes back.
 -- Assumes nothing.
-use Rattle.std.proofs.Common.{◌≡◌, ℕ, ◌+◌, ◌-◌, ◌*◌, List, length, take, drop, ap, ◌∙◌, arith, rules}
+use Rattle.std.proofs.Common.{◌≡◌, ℕ, ◌+◌, ◌-◌, ◌*◌, List, length, take, drop, ap, ◌∙◌, arith}
 use mathlib.Core.Option.{none}
 use mathlib.Core.List.{foldr}
 use Rattle.scope.specs.Banks.{bank_sum}
@@ -13,8 +13,7 @@ use Rattle.checks.proofs.Chains.{gives_value, gives_refusal}
 use Rattle.pictures.specs.Places.{bank_depth}
 use Rattle.pictures.proofs.PictureTests.{bank_refusal_shows}
 use Rattle.pictures.proofs.WholeBanks.{BankIn, bank_given, part_is_bank, part_at_most}
-use Rattle.pictures.proofs.banks.sum.Statement.{statement}
-use Rattle.pictures.proofs.banks.sum.Tie as tie
+use Rattle.pictures.proofs.banks.sum.Goals as goal
 
 -- what the call answers
 module _ (p : Plan) (W H : ℕ) (mem : List ℕ) (k : ℕ) where
@@ -30,30 +29,31 @@ module _ (p : Plan) (W H : ℕ) (mem : List ℕ) (k : ℕ) where
   unfolding sum
   refused is e = gives_refusal (bank_refusal_shows p W H (length mem) k is e) Counted.Refused (Counted.Number (bank_sum p W H mem k))
 
--- the bank's depth was given
-bank :
-    (c : tie.After-depth) →
-    let u = c.before.before.before.before.args in
-    (whole_bank_test u.p u.w u.h (length u.mem.now) u.k ≡ none) × BankIn u.p u.w u.h u.mem.now u.k c.depth.given.0.0
-bank c = bank_given c.before.before.bank-depth.ensures c.depth.given.1
+pub sum_words-requires : goal.sum_words-requires
+sum_words-requires c = part_at_most (bank_given c.bank_depth-depth.ensures c.in-Number.is).1
 
-sum-words-requires : tie.Need-sum-words-requires
-sum-words-requires c κs = part_at_most (bank c.before.before).1
+pub returns-in-Number : goal.returns-in-Number
+returns-in-Number c = summed _ _ _ _ _ (bank_given c.bank_depth-depth.ensures c.in-Number.is) c.sum_words.ensures
 
-returns : tie.Need-returns
-returns c = summed _ _ _ _ _ (bank c.before.before.before) c.sum-words.ensures
+pub returns-in-Refused : goal.returns-in-Refused
+returns-in-Refused c = refused _ _ _ _ _ c.bank_depth-depth.ensures c.in-Refused.is
 
-returns-2 : tie.Need-returns-2
-returns-2 c = let d = c.before in refused _ _ _ _ _ d.before.before.bank-depth.ensures d.depth2.given.1
+pub overflow_mul-start : goal.overflow_mul-start
+overflow_mul-start c =
+    omega (arith, (bank_given c.bank_depth-depth.ensures c.in-Number.is).1)
 
-pub sum-spec : {M : Type 1} → statement M
-sum-spec =
-    tie.close
-    (tie.spec
-    (λ c κs. search rules) (λ c. search rules) (λ c. omega (arith, (bank c.before).1)) (λ c. omega (arith, (bank c.before).1))
-    (λ c. omega (arith, (bank c.before).1)) (λ c. omega (arith, (bank c.before).1)) (λ c. search rules) (λ c. search rules)
-    (λ c. omega (arith, (bank c.before).1))
-    sum-words-requires
-    (λ c. search rules)
-    returns
-    returns-2)
+pub overflow_add-end : goal.overflow_add-end
+overflow_add-end c =
+    omega (arith, (bank_given c.bank_depth-depth.ensures c.in-Number.is).1)
+
+pub overflow_mul-end : goal.overflow_mul-end
+overflow_mul-end c =
+    omega (arith, (bank_given c.bank_depth-depth.ensures c.in-Number.is).1)
+
+pub offset_bounds-mem-start : goal.offset_bounds-mem-start
+offset_bounds-mem-start c =
+    omega (arith, (bank_given c.bank_depth-depth.ensures c.in-Number.is).1)
+
+pub slice_bounds-sum_words-end : goal.slice_bounds-sum_words-end
+slice_bounds-sum_words-end c =
+    omega (arith, (bank_given c.bank_depth-depth.ensures c.in-Number.is).1)

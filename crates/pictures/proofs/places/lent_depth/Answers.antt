@@ -1,6 +1,6 @@
 -- `pictures::places::lent_depth` meets its contract: 11, 12, 13 come with the depth, then 13 for the sums.
 -- Assumes nothing.
-use Rattle.std.proofs.Common.{◌≡◌, ℕ, ◌<◌, ◌≤◌, [], ◌∷◌, sym, ap, ◌∙◌, arith, rules}
+use Rattle.std.proofs.Common.{◌≡◌, ℕ, ◌<◌, ◌≤◌, [], ◌∷◌, sym, ap, ◌∙◌, arith}
 use mathlib.Core.Option.{Option}
 use Rattle.scope.specs.Plans.{banks}
 use Rattle.scope.specs.Banks.{depth_of}
@@ -13,8 +13,7 @@ use Rattle.checks.proofs.Chains.{chain_refuses, chain_goes_on, chain_of_one, giv
 use Rattle.checks.proofs.Deciding.{sums_decide}
 use Rattle.pictures.specs.Places.{picture_depth, lent_depth}
 use Rattle.pictures.proofs.PictureTests.{picture_shows, picture_refusal_shows}
-use Rattle.pictures.proofs.places.lent_depth.Statement.{statement}
-use Rattle.pictures.proofs.places.lent_depth.Tie as tie
+use Rattle.pictures.proofs.places.lent_depth.Goals as goal
 
 -- what the call answers, by what the callee answered
 module _ (p : Plan) (W H : ℕ) (s : Size) {answer : Counted} (is : answer ≡ picture_depth p W H s.words) where
@@ -51,25 +50,13 @@ module _ (p : Plan) (W H : ℕ) (s : Size) {answer : Counted} (is : answer ≡ p
         ∙ gives_value (past-picture ∙ (sums_decide p s.entries).passes (omega (arith, counted))) Counted.Refused
         (ap Counted.Number (sym (picture_shows p W H s.words is e).1))
 
-returns : tie.Need-returns
-returns c =
-    let t = c.before.before in
-    too_few _ _ _ _ t.before.before.picture-depth.ensures t.enum_told.given.1 c.before.banks.ensures c.if1.true
+pub returns-then-entries-banks : goal.returns-then-entries-banks
+returns-then-entries-banks c =
+    too_few _ _ _ _ c.picture_depth-answer.ensures c.in-Number.is c.banks.ensures c.if-entries-banks.true
 
-returns-2 : tie.Need-returns-2
-returns-2 c =
-    let t = c.before.before in
-    enough-sums _ _ _ _ t.before.before.picture-depth.ensures t.enum_told.given.1 c.before.banks.ensures c.if1.false
+pub returns-else-entries-banks : goal.returns-else-entries-banks
+returns-else-entries-banks c =
+    enough-sums _ _ _ _ c.picture_depth-answer.ensures c.in-Number.is c.banks.ensures c.if-entries-banks.false
 
-returns-3 : tie.Need-returns-3
-returns-3 c = no-picture _ _ _ _ c.before.before.picture-depth.ensures _ c.enum-told2.given.1
-
-pub lent-depth-spec : {M : Type 1} → statement M
-lent-depth-spec =
-    tie.close
-    (tie.spec
-    (λ c κs. search rules) (λ c. search rules) (λ c κs. search rules)
-    returns
-    (λ c. search rules)
-    returns-2
-    returns-3)
+pub returns-in_default : goal.returns-in_default
+returns-in_default c = no-picture _ _ _ _ c.picture_depth-answer.ensures _ c.in_default.is

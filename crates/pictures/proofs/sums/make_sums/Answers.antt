@@ -1,6 +1,6 @@
 -- `pictures::sums::make_sums` meets its contract: where the tests find nothing each bank is summed, and elsewhere the refusal comes back.
 -- Assumes nothing.
-use Rattle.std.proofs.Common.{◌≡◌, ℕ, ◌*◌, ◌≤◌, List, length, refl, ap, ◌∙◌, arith, rules}
+use Rattle.std.proofs.Common.{◌≡◌, ℕ, ◌*◌, ◌≤◌, List, length, refl, ap, ◌∙◌, arith}
 use Rattle.scope.specs.Plans.{banks}
 use Rattle.scope.specs.Banks.{depth_of, bank_sum, bank_words, fresh_sums}
 use Rattle.scope.specs.Calls.{Lent, lent, size_of, make_sums}
@@ -14,8 +14,7 @@ use Rattle.lattice.proofs.Words.{depth_at_most}
 use Rattle.pictures.specs.Places.{lent_depth, sums_over}
 use Rattle.pictures.proofs.CallTests.{lent_test_iff}
 use Rattle.pictures.proofs.PictureTests.{lent_shows, lent_refusal_shows, leaves_written, leaves_as_it_was}
-use Rattle.pictures.proofs.sums.make_sums.Statement.{statement}
-use Rattle.pictures.proofs.sums.make_sums.Tie as tie
+use Rattle.pictures.proofs.sums.make_sums.Goals as goal
 
 module _ (p : Plan) (W H : ℕ) (l : Lent) {asked : Counted} (is : asked ≡ lent_depth p W H (size_of l)) where
   abbrev fresh : Lent
@@ -50,29 +49,16 @@ module _ (p : Plan) (W H : ℕ) (l : Lent) {asked : Counted} (is : asked ≡ len
     unfolding make_sums
     made put = leaves_written (lent_shows p W H (size_of l) is e).0 l fresh (ap (lent l.memory) (put ∙ over-is-fresh))
 
-put-sums-requires : tie.Need-put-sums-requires
-put-sums-requires c κs =
-    let b = c.before in
-    let d = b.before.before in
-    let s = d.before.before.before.before.before in
-    banks-there _ _ _ (lent s.args.mem.now s.args.sums.now) d.before.before.lent-depth.ensures d.depth.given.1 b.banks.ensures
+pub put_sums-requires : goal.put_sums-requires
+put_sums-requires c =
+    banks-there _ _ _ (lent c.args.mem.now c.args.sums.now) c.lent_depth-depth.ensures c.in-Number.is c.banks.ensures
 
-returns : tie.Need-returns
-returns c =
-    let m = c.before.before in
-    let b = m.before.before in
-    let d = b.before.before in
-    made _ _ _ _ d.before.before.lent-depth.ensures d.depth.given.1 b.banks.ensures m.put-sums.ensures
+pub returns-in-Number : goal.returns-in-Number
+returns-in-Number c =
+    let (answer, left) = made _ _ _ (lent c.args.mem.now c.args.sums.now) c.lent_depth-depth.ensures c.in-Number.is c.banks.ensures c.put_sums.ensures in
+    record { answer = answer; left = left }
 
-returns-2 : tie.Need-returns-2
-returns-2 c = let d = c.before in refused _ _ _ _ d.before.before.lent-depth.ensures d.depth2.given.1
-
-pub make-sums-spec : {M : Type 1} → statement M
-make-sums-spec =
-    tie.close
-    (tie.spec
-    (λ c κs. search rules) (λ c. search rules) (λ c κs. search rules)
-    put-sums-requires
-    (λ c. search rules) (λ c. search rules)
-    returns
-    returns-2)
+pub returns-in-Refused : goal.returns-in-Refused
+returns-in-Refused c =
+    let (answer, left) = refused _ _ _ (lent c.args.mem.now c.args.sums.now) c.lent_depth-depth.ensures c.in-Refused.is in
+    record { answer = answer; left = left }

@@ -1,6 +1,6 @@
 -- `pictures::places::picture_depth` meets its contract: 11 and 12 come with the depth, then 13.
 -- Assumes nothing.
-use Rattle.std.proofs.Common.{◌≡◌, ℕ, ◌*◌, ◌<◌, ◌≤◌, [], ◌∷◌, sym, ap, ◌∙◌, mul-le-mul, arith, rules}
+use Rattle.std.proofs.Common.{◌≡◌, ℕ, ◌*◌, ◌<◌, ◌≤◌, [], ◌∷◌, sym, ap, ◌∙◌, mul-le-mul, arith}
 use mathlib.Core.Option.{Option, none, some}
 use Rattle.scope.specs.Search.{first_of}
 use Rattle.scope.specs.Plans.{banks}
@@ -19,8 +19,7 @@ use Rattle.lattice.proofs.Words.{depth_at_most}
 use Rattle.pictures.specs.Places.{picture_depth}
 use Rattle.checks.proofs.CountedAnswers.{number_shows, refusal_shows}
 use Rattle.pictures.proofs.PictureTests.{depth_before_memory}
-use Rattle.pictures.proofs.places.picture_depth.Statement.{statement}
-use Rattle.pictures.proofs.places.picture_depth.Tie as tie
+use Rattle.pictures.proofs.places.picture_depth.Goals as goal
 
 module _ (p : Plan) (W H words : ℕ) where
   -- what the call answers, by its tests
@@ -81,36 +80,14 @@ module _ (p : Plan) (W H words : ℕ) where
           ap Counted.Number (sym depth-shows.1)
           ∙ sym (given (past-depth ∙ (memory_decides p W H words).passes (omega (arith, count-is))))
 
--- the plan's call gave a number
-module _ (c : tie.After-banks) where
-  abbrev asked : tie.After-depth
-  asked = c.before.before.before.before
+pub overflow_mul-banks : goal.overflow_mul-banks
+overflow_mul-banks c = omega (arith, words-at-most _ _ _ c.args.words c.depth-answer.ensures c.in-Number.is c.banks.ensures)
 
-  is : let u = asked.before.args in asked.depth.result ≡ depth u.p u.w u.h
-  is = asked.depth.ensures
+pub returns-then-words-banks : goal.returns-then-words-banks
+returns-then-words-banks c = memory-short _ _ _ _ c.depth-answer.ensures c.in-Number.is c.banks.ensures c.if-words-banks.true
 
-  number_is : asked.depth.result ≡ Counted.Number c.before.before.answer.given.0.0
-  number_is = c.before.before.answer.given.1
+pub returns-else-words-banks : goal.returns-else-words-banks
+returns-else-words-banks c = memory-enough _ _ _ _ c.depth-answer.ensures c.in-Number.is c.banks.ensures c.if-words-banks.false
 
-mul-if1 : tie.Need-overflow-mul-if1
-mul-if1 c = omega (arith, words-at-most _ _ _ (asked c).before.args.words (is c) (number_is c) c.banks.ensures)
-
-returns : tie.Need-returns
-returns c = memory-short _ _ _ _ (is c.before) (number_is c.before) c.before.banks.ensures c.if1.true
-
-returns-2 : tie.Need-returns-2
-returns-2 c = memory-enough _ _ _ _ (is c.before) (number_is c.before) c.before.banks.ensures c.if1.false
-
-returns-3 : tie.Need-returns-3
-returns-3 c = no-depth _ _ _ _ c.before.before.depth.ensures _ c.enum_told.given.1
-
-pub picture-depth-spec : {M : Type 1} → statement M
-picture-depth-spec =
-    tie.close
-    (tie.spec
-    (λ c κs. search rules) (λ c. search rules) (λ c κs. search rules)
-    mul-if1
-    returns
-    (λ c. search rules)
-    returns-2
-    returns-3)
+pub returns-in_default : goal.returns-in_default
+returns-in_default c = no-depth _ _ _ _ c.depth-answer.ensures _ c.in_default.is

@@ -1,6 +1,6 @@
 -- `pictures::places::bank_depth` meets its contract: 11, 12, 13 come with the depth, then 15.
 -- Assumes nothing.
-use Rattle.std.proofs.Common.{◌≡◌, ℕ, ◌<◌, ◌≤◌, [], ◌∷◌, sym, ap, ◌∙◌, arith, rules}
+use Rattle.std.proofs.Common.{◌≡◌, ℕ, ◌<◌, ◌≤◌, [], ◌∷◌, sym, ap, ◌∙◌, arith}
 use mathlib.Core.Option.{none, some}
 use Rattle.scope.specs.Plans.{banks}
 use Rattle.scope.specs.Banks.{depth_of}
@@ -13,8 +13,7 @@ use Rattle.checks.proofs.Chains.{chain_refuses, chain_goes_on, chain_of_one, ans
 use Rattle.checks.proofs.Deciding.{bank_decides}
 use Rattle.pictures.specs.Places.{picture_depth, bank_depth}
 use Rattle.pictures.proofs.PictureTests.{picture_shows, picture_refusal_shows}
-use Rattle.pictures.proofs.places.bank_depth.Statement.{statement}
-use Rattle.pictures.proofs.places.bank_depth.Tie as tie
+use Rattle.pictures.proofs.places.bank_depth.Goals as goal
 
 module _ (p : Plan) (W H words k : ℕ) where
   -- what the call answers, by its tests
@@ -51,27 +50,15 @@ module _ (p : Plan) (W H words k : ℕ) where
           ∙ ap Counted.Number (sym (picture_shows p W H words is e).1)
           ∙ sym (given (past-picture ∙ (bank_decides p k).passes (omega (arith, counted))))
 
-returns : tie.Need-returns
-returns c =
-    let t = c.before.before in
-    no-such-bank _ _ _ _ _ t.before.before.picture-depth.ensures t.enum_told.given.1 c.before.banks.ensures
-    c.if1.true
+pub returns-then-banks-k : goal.returns-then-banks-k
+returns-then-banks-k c =
+    no-such-bank _ _ _ _ _ c.picture_depth-answer.ensures c.in-Number.is c.banks.ensures
+    c.if-banks-k.true
 
-returns-2 : tie.Need-returns-2
-returns-2 c =
-    let t = c.before.before in
-    bank-there _ _ _ _ _ t.before.before.picture-depth.ensures t.enum_told.given.1 c.before.banks.ensures
-    c.if1.false
+pub returns-else-banks-k : goal.returns-else-banks-k
+returns-else-banks-k c =
+    bank-there _ _ _ _ _ c.picture_depth-answer.ensures c.in-Number.is c.banks.ensures
+    c.if-banks-k.false
 
-returns-3 : tie.Need-returns-3
-returns-3 c = no-picture _ _ _ _ _ c.before.before.picture-depth.ensures _ c.enum-told2.given.1
-
-pub bank-depth-spec : {M : Type 1} → statement M
-bank-depth-spec =
-    tie.close
-    (tie.spec
-    (λ c κs. search rules) (λ c. search rules) (λ c κs. search rules)
-    returns
-    (λ c. search rules)
-    returns-2
-    returns-3)
+pub returns-in_default : goal.returns-in_default
+returns-in_default c = no-picture _ _ _ _ _ c.picture_depth-answer.ensures _ c.in_default.is

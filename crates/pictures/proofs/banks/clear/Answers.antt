@@ -1,7 +1,7 @@
 -- `pictures::banks::clear` meets its contract: where the bank's tests find nothing its words and its sum are cleared, and elsewhere the
 -- refusal comes back.
 -- Assumes nothing.
-use Rattle.std.proofs.Common.{◌≡◌, ℕ, ◌<◌, ◌≤◌, List, [], ◌∷◌, length, refl, ◌∙◌, ap₂, arith, rules}
+use Rattle.std.proofs.Common.{◌≡◌, ℕ, ◌<◌, ◌≤◌, List, [], ◌∷◌, length, refl, ◌∙◌, ap₂, arith}
 use mathlib.Core.Option.{some}
 use Rattle.scope.specs.Plans.{banks}
 use Rattle.scope.specs.Banks.{after_clear, sums_after_clear}
@@ -18,8 +18,7 @@ use Rattle.pictures.specs.Places.{lent_depth}
 use Rattle.pictures.proofs.CallTests.{lent_test_iff}
 use Rattle.pictures.proofs.PictureTests.{lent_shows, lent_refusal_shows, leaves_written, leaves_as_it_was}
 use Rattle.pictures.proofs.WholeBanks.{BankIn, bank_in, part_cleared}
-use Rattle.pictures.proofs.banks.clear.Statement.{statement}
-use Rattle.pictures.proofs.banks.clear.Tie as tie
+use Rattle.pictures.proofs.banks.clear.Goals as goal
 
 -- what the call answers and what it leaves
 module _ (p : Plan) (W H : ℕ) (l : Lent) (k : ℕ) where
@@ -62,54 +61,40 @@ module _ (p : Plan) (W H : ℕ) (l : Lent) (k : ℕ) where
       unfolding clear
       done mem_is sums-is = leaves_written (past-picture ∙ (bank_decides p k).passes below) l cleared (ap₂ lent mem_is sums-is)
 
-returns : tie.Need-returns
-returns c =
-    let d = c.before.before.before in
-    no-bank _ _ _ _ _ d.before.before.lent-depth.ensures d.depth.given.1 c.before.banks.ensures c.if1.true
+pub returns-then-banks-k : goal.returns-then-banks-k
+returns-then-banks-k c =
+    let (answer, left) = no-bank _ _ _ (lent c.args.mem.now c.args.sums.now) c.args.k c.lent_depth-depth.ensures c.in-Number.is c.banks.ensures c.if-banks-k.true in
+    record { answer = answer; left = left }
 
--- the bank is there
-module _ (c : tie.Else1) where
-  abbrev depth-known : tie.After-depth
-  depth-known = c.before.before.before
-
-  abbrev given : tie.Start
-  given = depth-known.before.before.before.before.before
-
-  bank : let u = given.args in BankIn u.p u.w u.h u.mem.now u.k depth-known.depth.given.0.0
-  bank =
-      there _ _ _ (lent given.args.mem.now given.args.sums.now) _ depth-known.before.before.lent-depth.ensures depth-known.depth.given.1 c.before.banks.ensures
-      c.if1.false
-
-  sum-here : given.args.k < length given.args.sums.now
-  sum-here =
-      sum-there _ _ _ (lent given.args.mem.now given.args.sums.now) _ depth-known.before.before.lent-depth.ensures depth-known.depth.given.1 c.before.banks.ensures
-      c.if1.false
-
-returns-2 : tie.Need-returns-2
+pub returns-else-banks-k : goal.returns-else-banks-k
 unfolding sums_after_clear
-returns-2 c =
-    let w = c.before.before in
-    let e = w.before.before in
-    let d = depth-known e in
-    done _ _ _ _ _ d.before.before.lent-depth.ensures d.depth.given.1 e.before.banks.ensures e.if1.false
-    (part_cleared (bank e) w.clear-words.ensures)
-    refl
+returns-else-banks-k c =
+    let bank = there _ _ _ (lent c.args.mem.now c.args.sums.now) c.args.k c.lent_depth-depth.ensures c.in-Number.is c.banks.ensures c.if-banks-k.false in
+    let (answer, left) = done _ _ _ (lent c.args.mem.now c.args.sums.now) c.args.k c.lent_depth-depth.ensures c.in-Number.is c.banks.ensures c.if-banks-k.false (part_cleared bank c.clear_words.ensures) refl in
+    record { answer = answer; left = left }
 
-returns-3 : tie.Need-returns-3
-returns-3 c = let d = c.before in no-picture _ _ _ _ _ d.before.before.lent-depth.ensures d.depth2.given.1
+pub returns-in-Refused : goal.returns-in-Refused
+returns-in-Refused c =
+    let (answer, left) = no-picture _ _ _ (lent c.args.mem.now c.args.sums.now) c.args.k c.lent_depth-depth.ensures c.in-Refused.is in
+    record { answer = answer; left = left }
 
-pub clear_spec : {M : Type 1} → statement M
-clear_spec =
-    tie.close
-    (tie.spec
-    (λ c κs. search rules) (λ c. search rules) (λ c κs. search rules)
-    returns
-    (λ c. omega (arith, bank c)) (λ c. omega (arith, bank c)) (λ c. omega (arith, bank c)) (λ c. omega (arith, bank c))
-    (λ c. search rules) (λ c. search rules)
-    (λ c. omega (arith, bank c))
-    (λ c κs. search rules)
-    (λ c. omega (arith, sum-here c.before.before.before.before))
-    (λ c. sum-here c.before.before.before.before)
-    (λ c. search rules) (λ c. search rules) (λ c. search rules)
-    returns-2
-    returns-3)
+pub overflow_mul-start : goal.overflow_mul-start
+overflow_mul-start c = omega (arith, there _ _ _ (lent c.args.mem.now c.args.sums.now) c.args.k c.lent_depth-depth.ensures c.in-Number.is c.banks.ensures c.if-banks-k.false)
+
+pub overflow_add-end : goal.overflow_add-end
+overflow_add-end c = omega (arith, there _ _ _ (lent c.args.mem.now c.args.sums.now) c.args.k c.lent_depth-depth.ensures c.in-Number.is c.banks.ensures c.if-banks-k.false)
+
+pub overflow_mul-end : goal.overflow_mul-end
+overflow_mul-end c = omega (arith, there _ _ _ (lent c.args.mem.now c.args.sums.now) c.args.k c.lent_depth-depth.ensures c.in-Number.is c.banks.ensures c.if-banks-k.false)
+
+pub offset_bounds-mem-start : goal.offset_bounds-mem-start
+offset_bounds-mem-start c = omega (arith, there _ _ _ (lent c.args.mem.now c.args.sums.now) c.args.k c.lent_depth-depth.ensures c.in-Number.is c.banks.ensures c.if-banks-k.false)
+
+pub slice_bounds-clear_words-end : goal.slice_bounds-clear_words-end
+slice_bounds-clear_words-end c = omega (arith, there _ _ _ (lent c.args.mem.now c.args.sums.now) c.args.k c.lent_depth-depth.ensures c.in-Number.is c.banks.ensures c.if-banks-k.false)
+
+pub offset_bounds-sums-k : goal.offset_bounds-sums-k
+offset_bounds-sums-k c = omega (arith, sum-there _ _ _ (lent c.args.mem.now c.args.sums.now) c.args.k c.lent_depth-depth.ensures c.in-Number.is c.banks.ensures c.if-banks-k.false)
+
+pub bounds-sums-k : goal.bounds-sums-k
+bounds-sums-k c = sum-there _ _ _ (lent c.args.mem.now c.args.sums.now) c.args.k c.lent_depth-depth.ensures c.in-Number.is c.banks.ensures c.if-banks-k.false

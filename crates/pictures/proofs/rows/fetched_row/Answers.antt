@@ -1,0 +1,21 @@
+-- `pictures::rows::fetched_row` meets its contract.
+-- Assumes nothing.
+use Rattle.std.proofs.Common.{ℕ, suc, List, [], ◌∷◌, take, ◌∙◌}
+use Rattle.scope.specs.Numbers.{Answer, with_positions, of_counted}
+use Rattle.scope.specs.declared.Counted.{Counted}
+use Rattle.pictures.specs.Lists.{answer_numbers}
+use Rattle.pictures.proofs.ReplyRows.{same_row}
+use Rattle.pictures.proofs.rows.fetched_row.Goals as goal
+
+-- a counted answer with the positions that were handed in
+abbrev told : ℕ → List ℕ → Counted → Answer ℕ
+told r positions counted = with_positions (take (suc r) positions) (of_counted counted)
+
+pub returns-in-Number : goal.returns-in-Number
+unfolding answer_numbers
+returns-in-Number c =
+    c.value_row.ensures ∙ same_row (told c.args.r c.args.a.positions) (λ n. n ∷ []) c.in-Number.is
+
+pub returns-in-Refused : goal.returns-in-Refused
+returns-in-Refused c =
+    c.clash_row.ensures (λ n. n ∷ []) ∙ same_row (told c.args.r c.args.a.positions) (λ n. n ∷ []) c.in-Refused.is
