@@ -6,7 +6,7 @@ use native.Mathlib.Nat.{mul-mod_left, mul-div_cancel, div-add-mod', mul-le-mul_l
 use native.Mathlib.Omega.{arith}
 use native.Mathlib.Decide.{dec_lt}
 use mathlib.Core.Path.{◌≡◌, refl, sym, ◌∙◌, subst}
-use mathlib.Core.Bool.{Bool, true, false, ◌&&◌}
+use mathlib.Core.Bool.{Bool, ◌&&◌}
 use mathlib.Core.Option.{none, some}
 use lib.Dec.{ltb, eqb}
 use Rattle.integers.proofs.Comparisons.{eqb_iff, eqb_false_iff, ltb_iff, ltb_false_iff, and_iff}

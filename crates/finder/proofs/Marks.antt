@@ -204,4 +204,5 @@ pub marked_iff : (book : Book) (n : ℕ) (c : Cell) → (get_or (mark_book book 
 marked_iff book n c = Iff.trans ((book_marked book n).marked c) (there, inr)
   where
     there : ⊥ ⊎ IsDifference book n (vector c) → IsDifference book n (vector c)
+    there (inl h) = elim h [ ]
     there (inr h) = h

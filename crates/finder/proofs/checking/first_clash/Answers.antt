@@ -1,0 +1,86 @@
+-- `finder::checking::first_clash` meets its contract. The loop's invariant: the patterns before the n-th have no clash. The
+-- measure is the number of patterns that are left.
+-- Assumes nothing.
+use Prim.Native.Nat.{ℕ}
+use native.Mathlib.Omega.{arith}
+use mathlib.Core.Path.{◌≡◌, sym, ◌∙◌, ap}
+use mathlib.Core.Option.{Option, map}
+use borrow.Author.Count.{below_none, below_more}
+use Rattle.scope.specs.Plans.{pattern_at}
+use Rattle.scope.specs.Cycles.{LongClash, shortened}
+use Rattle.scope.specs.promises.Meaning.{IsBook}
+use Rattle.checks.proofs.BookTests.{book_legal_iff}
+use Rattle.finder.proofs.Verdicts.{pattern_clash, clash_at_lem, clash_nowhere}
+use Rattle.finder.specs.Clashing.{met_at}
+use Rattle.finder.specs.declared.clash.Met.{Met}
+use Rattle.finder.proofs.MetAnswers.{at_clash, nowhere_clash}
+use Rattle.finder.proofs.checking.first_clash.Lts as lts
+use Rattle.finder.proofs.checking.first_clash.Tie as tie
+use Rattle.finder.proofs.checking.first_clash.Reads as reads
+use Rattle.finder.proofs.checking.first_clash.Goals as goal
+
+-- what is known at a step of the code
+abbrev After-clash_in-met : Type 0
+After-clash_in-met = lts.After-clash_in tie.the-claims reads.Pre reads.Post goal.the-invariant-loop-n goal.the-decreases-loop-n
+
+abbrev At-loop-n : Type 0
+At-loop-n = lts.At-loop tie.the-claims reads.Pre reads.Post goal.the-invariant-loop-n goal.the-decreases-loop-n
+
+pub loop-n-init : goal.loop-n-init
+loop-n-init c = (omega arith, below_none _)
+
+-- the book is legal
+legal : (l : At-loop-n) → IsBook l.args.book
+legal l = (book_legal_iff l.args.book).0 l.requires.1
+
+pub offset_bounds-book-n : goal.offset_bounds-book-n
+offset_bounds-book-n c = record { fits = omega (arith, (legal c.before).most) }
+
+pub bounds-book-n : goal.bounds-book-n
+bounds-book-n c = omega (arith, (legal c.before).most)
+
+pub clash_in-met-requires : goal.clash_in-met-requires
+unfolding pattern_at
+clash_in-met-requires c =
+    (c.requires.0, ((legal c.before.before).each c.loop-n.n c.loop-n-test.true).most, omega (arith, c.requires.2))
+
+-- in a turn, where it is known what was met in the n-th pattern
+module _ (c : After-clash_in-met) where
+  abbrev head : At-loop-n
+  head = c.before.before.before
+
+  abbrev n : ℕ
+  n = head.loop-n.n
+
+  abbrev here : Option LongClash
+  here = pattern_clash head.args.r head.args.p head.args.book n
+
+  pattern-answer : c.clash_in-met.result ≡ met_at (map shortened here)
+  unfolding pattern_at
+  pattern-answer = c.clash_in-met.ensures
+
+pub returns-in-At : goal.returns-in-At
+unfolding met_at
+returns-in-At c =
+    let told = c.in-At.is in
+    let (l, found, is) = at_clash (here c.before) (pattern-answer c.before) told in
+    told ∙ ap Met.At is
+    ∙ ap (λ (o : Option LongClash). met_at (map shortened o))
+    (sym (clash_at_lem _ _ _ (n c.before) l c.loop-n-test.true (head c.before).loop-n.invariant.1 found))
+
+pub overflow_add-n : goal.overflow_add-n
+overflow_add-n c = record { fits = omega (arith, (legal (head c.before)).most) }
+
+pub loop-n-preserved : goal.loop-n-preserved
+loop-n-preserved c =
+    (omega arith, below_more _ _ (head c.before).loop-n.invariant.1 (nowhere_clash (here c.before) (pattern-answer c.before) c.in_default.is))
+
+pub returns : goal.returns
+unfolding met_at
+returns c =
+    ap (λ (o : Option LongClash). met_at (map shortened o))
+    (sym (clash_nowhere _ _ _ (λ n h. c.loop-n.invariant.1 n (omega (arith, c.loop-n-test.false)))))
+
+pub loop-n-smaller : goal.loop-n-smaller
+loop-n-smaller c =
+    omega arith

@@ -1,0 +1,57 @@
+-- `finder::clash::suits_answer` meets its contract: 2, 20, 11, then what the search met, with the positions of the class.
+-- Assumes nothing.
+use native.Mathlib.Omega.{arith}
+use Prim.Native.Nat.{ℕ}
+use mathlib.Core.Path.{◌≡◌, ◌∙◌, ap}
+use mathlib.Core.Option.{none}
+use Rattle.scope.specs.declared.Clash.{Clash}
+use Rattle.scope.specs.declared.Outcome.{Outcome}
+use Rattle.scope.specs.declared.Pattern.{Pattern}
+use Rattle.scope.specs.declared.Plan.{Plan}
+use Rattle.scope.specs.declared.Refusal.TheVariants.{Unsuited}
+use Rattle.checks.proofs.Patterns.{length_pixels}
+use Rattle.book.specs.Scan.{outcome_of}
+use Rattle.book.proofs.Outcomes.{done_found_nothing}
+use Rattle.finder.specs.Clashing.{single_test}
+use Rattle.finder.proofs.MetAnswers.{at_clash, nowhere_clash, begins_below, class_is_clash, SingleLegal, single_legal_iff, refused_first, suits_clash, suits_done}
+use Rattle.finder.proofs.clash.suits_answer.Goals as goal
+
+-- where the tests of pattern, r and plan found nothing
+module _ (p : Plan) (t : Pattern) (r : ℕ) {outcome : Outcome} (told : outcome ≡ outcome_of (single_test p t r)) (done : outcome ≡ Outcome.Done) where
+  passed : single_test p t r ≡ none
+  passed = done_found_nothing (single_test p t r) told done
+
+  legal : SingleLegal p t r
+  legal = (single_legal_iff p t r).0 passed
+
+pub returns-in-Refused : goal.returns-in-Refused
+returns-in-Refused c = refused_first _ _ _ _ c.single_outcome-outcome.ensures c.in-Refused.is
+
+pub overflow_cast-r : goal.overflow_cast-r
+overflow_cast-r c = record { fits = omega (arith, (legal c.args.p c.args.t c.args.r c.single_outcome-outcome.ensures c.in_default.is).cycles_most) }
+
+pub clash_in-met-requires : goal.clash_in-met-requires
+clash_in-met-requires c =
+    let l = legal c.args.p c.args.t c.args.r c.single_outcome-outcome.ensures c.in_default.is in
+    (l.plan, l.most, omega (arith, l.cycles_least))
+
+pub overflow_cast-r-in-At : goal.overflow_cast-r-in-At
+overflow_cast-r-in-At c = record { fits = omega (arith, (legal c.args.p c.args.t c.args.r c.single_outcome-outcome.ensures c.in_default.is).cycles_most) }
+
+pub class_positions-positions-requires : goal.class_positions-positions-requires
+class_positions-positions-requires c =
+    let l = legal c.args.p c.args.t c.args.r c.single_outcome-outcome.ensures c.in_default.is in
+    let (clash, found, is) = at_clash _ c.clash_in-met.ensures c.in-At.is in
+    (l.plan, l.most, omega (arith, begins_below _ _ _ _ found is, length_pixels c.args.t), omega (arith, l.cycles_most))
+
+pub returns-in-At : goal.returns-in-At
+returns-in-At c =
+    let (clash, found, is) = at_clash _ c.clash_in-met.ensures c.in-At.is in
+    let (refusal, positions) = suits_clash _ _ _ _ (passed c.args.p c.args.t c.args.r c.single_outcome-outcome.ensures c.in_default.is) clash found in
+    (ap (λ (c : Clash). Outcome.Refused (Unsuited c)) is ∙ refusal, class_is_clash _ _ _ _ found is c.class_positions-positions.ensures ∙ positions)
+
+pub returns : goal.returns
+returns c =
+    let none_met = nowhere_clash _ c.clash_in-met.ensures c.in_default-met.is in
+    let (done, positions) = suits_done _ _ _ _ (passed c.args.p c.args.t c.args.r c.single_outcome-outcome.ensures c.in_default.is) none_met in
+    (c.in_default.is ∙ done, positions)

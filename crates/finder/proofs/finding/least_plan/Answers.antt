@@ -1,0 +1,56 @@
+-- `finder::finding::least_plan` meets its contract. The loop's invariant: no plan with fewer than n banks suits. The measure is
+-- the number of counts that are left.
+-- Assumes nothing.
+use native.Mathlib.Omega.{arith}
+use Rattle.scope.specs.Finding.{first_with, least_of}
+use Rattle.finder.proofs.PlanLoops.{none_yet, one_more_none, found_at, found_nowhere}
+use Rattle.finder.proofs.finding.least_plan.Lts as lts
+use Rattle.finder.proofs.finding.least_plan.Tie as tie
+use Rattle.finder.proofs.finding.least_plan.Reads as reads
+use Rattle.finder.proofs.finding.least_plan.Goals as goal
+
+-- what is known at a step of the code
+abbrev After-first_with-p : Type 0
+After-first_with-p = lts.After-first_with tie.the-claims reads.Pre reads.Post goal.the-invariant-loop-n goal.the-decreases-loop-n
+
+abbrev At-loop-n : Type 0
+At-loop-n = lts.At-loop tie.the-claims reads.Pre reads.Post goal.the-invariant-loop-n goal.the-decreases-loop-n
+
+abbrev Start : Type 0
+Start = lts.Start tie.the-claims reads.Pre reads.Post goal.the-invariant-loop-n goal.the-decreases-loop-n
+
+pub loop-n-init : goal.loop-n-init
+loop-n-init c = (omega arith, omega arith, none_yet first_with 1)
+
+abbrev start : At-loop-n → Start
+start c = c.before.before.before
+
+pub first_with-p-requires : goal.first_with-p-requires
+first_with-p-requires c = let h = (start c.before.before).requires in (h.0, h.1, omega (arith, h.2))
+
+-- the head of the turn in which n banks were searched
+abbrev head : After-first_with-p → At-loop-n
+head c = c.before.before
+
+pub returns-in-Plan : goal.returns-in-Plan
+unfolding least_of
+returns-in-Plan c =
+    let l = head c.before.before in
+    found_at first_with 1 (start l).args.limit _ l.loop-n.invariant.2 l.loop-n.invariant.0 (omega arith) c.first_with-p.ensures
+    c.in-Plan.is
+
+pub overflow_add-n : goal.overflow_add-n
+overflow_add-n c = omega (arith, (start (head c.before.before)).requires)
+
+pub loop-n-preserved : goal.loop-n-preserved
+loop-n-preserved c =
+    let l = (head c.before.before).loop-n in
+    (omega arith, omega arith, one_more_none first_with 1 _ l.invariant.2 c.first_with-p.ensures c.in_default.is)
+
+pub returns : goal.returns
+unfolding least_of
+returns c = found_nowhere first_with 1 (start c.before.before).args.limit _ c.loop-n.invariant.2 (omega arith)
+
+pub loop-n-smaller : goal.loop-n-smaller
+loop-n-smaller c =
+    omega arith
