@@ -1,10 +1,9 @@
 -- `pictures::lists::coordinate` meets its contract: a number from 32768 on, less 65536, fits 16 bits.
 -- Assumes nothing.
-use Rattle.std.proofs.Common.{◌≡◌, ℕ, ◌%◌, ◌<◌, ◌≤◌, ℤ, pos, ◌-ℤ◌, sym, ap, ◌∙◌, subst, arith, to_z-of_z, w16, w32, SFits, to_z, of_z, rules}
+use Rattle.std.proofs.Common.{◌≡◌, ℕ, ◌%◌, ◌<◌, ◌≤◌, ℤ, pos, ◌-ℤ◌, sym, ap, ◌∙◌, subst, arith, to_z-of_z, w16, w32, SFits, to_z, of_z}
 use mir.Facts.{to_z_pos, sfits_widen}
 use Rattle.pictures.proofs.ListNumbers.{lower_half, upper_half, less_65536}
-use Rattle.pictures.proofs.lists.coordinate.Statement.{statement}
-use Rattle.pictures.proofs.lists.coordinate.Tie as tie
+use Rattle.pictures.proofs.lists.coordinate.Goals as goal
 
 -- y of the upper half, as a number of 32 bits, less 65536
 module _ (y : ℕ) (upper : 32768 ≤ y) (below : y < 65536) where
@@ -26,19 +25,16 @@ module _ (y : ℕ) (upper : 32768 ≤ y) (below : y < 65536) where
   read_is : to_z w16 (of_z w16 (to_z w32 (of_z w32 less))) ≡ pos y -ℤ pos 65536
   read_is = to_z-of_z read_fits ∙ to_z-of_z fits-32 ∙ less-is
 
-sub-result : tie.Need-overflow-sub-result
-sub-result c = fits-32 (c.before.args.x % 65536) c.if1.false (omega arith)
+pub overflow_sub-result : goal.overflow_sub-result
+overflow_sub-result c = fits-32 (c.args.x % 65536) c.if-y-lt32768.false (omega arith)
 
-cast-result : tie.Need-overflow-cast-result-3
-cast-result c = read_fits (c.before.args.x % 65536) c.if1.false (omega arith)
+pub overflow_cast-result-else-y-lt32768-2 : goal.overflow_cast-result-else-y-lt32768-2
+overflow_cast-result-else-y-lt32768-2 c = read_fits (c.args.x % 65536) c.if-y-lt32768.false (omega arith)
 
-returns : tie.Need-returns
-returns c = to_z_pos w16 c.if1.true ∙ sym (lower_half c.before.args.x c.if1.true)
+pub returns-then-y-lt32768 : goal.returns-then-y-lt32768
+returns-then-y-lt32768 c = to_z_pos w16 c.if-y-lt32768.true ∙ sym (lower_half c.args.x c.if-y-lt32768.true)
 
-returns-2 : tie.Need-returns-2
-returns-2 c =
-    let x = c.before.args.x in
-    read_is (x % 65536) c.if1.false (omega arith) ∙ sym (upper_half x c.if1.false)
-
-pub coordinate-spec : {M : Type 1} → statement M
-coordinate-spec = tie.close (tie.spec (λ c. search rules) (λ c. search rules) sub-result cast-result returns returns-2)
+pub returns-else-y-lt32768 : goal.returns-else-y-lt32768
+returns-else-y-lt32768 c =
+    let x = c.args.x in
+    read_is (x % 65536) c.if-y-lt32768.false (omega arith) ∙ sym (upper_half x c.if-y-lt32768.false)

@@ -3,8 +3,7 @@
 use Rattle.std.proofs.Common.{◌≡◌, ℕ, ◌<◌, ◌≤◌, true, false, ltb, refl, arith, le-ltb, lt-ltb, le-leb}
 use borrow.Author.Tests.{lt-leb}
 use Rattle.pictures.specs.Lists.{is_call}
-use Rattle.pictures.proofs.lists.is_call.Statement.{statement}
-use Rattle.pictures.proofs.lists.is_call.Tie as tie
+use Rattle.pictures.proofs.lists.is_call.Goals as goal
 
 -- test by test
 module _ (kind i j n : ℕ) where
@@ -33,24 +32,19 @@ module _ (kind i j n : ℕ) where
         stored-word h =
             rw (le-leb kind 7 a, lt-ltb i 65536 (omega arith), lt-ltb j 65536 (omega arith), lt-leb 1 kind (omega arith)) refl
 
-returns : tie.Need-returns
-returns c = no_kind _ _ _ _ c.if1.true
+pub returns-then-kind-gt7 : goal.returns-then-kind-gt7
+returns-then-kind-gt7 c = no_kind _ _ _ _ c.if-kind-gt7.true
 
-returns-2 : tie.Need-returns-2
-returns-2 c = no-column _ _ _ _ c.before.if1.false c.if2.true
+pub returns-then-i-gt65535 : goal.returns-then-i-gt65535
+returns-then-i-gt65535 c = no-column _ _ _ _ c.if-kind-gt7.false c.if-i-gt65535.true
 
-returns-3 : tie.Need-returns-3
-returns-3 c = no_row _ _ _ _ c.before.before.if1.false c.before.if2.false c.if3.true
+pub returns-then-j-gt65535 : goal.returns-then-j-gt65535
+returns-then-j-gt65535 c = no_row _ _ _ _ c.if-kind-gt7.false c.if-i-gt65535.false c.if-j-gt65535.true
 
-returns-4 : tie.Need-returns-4
-returns-4 c =
-    let t = c.before.before in
-    no_store _ _ _ _ t.before.if1.false t.if2.false c.before.if3.false c.if4.true
+pub returns-then-kind-gt0 : goal.returns-then-kind-gt0
+returns-then-kind-gt0 c =
+    no_store _ _ _ _ c.if-kind-gt7.false c.if-i-gt65535.false c.if-j-gt65535.false c.if-kind-gt0.true
 
-returns-5 : tie.Need-returns-5
-returns-5 c =
-    let t = c.before.before in
-    stored-word _ _ _ _ t.before.if1.false t.if2.false c.before.if3.false c.if4.false
-
-pub is-call-spec : {M : Type 1} → statement M
-is-call-spec = tie.close (tie.spec returns returns-2 returns-3 returns-4 returns-5)
+pub returns : goal.returns
+returns c =
+    stored-word _ _ _ _ c.if-kind-gt7.false c.if-i-gt65535.false c.if-j-gt65535.false c.if-kind-gt0.false
