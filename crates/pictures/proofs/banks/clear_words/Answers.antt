@@ -1,6 +1,6 @@
 -- `pictures::banks::clear_words` meets its contract. The loop's invariant: the first e words are 0.
 -- Assumes nothing.
-use Rattle.std.proofs.Common.{◌-◌, length, replicate, sym, refl, ◌∙◌, arith}
+use Rattle.std.proofs.Common.{length, replicate, sym, refl, ◌∙◌, arith}
 use lib.ListN.{length-replicate, get_or-replicate}
 use Rattle.checks.proofs.FilledArrays.{filled_none, filled_more, filled_all, gathered}
 use Rattle.pictures.proofs.banks.clear_words.Goals as goal

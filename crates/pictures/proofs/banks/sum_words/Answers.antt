@@ -1,7 +1,7 @@
 -- `pictures::banks::sum_words` meets its contract. The loop's invariant: the total and the sum of the words from n on are
 -- the sum of all words, and the total is at most 65535 for each word before n.
 -- Assumes nothing.
-use Rattle.std.proofs.Common.{◌≡◌, ℕ, ◌+◌, ◌-◌, ◌<◌, ◌≤◌, List, length, get_or, drop, ap, add-one, arith, drop_of_length-le, drop-cons, rules}
+use Rattle.std.proofs.Common.{◌≡◌, ℕ, ◌+◌, ◌<◌, List, length, get_or, drop, ap, add-one, arith, drop_of_length-le, drop-cons, rules}
 use Rattle.pictures.proofs.banks.sum_words.Invariants.{sum_of}
 use Rattle.pictures.proofs.banks.sum_words.Goals as goal
 

@@ -1,6 +1,6 @@
 -- `pictures::rows::put_row` meets its contract. The loop's invariant: the first e numbers were put.
 -- Assumes nothing.
-use Rattle.std.proofs.Common.{◌≡◌, ℕ, ◌-◌, List, [], length, take, refl, ap, ◌∙◌, arith, take_all}
+use Rattle.std.proofs.Common.{◌≡◌, ℕ, List, [], length, take, refl, ap, ◌∙◌, arith, take_all}
 use Rattle.scope.specs.Banks.{over_start}
 use Rattle.checks.proofs.Outputs.{Put}
 use Rattle.pictures.proofs.Stretches.{entry_put}

@@ -1,7 +1,7 @@
 -- `pictures::words::load` meets its contract: the tests come with the place, where the word is.
 -- Assumes nothing.
 use Rattle.std.proofs.Common.{◌≡◌, ℕ, List, length, get_or, sym, ap, arith}
-use Rattle.scope.specs.Plans.{Pixel, at}
+use Rattle.scope.specs.Plans.{Pixel}
 use Rattle.scope.specs.Banks.{word_in}
 use Rattle.scope.specs.Calls.{load}
 use Rattle.scope.specs.declared.Plan.{Plan}
