@@ -1,42 +1,47 @@
 // The program: reads a book from standard input and writes the plan with the fewest banks, or the number of the refusal.
 #![tactic(auto)]
 
-ghost use Rattle.std.specs.Prelude.{◌≡◌, ◌≤◌, ◌<◌, length};
-ghost use Rattle.bankplan.specs.Input.{AnswersInput};
+ghost use Rattle.std.specs.Prelude.{◌≡◌, ◌≤◌, ◌<◌, length, take, IfOk, OnOk, IfErr, IfSome};
+ghost use Rattle.std.specs.Io.KnownBytes.{Appends, Consumes, IsAtEnd, Keeps};
+ghost use Rattle.scope.specs.Program.{program_text};
+ghost use Rattle.bankplan.specs.Input.{AnswersInput, OnInput};
 
-use libc::{STDIN_FILENO, STDOUT_FILENO};
+use std::io::{Read, Write};
+use std::{fmt, io};
 use text::{Text, program_text};
 
-// How many bytes were read, and whether a read failed.
-#[derive(Clone, Copy)]
-struct Input {
-    count: usize,
-    failed: bool,
+// What failed, and why.
+#[derive(Debug, Drop)]
+enum Failure {
+    Input(io::Error),
+    Output(io::Error),
 }
 
-// Reads until the input ends, the buffer is full or a read fails.
-fn read_input(buf: &mut [u8]) -> Input
-    ensures { (result.count ≤ length buf.new) × (length buf.new ≡ length buf.old) }
+impl fmt::Display for Failure {
+    fn fmt<W: fmt::Write>(&self, f: &mut fmt::Formatter<W>) -> fmt::Result {
+        match self {
+            Failure::Input(e) => write!(f, "standard input: {e}"),
+            Failure::Output(e) => write!(f, "standard output: {e}"),
+        }
+    }
+}
+
+// Reads until the input ends, the buffer is full or a read fails, and tells how many bytes were read.
+fn read_input<R: Read>(input: &mut R, buf: &mut [u8]) -> io::Result<usize>
+    ensures count { IfOk result (λ n. n ≤ length buf.new) }
+    ensures room { length buf.new ≡ length buf.old }
+    ensures bytes { IfOk result (λ n. Consumes (R.remaining input.old) (R.remaining input.new) (take n buf.new)) }
+    ensures end { IfOk result (λ n. n < length buf.new → IsAtEnd (R.remaining input.new)) }
 {
     let mut count = 0;
     while count < buf.len() {
-        let got = libc::read(STDIN_FILENO, &mut buf[count..]);
-        if got < 0 {
-            return Input {
-                count,
-                failed: true,
-            };
-        }
-        let more = io::count(got, &buf[count..]);
+        let more = input.read(&mut buf[count..])?;
         if more == 0 {
             break;
         }
         count += more;
     }
-    Input {
-        count,
-        failed: false,
-    }
+    Ok(count)
 }
 
 // The text for an input whose first `count` bytes are in the buffer; it may go on where the buffer is full.
@@ -47,19 +52,29 @@ fn answer(buf: &[u8], count: usize) -> Text
     program_text(&buf[..count])
 }
 
-// One byte more than any book has is enough to tell that the input is too long.
-fn main() {
+// Writes the text of the input. One byte more than any book has is enough to tell that the input is too long.
+fn run<R: Read, W: Write>(input: &mut R, output: &mut W) -> Result<(), Failure>
+    ensures answers { OnOk result (IfSome (R.remaining input.old) (λ s. Appends (W.contents output.old) (W.contents output.new) (program_text s))) }
+    ensures failed { IfErr result (λ f. OnInput f (Keeps (W.contents output.old) (W.contents output.new))) }
+{
     let mut buf = [0u8; 2066];
-    let input = read_input(&mut buf);
-    if input.failed {
-        os::fail(b"standard input");
-        return;
-    }
-    let text = answer(&buf, input.count);
+    let count = match read_input(input, &mut buf) {
+        Ok(count) => count,
+        Err(e) => return Err(Failure::Input(e)),
+    };
+    let text = answer(&buf, count);
     let bytes = text.bytes;
     let length = text.length;
-    let is_written = io::write_all(STDOUT_FILENO, &bytes[..length]);
-    if !is_written {
-        os::fail(b"standard output");
+    match output.write_all(&bytes[..length]) {
+        Ok(()) => Ok(()),
+        Err(e) => Err(Failure::Output(e)),
+    }
+}
+
+// Standard error tells what failed; the status is 0 all the same.
+fn main(rt: HostRuntime) {
+    let ended = run(&mut rt.stdin(), &mut rt.stdout());
+    if let Err(failure) = ended {
+        let _ = eprintln!(rt; "{failure}");
     }
 }

@@ -1,0 +1,2 @@
+-- Lemmas of the program.
+pub mod Written  -- what was read, and what is written
