@@ -1,0 +1,53 @@
+-- `text::program::program_text` meets its contract: the reader's outcome and the finder's answer decide the text.
+-- Assumes nothing.
+use Rattle.std.proofs.Common.{◌≡◌, ℕ, List, sym, ◌∙◌, ap}
+use Rattle.scope.specs.Calls.{read_book, find}
+use Rattle.scope.specs.Program.{plan_text, program_text, refused_line}
+use Rattle.scope.specs.declared.Outcome.{Outcome}
+use Rattle.scope.specs.declared.Reading.{Reading}
+use Rattle.scope.specs.declared.Refusal.{Refusal}
+use Rattle.scope.specs.declared.Planned.{Planned}
+use Rattle.text.proofs.ProgramText.{text_of_read, text_of_refused}
+use Rattle.text.proofs.ProgramTexts.{also_of_longer}
+use Rattle.text.specs.Texts.{text_of}
+use Rattle.text.specs.declared.Text.{Text}
+use Rattle.text.proofs.program.program_text.Goals as goal
+
+-- the text of a refusal by the reader, and that of the finder's answer for what was read
+module _ (s : List ℕ) (reading : Reading) (is_read : reading ≡ read_book s) where
+  outcome_is : (o : Outcome) → reading.outcome ≡ o → (read_book s).outcome ≡ o
+  outcome_is o e = sym (ap (λ x. x.outcome) is_read) ∙ e
+
+  text_of_refusal :
+      (r : Refusal) (t : Text) → reading.outcome ≡ Outcome.Refused r → t ≡ text_of (refused_line r) → t ≡ text_of (program_text s)
+  text_of_refusal r t refused is = is ∙ ap text_of (text_of_refused s (outcome_is (Outcome.Refused r) refused))
+
+  text_of_found :
+      (p : Planned) (t : Text) → reading.outcome ≡ Outcome.Done → p ≡ find reading.book 1 1024 → t ≡ text_of (plan_text p)
+      → t ≡ text_of (program_text s)
+  text_of_found p t done found is =
+      is ∙ ap (λ q. text_of (plan_text q)) (rw is_read at found) ∙ ap text_of (text_of_read s (outcome_is Outcome.Done done))
+
+pub returns-in-Refused-clause-text : goal.returns-in-Refused-clause-text
+returns-in-Refused-clause-text c =
+    text_of_refusal c.args.s.now c.read_book-reading.result c.read_book-reading.ensures c.in-Refused.r _ c.in-Refused.is
+    c.refused_text.ensures
+
+pub returns-in-Refused-clause-longer : goal.returns-in-Refused-clause-longer
+returns-in-Refused-clause-longer c =
+    let e =
+    text_of_refusal c.args.s.now c.read_book-reading.result c.read_book-reading.ensures c.in-Refused.r c.refused_text.result
+    c.in-Refused.is c.refused_text.ensures in
+    (also_of_longer _ _ e).1
+
+pub returns-clause-text : goal.returns-clause-text
+returns-clause-text c =
+    text_of_found c.args.s.now c.read_book-reading.result c.read_book-reading.ensures _ _ c.in_default.is c.find.ensures
+    c.planned_text.ensures
+
+pub returns-clause-longer : goal.returns-clause-longer
+returns-clause-longer c =
+    let e =
+    text_of_found c.args.s.now c.read_book-reading.result c.read_book-reading.ensures c.find.result c.planned_text.result
+    c.in_default.is c.find.ensures c.planned_text.ensures in
+    (also_of_longer _ _ e).1
