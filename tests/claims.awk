@@ -7,16 +7,16 @@ function trim(s) {
     gsub(/^ +| +$/, "", s)
     return s
 }
-function is_name(s) { return s ~ /^[a-z][A-Za-z0-9-]*$/ && s !~ /^(none|all|proved|contracts)$/ }
+function is_name(s) { return s ~ /^[a-z][A-Za-z0-9_]*$/ && s !~ /^(none|all|proved|contracts)$/ }
 
-# A name of one of the crates that a text has in backquotes, the last one first.
-function of_one(kind, name, s,    forms) {
+# A name of one of the crates that a text has in backquotes, the last one first, or else `other`.
+function of_one(kind, name, s, other,    forms) {
     if (name !~ /_\*$/) sub(/\*+$/, "", name)
     while (match(s, /`[a-z_]+/)) {
         forms = "|" kind " " substr(s, RSTART + 1, RLENGTH - 1) " " name forms
         s = substr(s, RSTART + RLENGTH)
     }
-    claim(substr(forms, 2))
+    claim(substr(forms (other == "" ? "" : "|" other), 2))
 }
 
 # What stands in backquotes. After `a::b` a list goes on with more of a.
@@ -46,7 +46,7 @@ function path(s,    p) {
     put("file " s (s ~ /^[a-z]+\/[a-z0-9_]+$/ ? "|edit " p[1] " " p[2] : ""))
 }
 
-# The words of a text that are names by their form. A bare one with a _ is an edit.
+# The words of a text that are names by their form. A bare one with a _ may be an edit too.
 function words(s, kind,    w, p) {
     while (match(s, /[A-Za-z][A-Za-z0-9_.*-]*/)) {
         w = substr(s, RSTART, RLENGTH)
@@ -57,7 +57,7 @@ function words(s, kind,    w, p) {
         else if (w ~ /^[A-Z][A-Za-z0-9]*[a-z][A-Za-z0-9]*\.[A-Za-z]/) {
             split(w, p, ".")
             claim("spec " p[1] " " p[2])
-        } else if (w ~ /^[a-z0-9]+_[a-z0-9_]*\**$/ && kind == "text") of_one("edit", w, near)
+        } else if (w ~ /^[a-z0-9]+_[a-z0-9_]*\**$/ && kind == "text") of_one("edit", w, near, "name " w)
         else if (w ~ /[a-z0-9][A-Z]/ || kind == "code" && w ~ /[a-z0-9][_-][a-z0-9]|^BANKPLAN_/) claim("name " w)
     }
 }
@@ -96,7 +96,7 @@ function edits(s,    n, k, m, j, segment, it, w, c) {
     }
 }
 
-# 'Plans.isPlan, banks; TestsMean.plan-11, sides-12; Demand3 rest': what a small name belongs to stands before it
+# 'Plans.is_plan, banks; TestsMean.plan_11, sides_12; Demand3 rest': what a small name belongs to stands before it
 function names(s,    n, k, m, j, i, segment, it, w, heads, h, forms) {
     n = split(s, segment, ";")
     for (k = 1; k <= n; k++) {
@@ -110,7 +110,7 @@ function names(s,    n, k, m, j, i, segment, it, w, heads, h, forms) {
                 w = substr(w, RLENGTH + 1)
                 sub(/\..*/, "", w)
             }
-            if (w ~ /^[A-Z][A-Za-z0-9]*\.[A-Za-z0-9-]+$/) heads = heads " " substr(w, 1, index(w, ".") - 1)
+            if (w ~ /^[A-Z][A-Za-z0-9]*\.[A-Za-z0-9_]+$/) heads = heads " " substr(w, 1, index(w, ".") - 1)
             else if (w ~ /^[A-Z][A-Za-z0-9]*[a-z][A-Za-z0-9]*$/) {
                 claim("def " w "|stem " w)
                 heads = heads " " w
@@ -150,12 +150,12 @@ function promise(s,    n, k, it, w) {
     for (k = 1; k <= n; k++) {
         claim("def " it[k])
         w = it[k]
-        gsub(/[A-Z0-9]/, "-&", w)
+        gsub(/[A-Z0-9]/, "_&", w)
         called = called "," substr(tolower(w), 2)
     }
 }
 
-# 'finder, Least', 'scope, PlanFacts: `inside-iff`': where a promise is proved
+# 'finder, Least', 'scope, PlanFacts: `inside_iff`': where a promise is proved
 function proof(s,    n, it, at, list) {
     at = list = s
     sub(/:.*/, "", at)
