@@ -105,7 +105,7 @@ fn shell(command: &str) -> (String, Option<i32>, bool) {
 }
 
 // Standard input or output that is closed or fails: the program ends, says so on standard error, and writes no whole answer to
-// standard output. Where nobody reads the pipe any more, the system ends it by its signal, which a shell shows as 141.
+// standard output. That nobody reads the pipe any more is such a failure too: the program does not take the system's signal.
 fn closed() -> Tally {
     let mut t = Tally::new("the program with closed or failing input or output");
     let book = "examples/cross.book";
@@ -116,7 +116,7 @@ fn closed() -> Tally {
         (format!("{PROGRAM} < /"), ("", Some(0), true)),
         (format!("{PROGRAM} < {book} >&-"), ("", Some(0), true)),
         (format!("{PROGRAM} < {book} > /dev/full"), ("", Some(0), true)),
-        (format!("(sleep 0.3; {PROGRAM} < {book}; {status}) | true; {read}"), ("141\n", Some(0), false)),
+        (format!("(sleep 0.3; {PROGRAM} < {book}; {status}) | true; {read}"), ("0\n", Some(0), true)),
         (format!("(trap '' PIPE; sleep 0.3; {PROGRAM} < {book}; {status}) | true; {read}"), ("0\n", Some(0), true)),
         (format!("{PROGRAM} < {book} 2>&-"), (cross, Some(0), false)),
         (format!("{PROGRAM} < /dev/null"), ("refused 1\n", Some(0), false)),
