@@ -1,0 +1,16 @@
+-- `capi::bankplan_write_cycles` meets its contract.
+-- Assumes nothing.
+use mathlib.Core.Path.{◌∙◌, ap}
+use lib.ListN.{length}
+use Rattle.scope.specs.Numbers.{of_fetch}
+use Rattle.finder.proofs.OwnClashes.{cycles_nine}
+use Rattle.capi.proofs.Passed.{told_of, same_fetch}
+use Rattle.capi.proofs.bankplan_write_cycles.Goals as goal
+
+pub tell_fetch-requires : goal.tell_fetch-requires
+tell_fetch-requires c = ap length c.write_cycles.ensures.answer.1 ∙ cycles_nine _ _ _ _ _
+
+pub returns : goal.returns
+returns c =
+    let e = rw (c.book_of-book.ensures, c.plan_of.ensures) at c.write_cycles.ensures in
+    record { told = told_of (of_fetch c.args.r) (same_fetch e.answer.0 e.answer.1) c.tell_fetch.ensures; out = e.left }

@@ -1,0 +1,22 @@
+-- `capi::told::tell_fetch` meets its contract.
+-- Assumes nothing.
+use mathlib.Core.Path.{refl, ◌∙◌, ap}
+use mathlib.Core.List.{List}
+use Prim.Native.Nat.{ℕ, suc}
+use lib.ListN.{take}
+use Rattle.scope.specs.Numbers.{Answer, of_counted, with_positions}
+use Rattle.scope.specs.declared.Counted.{Counted}
+use Rattle.capi.proofs.Passed.{told_value, told_refusal, placed_refusal}
+use Rattle.capi.proofs.told.tell_fetch.Goals as goal
+
+-- the answer's number, told with these positions
+abbrev told : List ℕ → ℕ → Counted → Answer ℕ
+told positions r c = with_positions (take (suc r) positions) (of_counted c)
+
+pub returns-in-Number : goal.returns-in-Number
+returns-in-Number c =
+    told_value (ap (told c.args.a.positions c.args.r) c.in-Number.is) refl
+
+pub returns-in-Refused : goal.returns-in-Refused
+returns-in-Refused c =
+    told_refusal (ap (told c.args.a.positions c.args.r) c.in-Refused.is ∙ placed_refusal (take (suc c.args.r) c.args.a.positions) c.in-Refused.f) c.tell_clash.ensures
