@@ -1,7 +1,8 @@
 -- What `Demanded` says, read off in two small pictures: its premises are met there, and each part of its claim gives a plain
--- fact. It speaks of every answer and all buffers that are those of `find_and_run`, and names no code: that the code's are, the
--- contract of `find_and_run` says. The book has one pattern, (0, 0) and (1, 0); the finder's plan for it is 2, 0, 1. The first
--- picture is of 3 by 1: its pixels have the words 0, 2 and 1 of the memory, and word 3 is no pixel's.
+-- fact. It speaks of every answer and all buffers that are those of the definition `find_and_run`, and names no code: that
+-- the code's are, the contract of the function `find_and_run` says. The book has one pattern, (0, 0) and (1, 0); the finder's
+-- plan for it is 2, 0, 1. The first picture is of 3 by 1: its pixels have the words 0, 2 and 1 of the memory, and word 3 is
+-- no pixel's.
 -- Assumes nothing.
 use Rattle.std.specs.Prelude.{ℕ, zero, suc, ◌<◌, ◌≡◌, false, pos, get_or, drop, replicate}
 use Rattle.std.proofs.Math.Path.{refl}

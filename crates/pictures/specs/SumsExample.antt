@@ -1,6 +1,6 @@
 -- What `SumsDemanded` says, read off in a small picture: its premises are met there, and each part of its claim gives a plain fact. It
--- speaks of every answer and all buffers that are those of `run_list`, and names no code: that the code's are, the contract of `run_list`
--- says. The picture is that of SumEdges (scope).
+-- speaks of every answer and all buffers that are those of the definition `run_list`, and names no code: that the code's are, the
+-- contract of the function `run_list` says. The picture is that of SumEdges (scope).
 -- Assumes nothing.
 use Rattle.std.specs.Prelude.{◌≡◌, ℕ, List, [], ◌∷◌, ◌++◌, drop, replicate, slice_index_or}
 use Rattle.std.proofs.Math.Path.{refl}

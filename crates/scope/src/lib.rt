@@ -153,7 +153,7 @@ pub struct FetchAnswer {
     pub positions: [usize; 9],
 }
 
-// The answer of the reader. The book holds an array, so it stands beside the enum; on a refusal it is empty.
+// The answer of the reader. The book stands beside the enum; on a refusal it is empty.
 #[derive(Clone, Copy)]
 pub struct Reading {
     pub book: Book,

@@ -23,7 +23,7 @@ only ts = get_or ts 0 []
 
 -- Patterns of two classes under plan 2, 0, 1, which are the even columns and the odd ones. Their positions:
 -- crossed: 0, 4, 5 and 1, 2, 3; the class that begins sooner goes on later
--- fewFirst: 0, 1 and 2, 3, 4
+-- few_first: 0, 1 and 2, 3, 4
 -- between: 0, 3 and 1, 2, 4
 -- longest: 0, 1, 3, 4, 6 and 2, 5
 unfoldable pub crossed : List Pixel

@@ -116,8 +116,8 @@ module _ (demand_3 : Demand3) where
   not_around : test (sized 1 1) (size_of exact) around ≡ none → ⊥
   unfolding sized around
   not_around e =
-      let (k, W-is) = (((one_by_one (around ∷ [])).each [] around [] refl).only_legal e).2.w_multiple in
-      absurd (omega (arith, W-is))
+      let (k, w_is) = (((one_by_one (around ∷ [])).each [] around [] refl).only_legal e).2.w_multiple in
+      absurd (omega (arith, w_is))
 
   stored_last : last_stored (sized 2 2) (size_of longer) stores (at (pos 1) (pos 1)) ≡ 9
   unfolding sized stores last_stored at

@@ -59,7 +59,7 @@ module _ (c : goal.Start) where
   plan : IsPlan c.args.p
   plan = plan_means _ c.requires.0
 
-  -- a and d are from 1 to 1024, each need from both, so that an exchange of the two is refused where the bank is returned
+  -- a and d are from 1 to 1024, each goal from both, so that an exchange of the two is refused where the bank is returned
   bounds : let p = c.args.p in ((1 ≤ p.a) × (p.a ≤ 1024)) × (1 ≤ p.d) × (p.d ≤ 1024)
   bounds = ((plan.a_least, a_at_most _ plan), plan.d_least, d_at_most _ plan)
 
