@@ -1,5 +1,6 @@
 -- What the answer of `part_outcome` tells: whether the part was refused, and where it begins.
 -- Assumes nothing.
+use Rattle.std.specs.Prelude.{Result, Ok, Err}
 use Prim.Native.Nat.{ℕ, ◌+◌, ◌*◌, ◌≤◌, ◌<◌}
 use native.Mathlib.Omega.{arith}
 use mathlib.Core.Path.{◌≡◌}
@@ -9,15 +10,14 @@ use lib.ListN.{length}
 use Rattle.scope.specs.Books.{byte, start}
 use Rattle.scope.specs.Numbers.{bytes_test}
 use Rattle.scope.specs.Calls.{part_test, part_outcome, part_place}
-use Rattle.scope.specs.declared.Outcome.{Outcome}
 use Rattle.scope.specs.declared.Refusal.{Refusal}
 use Rattle.checks.proofs.Chains.{answered_none, gives_refusal}
 use Rattle.book.proofs.Outcomes.{done_found_nothing, refused_found}
 use Rattle.book.proofs.Parts.{part_test_iff}
 use Rattle.book.proofs.Taken.{pattern_bounds}
 
-module _ (s : List ℕ) (n : ℕ) {outcome : Outcome} (answer : outcome ≡ part_outcome s n) where
-  module _ {r : Refusal} (refused : outcome ≡ Outcome.Refused r) where
+module _ (s : List ℕ) (n : ℕ) {outcome : Result Unit Refusal} (answer : outcome ≡ part_outcome s n) where
+  module _ {r : Refusal} (refused : outcome ≡ Err r) where
     pub refused_part_lem : part_test s n ≡ some r
     unfolding part_outcome
     refused_part_lem = refused_found (part_test s n) answer refused
@@ -26,7 +26,7 @@ module _ (s : List ℕ) (n : ℕ) {outcome : Outcome} (answer : outcome ≡ part
     unfolding part_place
     refused_place = gives_refusal refused_part_lem (λ r. 0) (start s n + 1)
 
-  module _ (done : outcome ≡ Outcome.Done) where
+  module _ (done : outcome ≡ Ok tt) where
     pub taken_part : part_test s n ≡ none
     unfolding part_outcome
     taken_part = done_found_nothing (part_test s n) answer done

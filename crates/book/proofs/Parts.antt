@@ -1,5 +1,6 @@
 -- A pattern's part of a book's bytes: when it is taken, what it is, where it stands, and that it is empty on a refusal.
 -- Assumes nothing.
+use Rattle.std.specs.Prelude.{Ok, Err}
 use Prim.Native.Nat.{ℕ, zero, suc, ◌+◌, ◌≤◌, ◌<◌}
 use native.Mathlib.Nat.{zero-add}
 use native.Mathlib.Omega.{arith}
@@ -12,11 +13,10 @@ use lib.ListN.{length, take}
 use Rattle.scope.specs.Search.{gather}
 use Rattle.scope.specs.Plans.{pattern_at, pixels, patterns}
 use Rattle.scope.specs.Books.{byte, start, part_in, book_in, pixel_bytes, pattern_bytes}
-use Rattle.scope.specs.Numbers.{value, refusal, of_outcome, bytes_test}
+use Rattle.scope.specs.Numbers.{value, refusal, of_result, bytes_test}
 use Rattle.scope.specs.Calls.{read_book, part_test, pattern_part, part_outcome, part_place}
 use Rattle.scope.specs.promises.BookPromises.{Bytes, PartsAre}
 use Rattle.scope.specs.Cycles.{LongClash}
-use Rattle.scope.specs.declared.Outcome.{Outcome}
 use Rattle.checks.proofs.Searches.{get_d_gather}
 use Rattle.checks.proofs.Chains.{value_not_refusal, answered_none, answered_some, RefusedBy, answered_value, answered_refusal}
 use Rattle.checks.proofs.Booleans.{last_test, test_before}
@@ -43,20 +43,20 @@ module _ (s : List ℕ) (n : ℕ) where
   unfolding part_test
   part_test_iff = (test_before Iff.rfl (last_test (number_in_book_iff (byte s 0) n))).iff
 
-  part_taken : of_outcome (part_outcome s n) ≡ value tt → (bytes_test s ≡ none) × (n < byte s 0)
+  part_taken : of_result (part_outcome s n) ≡ value tt → (bytes_test s ≡ none) × (n < byte s 0)
   unfolding part_outcome
-  part_taken e = part_test_iff.0 (answered_value of_outcome (part_test s n) Outcome.Refused Outcome.Done tt (λ r. refl) e).0
+  part_taken e = part_test_iff.0 (answered_value of_result (part_test s n) Err (Ok tt) tt (λ r. refl) e).0
 
   part_taken_iff :
-      (of_outcome (part_outcome s n) ≡ value tt)
-      ↔ ((of_outcome (read_book s).outcome ≡ value tt) × (n < (read_book s).book.count))
+      (of_result (part_outcome s n) ≡ value tt)
+      ↔ ((of_result (read_book s).outcome ≡ value tt) × (n < (read_book s).book.count))
   unfolding part_outcome
   part_taken_iff = (
     λ e. let h = part_taken e in ((read_taken_iff s).1 h.0, omega (arith, count_read_lem s h.0)),
     λ (read, below).
         let e : bytes_test s ≡ none = (read_taken_iff s).0 read in
-        ap of_outcome
-        (answered_none (part_test s n) Outcome.Refused Outcome.Done (part_test_iff.1 (e, omega (arith, count_read_lem s e)))),
+        ap of_result
+        (answered_none (part_test s n) Err (Ok tt) (part_test_iff.1 (e, omega (arith, count_read_lem s e)))),
   )
 
   -- pattern n of the record is the pattern that the bytes tell
@@ -66,7 +66,7 @@ module _ (s : List ℕ) (n : ℕ) where
       cc (get_d_patterns (book_in s) n [] h, patterns_of_read s e, get_d_gather 0 (byte s 0) (pattern_in s) n [] below, zero-add n)
 
   part_bytes :
-      Bytes s → of_outcome (part_outcome s n) ≡ value tt
+      Bytes s → of_result (part_outcome s n) ≡ value tt
       → pattern_part s n ≡ flat_map pixel_bytes (pixels (pattern_at (read_book s).book n))
   unfolding pattern_part
   part_bytes small e =
@@ -82,7 +82,7 @@ module _ (s : List ℕ) (n : ℕ) where
       ∙ take_gather (pattern_in s) n (byte s 0) 0 (omega arith)
 
   part_place_lem :
-      of_outcome (part_outcome s n) ≡ value tt
+      of_result (part_outcome s n) ≡ value tt
       → part_place s n ≡ 1 + length (flat_map pattern_bytes (take n (patterns (read_book s).book))) + 1
   unfolding part_place start
   part_place_lem e =
@@ -93,23 +93,23 @@ module _ (s : List ℕ) (n : ℕ) where
       ∙ rw (patterns_before_part read below) (ap (λ k. k + 1) before)
 
   -- on a refusal its tests found one
-  part_refused : (m i : ℕ) (c : Option LongClash) → of_outcome (part_outcome s n) ≡ refusal m i c → RefusedBy (part_test s n) m i c
+  part_refused : (m i : ℕ) (c : Option LongClash) → of_result (part_outcome s n) ≡ refusal m i c → RefusedBy (part_test s n) m i c
   unfolding part_outcome
-  part_refused m i c e = by_tests (answered_refusal of_outcome (part_test s n) Outcome.Refused Outcome.Done m i c (λ r. refl) e)
+  part_refused m i c e = by_tests (answered_refusal of_result (part_test s n) Err (Ok tt) m i c (λ r. refl) e)
     where
       by_tests :
-          RefusedBy (part_test s n) m i c ⊎ ((part_test s n ≡ none) × (of_outcome Outcome.Done ≡ refusal m i c))
+          RefusedBy (part_test s n) m i c ⊎ ((part_test s n ≡ none) × (of_result (Ok tt) ≡ refusal m i c))
           → RefusedBy (part_test s n) m i c
       by_tests (inl found) = found
       by_tests (inr other) = absurd (value_not_refusal other.1)
 
-  part_empty : (m i : ℕ) (c : Option LongClash) → of_outcome (part_outcome s n) ≡ refusal m i c → pattern_part s n ≡ []
+  part_empty : (m i : ℕ) (c : Option LongClash) → of_result (part_outcome s n) ≡ refusal m i c → pattern_part s n ≡ []
   unfolding pattern_part
   part_empty m i c e =
       let found = part_refused m i c e in
       answered_some (part_test s n) (λ r. []) (part_in s n) found.0 found.1
 
-  part_place_empty : (m i : ℕ) (c : Option LongClash) → of_outcome (part_outcome s n) ≡ refusal m i c → part_place s n ≡ 0
+  part_place_empty : (m i : ℕ) (c : Option LongClash) → of_result (part_outcome s n) ≡ refusal m i c → part_place s n ≡ 0
   unfolding part_place
   part_place_empty m i c e =
       let found = part_refused m i c e in

@@ -1,5 +1,6 @@
 -- The next pixel of a pattern: what its tests find and answer by its cell and the cells of the pixels before it, which ascend.
 -- Assumes nothing.
+use Rattle.std.specs.Prelude.{Ok, Err}
 use Prim.Native.Nat.{ℕ, suc, ◌+◌, ◌-◌, ◌≤◌, ◌<◌}
 use native.Mathlib.Omega.{arith}
 use native.Mathlib.Decide.{ℕ_discrete}
@@ -15,7 +16,6 @@ use Rattle.scope.specs.Plans.{Pixel}
 use Rattle.scope.specs.Numbers.{pixel_test}
 use Rattle.scope.specs.promises.Meaning.{InRange}
 use Rattle.scope.specs.declared.Refusal.{Refusal}
-use Rattle.scope.specs.declared.Outcome.{Outcome}
 use Rattle.checks.proofs.Searches.{true-not-false, not_true_is_false, some_below_iff}
 use Rattle.checks.proofs.Lists.{get_or-set_same, get_or-set_other}
 use Rattle.checks.proofs.BookTests.{pixel_legal_iff}
@@ -137,7 +137,7 @@ module _ {least : List ℕ} {v : Pixel} {k i j e : ℕ} (is : k ≡ cell_of v) w
   refused_pixel :
       {r : Refusal}
       → ((pixel : ℕ → Pixel) → Passed least pixel e → k ≡ cell_of (pixel e) → pixel_test i j pixel e ≡ some r)
-      → Tested i j e v least least (Outcome.Refused r)
+      → Tested i j e v least least (Err r)
   refused_pixel {r} found =
       record {
         answer = λ pixel before same.
@@ -145,14 +145,14 @@ module _ {least : List ℕ} {v : Pixel} {k i j e : ℕ} (is : k ≡ cell_of v) w
         passed = λ pixel before same done. absurd (done_not_refused (sym done));
       }
 
-  pub column_tested : k ≡ 1024 → Tested i j e v least least (Outcome.Refused (Refusal.Coordinate i))
+  pub column_tested : k ≡ 1024 → Tested i j e v least least (Err (Refusal.Coordinate i))
   column_tested h = refused_pixel (λ pixel before here. column_found before here i j h)
 
-  pub row_tested : k ≡ 1025 → Tested i j e v least least (Outcome.Refused (Refusal.Coordinate j))
+  pub row_tested : k ≡ 1025 → Tested i j e v least least (Err (Refusal.Coordinate j))
   row_tested h = refused_pixel (λ pixel before here. row_found before here i j h)
 
   pub new_tested :
-      e < 64 → k < 1024 → get_or least e 0 ≤ k → Tested i j e v least (set least (e + 1) (k + 1)) Outcome.Done
+      e < 64 → k < 1024 → get_or least e 0 ≤ k → Tested i j e v least (set least (e + 1) (k + 1)) (Ok tt)
   new_tested room h from =
       record {
         answer = λ pixel before same.
@@ -160,10 +160,10 @@ module _ {least : List ℕ} {v : Pixel} {k i j e : ℕ} (is : k ≡ cell_of v) w
         passed = λ pixel before same done. more_passed before (is ∙ ap cell_of (sym same)) room h from;
       }
 
-  pub repeat_tested : k < 1024 → is_among least e (k + 1) ≡ true → Tested i j e v least least (Outcome.Refused (Refusal.Repeat i))
+  pub repeat_tested : k < 1024 → is_among least e (k + 1) ≡ true → Tested i j e v least least (Err (Refusal.Repeat i))
   repeat_tested h among = refused_pixel (λ pixel before here. repeat_found before here i j h among)
 
   pub lower_tested :
       k < 1024 → k < get_or least e 0 → is_among least e (k + 1) ≡ false
-      → Tested i j e v least least (Outcome.Refused (Refusal.Lower i))
+      → Tested i j e v least least (Err (Refusal.Lower i))
   lower_tested h below other = refused_pixel (λ pixel before here. lower_found before here i j h below other)

@@ -1,6 +1,7 @@
 -- Reading and writing undo each other: bytes are taken exactly if they are those of a legal record, reading what was
 -- written gives the record with its unused entries 0, and writing what was read gives the bytes.
 -- Assumes nothing.
+use Rattle.std.specs.Prelude.{Err}
 use Prim.Native.Nat.{ℕ, ◌≤◌, ◌<◌}
 use native.Mathlib.Omega.{arith}
 use mathlib.Core.Path.{◌≡◌, refl, sym, ◌∙◌, ap, ap₂, subst}
@@ -11,12 +12,11 @@ use lib.ListN.{length, get_or, take, drop}
 use Rattle.scope.specs.Plans.{Pixel, pattern_at, patterns}
 use Rattle.scope.specs.Banks.{over_start}
 use Rattle.scope.specs.Books.{byte, pattern_bytes, book_of, book_in, book_bytes}
-use Rattle.scope.specs.Numbers.{value, of_outcome, of_counted, bytes_test}
+use Rattle.scope.specs.Numbers.{value, of_result, bytes_test}
 use Rattle.scope.specs.Calls.{read_book, write_book}
 use Rattle.scope.specs.promises.Meaning.{IsBook}
 use Rattle.scope.specs.promises.BookPromises.{Bytes, BytesMean, ReadsBack, ReadAfterWrite, WriteAfterRead}
 use Rattle.scope.specs.declared.Book.{Book}
-use Rattle.scope.specs.declared.Counted.{Counted}
 use Rattle.scope.specs.declared.Reading.{Reading}
 use Rattle.checks.proofs.Searches.{length_gather}
 use Rattle.checks.proofs.Chains.{value_injective, answered_none, changed_none_content, answered_value, changed_value}
@@ -36,11 +36,11 @@ module _ (s : List ℕ) where
   unfolding read_book
   book_read e = ap (λ (r : Reading). r.book) (answered_none (bytes_test s) _ _ e)
 
-  pub read_taken_iff : (of_outcome (read_book s).outcome ≡ value tt) ↔ (bytes_test s ≡ none)
+  pub read_taken_iff : (of_result (read_book s).outcome ≡ value tt) ↔ (bytes_test s ≡ none)
   unfolding read_book
   read_taken_iff = (
-    λ e. (answered_value (λ (r : Reading). of_outcome r.outcome) (bytes_test s) _ _ tt (λ r. refl) e).0,
-    λ e. ap (λ (r : Reading). of_outcome r.outcome) (answered_none (bytes_test s) _ _ e),
+    λ e. (answered_value (λ (r : Reading). of_result r.outcome) (bytes_test s) _ _ tt (λ r. refl) e).0,
+    λ e. ap (λ (r : Reading). of_result r.outcome) (answered_none (bytes_test s) _ _ e),
   )
 
 -- A legal record of a list of patterns has these patterns.
@@ -102,19 +102,19 @@ module _ (book : Book) (legal : IsBook book) where
 pub bytes_mean : BytesMean
 bytes_mean s small = (there, back)
   where
-    there : of_outcome (read_book s).outcome ≡ value tt → (book : Book) × IsBook book × (book_bytes book ≡ s)
+    there : of_result (read_book s).outcome ≡ value tt → (book : Book) × IsBook book × (book_bytes book ≡ s)
     there e =
         let h : bytes_test s ≡ none = (read_taken_iff s).0 e in
         (book_in s, ((bytes_taken_iff s).0 h).1, bytes_of_read s small h)
 
-    back : (book : Book) × IsBook book × (book_bytes book ≡ s) → of_outcome (read_book s).outcome ≡ value tt
+    back : (book : Book) × IsBook book × (book_bytes book ≡ s) → of_result (read_book s).outcome ≡ value tt
     back (book, legal, same) = (read_taken_iff s).1 (rw same at (written_taken book legal))
 
 -- The writer writes a legal record's bytes over the start of what it was lent, if they fit.
 module _ (book : Book) (out : List ℕ) where
   content_written : IsBook book → length (book_bytes book) ≤ length out → (write_book book out).content ≡ over_start (book_bytes book) out
   unfolding write_book
-  content_written legal room = changed_none_content _ Counted.Refused out _ _ ((write_test_iff book (length out)).1 (legal, room))
+  content_written legal room = changed_none_content _ Err out _ _ ((write_test_iff book (length out)).1 (legal, room))
 
   -- and reading them gives the record with its unused entries 0
   written_is_read : IsBook book → length (book_bytes book) ≤ length out → ReadsBack book out (length (book_bytes book))
@@ -142,7 +142,7 @@ module _ (book : Book) (out : List ℕ) where
 pub read_after_write : ReadAfterWrite
 unfolding write_book
 read_after_write book out n e =
-    let (tests, size) = changed_value of_counted _ Counted.Refused out _ _ n (λ r. refl) e in
+    let (tests, size) = changed_value of_result _ Err out _ _ n (λ r. refl) e in
     let (legal, room) = (write_test_iff book (length out)).0 tests in
     subst (ReadsBack book out) (value_injective size) (written_is_read book out legal room)
 

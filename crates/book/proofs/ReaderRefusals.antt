@@ -1,6 +1,7 @@
 -- What the reader and a pattern's part give for bytes that are not taken: what comes after a legal beginning decides number
 -- and place.
 -- Assumes nothing.
+use Rattle.std.specs.Prelude.{Ok, Err}
 use Prim.Native.Nat.{ℕ, suc, ◌+◌, ◌≤◌, ◌<◌}
 use native.Mathlib.Omega.{arith}
 use mathlib.Core.Path.{◌≡◌, refl, sym, ◌∙◌, ap, subst}
@@ -13,13 +14,12 @@ use Rattle.integers.proofs.Comparisons.{leb_iff, leb_false_iff}
 use Rattle.scope.specs.Search.{first, gather, whenever, first_of}
 use Rattle.scope.specs.Plans.{Pixel, at}
 use Rattle.scope.specs.Books.{byte, signed, start, book_of}
-use Rattle.scope.specs.Numbers.{refusal, turned_down, of_outcome, count_test, pixel_test, count_read, pattern_read}
+use Rattle.scope.specs.Numbers.{refusal, turned_down, of_result, count_test, pixel_test, count_read, pattern_read}
 use Rattle.scope.specs.Numbers.{extra_test, bytes_test, number_test}
 use Rattle.scope.specs.Calls.{read_book, part_test, part_outcome}
 use Rattle.scope.specs.promises.Meaning.{InRange, Lower}
 use Rattle.scope.specs.promises.RefusalPromises.{bytes_so_far, PatternsSoFar, bytes_within, PixelsSoFar, read_answer, ReaderRefuses}
 use Rattle.scope.specs.Cycles.{LongClash}
-use Rattle.scope.specs.declared.Outcome.{Outcome}
 use Rattle.scope.specs.declared.Reading.{Reading}
 use Rattle.scope.specs.declared.Refusal.{Refusal}
 use Rattle.scope.specs.declared.Refusal.TheVariants.{Ends, Count, Coordinate, Repeat, Extra, NoPattern}
@@ -64,15 +64,15 @@ module _ (s : List ℕ) where
   -- what the tests find is the reader's answer, and what it answers they found
   read_refused : (r : Refusal) → bytes_test s ≡ some r → read_answer s ≡ turned_down r
   unfolding read_book
-  read_refused r e = ap (λ (x : Reading). of_outcome x.outcome) (answered_some (bytes_test s) _ _ r e)
+  read_refused r e = ap (λ (x : Reading). of_result x.outcome) (answered_some (bytes_test s) _ _ r e)
 
   refused_by : (n i : ℕ) (c : Option LongClash) → read_answer s ≡ refusal n i c → RefusedBy (bytes_test s) n i c
   unfolding read_book
   refused_by n i c e =
-      by_tests (answered_refusal (λ (x : Reading). of_outcome x.outcome) (bytes_test s) _ _ n i c (λ r. refl) e)
+      by_tests (answered_refusal (λ (x : Reading). of_result x.outcome) (bytes_test s) _ _ n i c (λ r. refl) e)
     where
       by_tests :
-          RefusedBy (bytes_test s) n i c ⊎ ((bytes_test s ≡ none) × (of_outcome Outcome.Done ≡ refusal n i c))
+          RefusedBy (bytes_test s) n i c ⊎ ((bytes_test s ≡ none) × (of_result (Ok tt) ≡ refusal n i c))
           → RefusedBy (bytes_test s) n i c
       by_tests (inl found) = found
       by_tests (inr other) = absurd (value_not_refusal other.1)
@@ -207,9 +207,9 @@ module _ (m : ℕ) (ts : List (List Pixel)) (c : ℕ) (t : List Pixel) (legal : 
 
 -- A pattern's part is refused as the book is, and by 17 where the book has no such pattern.
 module _ (s : List ℕ) (k : ℕ) where
-  part_refused : (r : Refusal) → part_test s k ≡ some r → of_outcome (part_outcome s k) ≡ turned_down r
+  part_refused : (r : Refusal) → part_test s k ≡ some r → of_result (part_outcome s k) ≡ turned_down r
   unfolding part_outcome
-  part_refused r e = ap of_outcome (answered_some (part_test s k) Outcome.Refused Outcome.Done r e)
+  part_refused r e = ap of_result (answered_some (part_test s k) Err (Ok tt) r e)
 
   pub part_of_refused : (r : Refusal) → bytes_test s ≡ some r → part_test s k ≡ some r
   unfolding part_test

@@ -1,5 +1,6 @@
 -- A loop that tests a record's patterns one after the other answers with the record's outcome.
 -- Assumes nothing.
+use Rattle.std.specs.Prelude.{Result, Ok, Err}
 use Prim.Native.Nat.{ℕ, ◌+◌, ◌<◌}
 use mathlib.Core.Path.{◌≡◌, ◌∙◌, ap}
 use mathlib.Core.Option.{none}
@@ -9,7 +10,6 @@ use Rattle.scope.specs.Numbers.{pattern_test, record_test}
 use Rattle.scope.specs.Calls.{record_outcome}
 use Rattle.scope.specs.declared.Book.{Book}
 use Rattle.scope.specs.declared.Pattern.{Pattern}
-use Rattle.scope.specs.declared.Outcome.{Outcome}
 use Rattle.scope.specs.declared.Refusal.{Refusal}
 use Rattle.checks.proofs.BookRefusals.{record_refuses}
 use Rattle.book.specs.Scan.{outcome_of}
@@ -22,18 +22,18 @@ abbrev pub PassedBefore : Book → ℕ → Type 0
 PassedBefore book n = (m : ℕ) → m < n → pattern_test (pattern_at book m) ≡ none
 
 module _ (book : Book) where
-  pub count_not_taken : (FromTo 16 book.count → ⊥) → Outcome.Refused (Refusal.Count 0) ≡ record_outcome book
+  pub count_not_taken : (FromTo 16 book.count → ⊥) → Err (Refusal.Count 0) ≡ record_outcome book
   unfolding record_outcome
   count_not_taken bad = answered_by_refusal (record_test book) _ (record_refuses.patterns_2 book bad)
 
   -- the n-th pattern, whose record is t, was tested
-  module _ {outcome : Outcome} {t : Pattern} {n : ℕ} (answer : outcome ≡ outcome_of (pattern_test t)) (is : t ≡ pattern_at book n)
+  module _ {outcome : Result Unit Refusal} {t : Pattern} {n : ℕ} (answer : outcome ≡ outcome_of (pattern_test t)) (is : t ≡ pattern_at book n)
       (before : PassedBefore book n) where
     of_pattern : outcome ≡ outcome_of (pattern_test (pattern_at book n))
     of_pattern = answer ∙ ap (λ (u : Pattern). outcome_of (pattern_test u)) is
 
     pub pattern_not_taken :
-        {r : Refusal} → FromTo 16 book.count → n < book.count → outcome ≡ Outcome.Refused r
+        {r : Refusal} → FromTo 16 book.count → n < book.count → outcome ≡ Err r
         → outcome ≡ record_outcome book
     unfolding record_outcome
     pattern_not_taken {r} legal below refused =
@@ -41,9 +41,9 @@ module _ (book : Book) where
         ∙ answered_by_refusal (record_test book) r
         (record_pattern_decides book legal n r below before (refused_found _ of_pattern refused))
 
-    pub one_more_passed : outcome ≡ Outcome.Done → PassedBefore book (n + 1)
+    pub one_more_passed : outcome ≡ Ok tt → PassedBefore book (n + 1)
     one_more_passed done = below_more _ _ before (done_found_nothing _ of_pattern done)
 
-  pub all_passed : FromTo 16 book.count → PassedBefore book book.count → Outcome.Done ≡ record_outcome book
+  pub all_passed : FromTo 16 book.count → PassedBefore book book.count → (Ok tt) ≡ record_outcome book
   unfolding record_outcome
   all_passed legal each = answered_by_done (record_test book) (all_legal book legal each)

@@ -1,5 +1,6 @@
 -- The unused entries of a record count neither in its tests nor in its patterns, and the reader sets them to 0.
 -- Assumes nothing.
+use Rattle.std.specs.Prelude.{Ok, Err}
 use Prim.Native.Nat.{ℕ, zero, suc, ◌≤◌, ◌<◌}
 use native.Mathlib.Omega.{arith}
 use native.Mathlib.Decide.{dec_lt}
@@ -17,7 +18,6 @@ use Rattle.scope.specs.promises.Meaning.{IsBook}
 use Rattle.scope.specs.promises.BookPromises.{SameUsed, ReaderSetsZero}
 use Rattle.scope.specs.declared.Book.{Book}
 use Rattle.scope.specs.declared.Refusal.{Refusal}
-use Rattle.scope.specs.declared.Outcome.{Outcome}
 use Rattle.scope.specs.declared.Reading.{Reading}
 use Rattle.checks.proofs.Searches.{first_same, gather_same, some_below_same}
 use Rattle.checks.proofs.Patterns.{origin, length_pixels, get_d_pixels, length_patterns, get_d_patterns}
@@ -114,8 +114,8 @@ read_is_of_a_list P holds s = by_test (bytes_test s)
   where
     by_test :
         (t : Option Refusal)
-        → P (answered {A = Reading} t (λ r. record { book = book_of []; outcome = Outcome.Refused r })
-        (record { book = book_in s; outcome = Outcome.Done })).book
+        → P (answered {A = Reading} t (λ r. record { book = book_of []; outcome = Err r })
+        (record { book = book_in s; outcome = Ok tt })).book
     by_test none = holds (patterns_in s)
     by_test (some r) = holds []
 

@@ -1,5 +1,6 @@
 -- The unused entries of a record don't count: every call that is given a record answers alike on two that agree where it counts.
 -- Assumes nothing.
+use Rattle.std.specs.Prelude.{Result, Ok, Err}
 use Prim.Native.Nat.{ℕ, ◌<◌}
 use mathlib.Core.Path.{◌≡◌, refl, sym, ◌∙◌, ap}
 use mathlib.Core.Bool.{Bool, true, false}
@@ -12,7 +13,7 @@ use Rattle.scope.specs.Cycles.{LongClash, shortened, cycles, clash_in_for}
 use Rattle.scope.specs.Banks.{word_in, over_start}
 use Rattle.scope.specs.Books.{book_bytes}
 use Rattle.scope.specs.Numbers.{plan_test, number_test, suits_test, output_test}
-use Rattle.scope.specs.Calls.{changed, Result, write_book, find_test, find, book_test, fewest, check_test, check}
+use Rattle.scope.specs.Calls.{changed, After, write_book, find_test, find, book_test, fewest, check_test, check}
 use Rattle.scope.specs.Calls.{moved, edge_test, pixels_read, rest_test, fetch_rest, picture_test, fetch_first, fetch_start, beside_clash, either_fetch, fetch, ring_fetch}
 use Rattle.scope.specs.Calls.{cycles_first, write_cycles_test, write_cycles}
 use Rattle.scope.specs.promises.BookPromises.{SameUsed, UnusedDontCount}
@@ -20,7 +21,6 @@ use Rattle.scope.specs.declared.Plan.{Plan}
 use Rattle.scope.specs.declared.Book.{Book}
 use Rattle.scope.specs.declared.Pattern.{Pattern}
 use Rattle.scope.specs.declared.Refusal.{Refusal}
-use Rattle.scope.specs.declared.Counted.{Counted}
 use Rattle.scope.specs.declared.FetchAnswer.{FetchAnswer}
 use Rattle.checks.proofs.Chains.{chain_is_first, changed_alike, tests_as_one}
 use Rattle.checks.proofs.ClashAnswers.{beside_some}
@@ -76,17 +76,17 @@ module _ (book other : Book) (same : SameUsed book other) (r n : ℕ) (p : Plan)
   same_seen h = cc (same_pixels book other same n h, same.used n h)
 
   -- Its tests after 10, its count and what it leaves; beside it stands the clash.
-  module _ (after : List Pixel × ℕ → List (Option Refusal)) (number : List Pixel × ℕ → Counted) (left : List Pixel × ℕ → List ℕ) where
+  module _ (after : List Pixel × ℕ → List (Option Refusal)) (number : List Pixel × ℕ → Result ℕ Refusal) (left : List Pixel × ℕ → List ℕ) where
     abbrev pattern_tests : List Pixel × ℕ → List (Option Refusal)
     pattern_tests seen =
         elim (clash_in_for r p n seen.0) [ none ↦ none | some c ↦ some (Refusal.Unsuited (shortened c)) ] ∷ after seen
 
-    abbrev counting : Book → Result Counted (List ℕ)
+    abbrev counting : Book → After (Result ℕ Refusal) (List ℕ)
     counting given =
         let seen : List Pixel × ℕ = pattern_seen given in
-        changed (first_of (before_pattern given ++ pattern_tests seen)) Counted.Refused out (number seen) (left seen)
+        changed (first_of (before_pattern given ++ pattern_tests seen)) Err out (number seen) (left seen)
 
-    abbrev beside : Book → Result FetchAnswer (List ℕ)
+    abbrev beside : Book → After FetchAnswer (List ℕ)
     beside given = beside_clash (first_of (before_pattern given)) r p given n (counting given)
 
     same_beside : beside book ≡ beside other
@@ -94,7 +94,7 @@ module _ (book other : Book) (same : SameUsed book other) (r n : ℕ) (p : Plan)
     same_beside = by_tests (first_of (before_pattern book)) refl
       where
         same_counting : counting book ≡ counting other
-        same_counting = changed_alike pattern_tests Counted.Refused out number left same_before (λ e. same_seen (number_in_book e))
+        same_counting = changed_alike pattern_tests Err out number left same_before (λ e. same_seen (number_in_book e))
 
         by_tests : (t : Option Refusal) → first_of (before_pattern book) ≡ t → beside book ≡ beside other
         by_tests none e = cc (same_counting, ap first_of same_before, same_pixels book other same n (number_in_book e))
@@ -114,13 +114,13 @@ module _
     abbrev fetch_tests_lem : List Pixel × ℕ → List (Option Refusal)
     fetch_tests_lem (vs, used) = edge_test ring p W H (map (plus o) vs) ∷ output_test used (length out) ∷ []
 
-    abbrev number_fetched : List Pixel × ℕ → Counted
-    number_fetched (vs, used) = Counted.Number (length (pixels_read ring W H (map (plus o) vs)))
+    abbrev number_fetched : List Pixel × ℕ → Result ℕ Refusal
+    number_fetched (vs, used) = Ok (length (pixels_read ring W H (map (plus o) vs)))
 
     abbrev output_after : List Pixel × ℕ → List ℕ
     output_after (vs, used) = over_start (map (word_in p W H mem) (pixels_read ring W H (map (plus o) vs))) out
 
-    abbrev fetched : Book → Result FetchAnswer (List ℕ)
+    abbrev fetched : Book → After FetchAnswer (List ℕ)
     fetched = beside book other same r n p out (picture_test p W H (length mem) ∷ []) fetch_tests_lem number_fetched output_after
 
     is_fetched : (given : Book) → either_fetch ring given r p W H mem n o out ≡ fetched given
@@ -131,7 +131,7 @@ module _
         ap
         (λ (tests : Option Refusal).
         beside_clash (fetch_first given r p W H (length mem) n) r p given n
-        (changed tests Counted.Refused out (number_fetched (pixels t, t.used)) (output_after (pixels t, t.used))))
+        (changed tests Err out (number_fetched (pixels t, t.used)) (output_after (pixels t, t.used))))
         (sym (tests_as_one [] (fetch_first given r p W H (length mem) n ∷ suits_test r p n t ∷ []) rest)
         ∙ sym (tests_as_one [] (book_test given r ∷ picture_test p W H (length mem) ∷ number_test given.count n ∷ []) (suits_test r p n t ∷ rest)))
 
@@ -143,10 +143,10 @@ module _
 
 -- The cycles, with the test of the output after 10.
 module _ (book other : Book) (same : SameUsed book other) (r : ℕ) (p : Plan) (n : ℕ) (out : List ℕ) where
-  abbrev written : Book → Result FetchAnswer (List ℕ)
+  abbrev written : Book → After FetchAnswer (List ℕ)
   written =
       beside book other same r n p out (plan_test p ∷ []) (λ seen. output_test seen.1 (length out) ∷ [])
-      (λ seen. Counted.Number (length (cycles p seen.0)))
+      (λ seen. Ok (length (cycles p seen.0)))
       (λ seen. over_start (cycles p seen.0) out)
 
   is_written : (given : Book) → write_cycles given r p n out ≡ written given
@@ -156,7 +156,7 @@ module _ (book other : Book) (same : SameUsed book other) (r : ℕ) (p : Plan) (
       ap
       (λ (tests : Option Refusal).
       beside_clash (cycles_first given r p n) r p given n
-      (changed tests Counted.Refused out (Counted.Number (length (cycles p (pixels t)))) (over_start (cycles p (pixels t)) out)))
+      (changed tests Err out (Ok (length (cycles p (pixels t)))) (over_start (cycles p (pixels t)) out)))
       (sym
       (tests_as_one [] (book_test given r ∷ plan_test p ∷ number_test given.count n ∷ [])
       (suits_test r p n t ∷ output_test t.used (length out) ∷ [])))
@@ -165,7 +165,7 @@ module _ (book other : Book) (same : SameUsed book other) (r : ℕ) (p : Plan) (
   same_written =
       is_written book
       ∙ same_beside book other same r n p out (plan_test p ∷ []) (λ seen. output_test seen.1 (length out) ∷ [])
-      (λ seen. Counted.Number (length (cycles p seen.0)))
+      (λ seen. Ok (length (cycles p seen.0)))
       (λ seen. over_start (cycles p seen.0) out)
       ∙ sym (is_written other)
 

@@ -1,18 +1,17 @@
 -- What the code goes by: a test's answer, the entry for a pattern's number, and the cells of a pattern's pixels in the window.
 -- The laws in proofs/ lead from them to the definitions of `scope`.
 -- Assumes nothing.
-use Rattle.std.specs.Prelude.{ℕ, suc, ◌+◌, ◌*◌, ◌<◌, ◌≡◌, List, Bool, cond, ltb, eqb, pos, nat_abs, ◌+ℤ◌, length, get_or}
+use Rattle.std.specs.Prelude.{ℕ, suc, ◌+◌, ◌*◌, ◌<◌, ◌≡◌, List, Bool, cond, ltb, eqb, pos, nat_abs, ◌+ℤ◌, length, get_or, Result, Ok, Err, ℤ}
 use Rattle.std.proofs.Math.Option.{Option}
 use Rattle.scope.specs.Search.{some_below}
 use Rattle.scope.specs.Plans.{Pixel}
 use Rattle.scope.specs.Numbers.{small, pixel_test}
 use Rattle.scope.specs.Calls.{answered}
 use Rattle.scope.specs.declared.Refusal.{Refusal}
-use Rattle.scope.specs.declared.Outcome.{Outcome}
 
 -- what a test says, as an answer
-abbrev pub outcome_of : Option Refusal → Outcome
-outcome_of t = answered t Outcome.Refused Outcome.Done
+abbrev pub outcome_of : Option Refusal → Result Unit Refusal
+outcome_of t = answered t Err (Ok tt)
 
 -- the number of the entry that stands for pattern n: n, or the last one where there is none
 abbrev pub entry_number : ℕ → ℕ
@@ -43,6 +42,6 @@ pub record Passed (least : List ℕ) (pixel : ℕ → Pixel) (e : ℕ) : Type 0 
 
 -- the pixel v at position e was tested by the cells of the pixels before it, whatever these are: the outcome is that of its
 -- tests, and where they find nothing the entries go on with its own
-pub record Tested (i j e : ℕ) (v : Pixel) (least after : List ℕ) (outcome : Outcome) : Type 0 where
+pub record Tested (i j e : ℕ) (v : Pixel) (least after : List ℕ) (outcome : Result Unit Refusal) : Type 0 where
   pub answer : (pixel : ℕ → Pixel) → Passed least pixel e → pixel e ≡ v → outcome ≡ outcome_of (pixel_test i j pixel e)
-  pub passed : (pixel : ℕ → Pixel) → Passed least pixel e → pixel e ≡ v → outcome ≡ Outcome.Done → Passed after pixel (e + 1)
+  pub passed : (pixel : ℕ → Pixel) → Passed least pixel e → pixel e ≡ v → outcome ≡ Ok tt → Passed after pixel (e + 1)

@@ -4,7 +4,7 @@ ghost use Rattle.scope.specs.Plans.{at};
 ghost use Rattle.book.specs.Scan.{cell_of, is_among, Tested};
 
 use integers::raised8;
-use scope::{Outcome, Refusal};
+use scope::Refusal;
 
 // A pixel's place in the window, row by row, from 0 to 1023; 1024 where its column is outside, else 1025 where its row is.
 pub fn cell(i: i8, j: i8) -> u16
@@ -52,23 +52,23 @@ pub(crate) fn pixel_outcome(
     j: usize,
     e: usize,
     least: &mut [u16],
-) -> Outcome
+) -> Result<(), Refusal>
     requires { (length least.old ≡ 65) × (e < 64) }
     ensures { Tested i j e (at x y) least.old least.new result }
 {
     let k = cell(x, y);
     if k == 1024 {
-        return Outcome::Refused(Refusal::Coordinate(i));
+        return Err(Refusal::Coordinate(i));
     }
     if k == 1025 {
-        return Outcome::Refused(Refusal::Coordinate(j));
+        return Err(Refusal::Coordinate(j));
     }
     if least[e] <= k {
         least[e + 1] = k + 1;
-        return Outcome::Done;
+        return Ok(());
     }
     if is_among(least, e, k + 1) {
-        return Outcome::Refused(Refusal::Repeat(i));
+        return Err(Refusal::Repeat(i));
     }
-    Outcome::Refused(Refusal::Lower(i))
+    Err(Refusal::Lower(i))
 }

@@ -6,7 +6,7 @@ ghost use Rattle.scope.specs.Numbers.{bytes_test};
 ghost use Rattle.scope.specs.Calls.{pattern_part, part_outcome, part_place};
 
 use crate::scanner::bytes_outcome;
-use scope::{Outcome, Refusal};
+use scope::Refusal;
 
 // The place of pattern n's pixel count.
 fn start_of(s: &[u8], n: usize) -> usize
@@ -23,17 +23,14 @@ fn start_of(s: &[u8], n: usize) -> usize
 }
 
 // Whether pattern n has a part of these bytes, or 1 to 5, 19, 17.
-pub fn part_outcome(s: &[u8], n: usize) -> Outcome
+pub fn part_outcome(s: &[u8], n: usize) -> Result<(), Refusal>
     ensures { result ≡ part_outcome s.now n }
 {
-    let outcome = bytes_outcome(s);
-    if let Outcome::Refused(_) = outcome {
-        return outcome;
-    }
+    bytes_outcome(s)?;
     if s[0] as usize <= n {
-        return Outcome::Refused(Refusal::NoPattern);
+        return Err(Refusal::NoPattern);
     }
-    Outcome::Done
+    Ok(())
 }
 
 // Where pattern n's part begins; 0 where `part_outcome` refuses.
@@ -41,7 +38,7 @@ pub fn part_place(s: &[u8], n: usize) -> usize
     ensures { result ≡ part_place s.now n }
 {
     let outcome = part_outcome(s, n);
-    if let Outcome::Refused(_) = outcome {
+    if let Err(_) = outcome {
         return 0;
     }
     start_of(s, n) + 1
@@ -53,7 +50,7 @@ pub fn pattern_part(s: &[u8], n: usize) -> &[u8]
     ensures place { result.ref_ptr ≡ (s.entry.ref_ptr.0, s.entry.ref_ptr.1 + part_place s.now n) }
 {
     let outcome = part_outcome(s, n);
-    if let Outcome::Refused(_) = outcome {
+    if let Err(_) = outcome {
         return &s[0..0];
     }
     let at = start_of(s, n);

@@ -6,7 +6,7 @@ ghost use Rattle.scope.specs.Numbers.{bytes_test};
 ghost use Rattle.scope.specs.Calls.{read_book};
 
 use crate::scanner::{bytes_outcome, signed_byte};
-use scope::{Book, Outcome, Pattern, Reading};
+use scope::{Book, Pattern, Reading};
 
 // The pattern whose pixel count is at place `at`, unused entries 0.
 fn pattern_at(s: &[u8], at: usize) -> Pattern
@@ -78,7 +78,7 @@ pub fn read_book(s: &[u8]) -> Reading
     ensures { result ≡ read_book s.now }
 {
     let outcome = bytes_outcome(s);
-    if let Outcome::Refused(_) = outcome {
+    if let Err(_) = outcome {
         let book = empty_book();
         return Reading { book, outcome };
     }

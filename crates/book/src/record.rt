@@ -7,7 +7,7 @@ ghost use Rattle.scope.specs.Calls.{record_outcome};
 ghost use Rattle.book.specs.Scan.{outcome_of, entry_number};
 
 use crate::cells::pixel_outcome;
-use scope::{Book, Outcome, Pattern, Refusal};
+use scope::{Book, Pattern, Refusal};
 
 // The number of the entry that stands for pattern n: n, or the last one where there is none.
 pub fn entry_number(n: usize) -> usize
@@ -17,7 +17,7 @@ pub fn entry_number(n: usize) -> usize
 }
 
 // The tests of a pattern's pixels.
-fn pixels_outcome(t: Pattern) -> Outcome
+fn pixels_outcome(t: Pattern) -> Result<(), Refusal>
     requires { t.used ≤ 64 }
     ensures { result ≡ outcome_of (first 0 t.used (pixel_test 0 0 (pixel_at t))) }
 {
@@ -27,48 +27,42 @@ fn pixels_outcome(t: Pattern) -> Outcome
     let mut least = [0u16; 65];
     let mut e = 0;
     while e < used {
-        let outcome = pixel_outcome(columns[e], rows[e], 0, 0, e, &mut least);
-        if let Outcome::Refused(_) = outcome {
-            return outcome;
-        }
+        pixel_outcome(columns[e], rows[e], 0, 0, e, &mut least)?;
         e += 1;
     }
-    Outcome::Done
+    Ok(())
 }
 
 // The tests of a pattern.
-fn pattern_outcome(t: Pattern) -> Outcome
+fn pattern_outcome(t: Pattern) -> Result<(), Refusal>
     ensures { result ≡ outcome_of (pattern_test t) }
 {
     let used = t.used;
     if used == 0 {
-        return Outcome::Refused(Refusal::Count(0));
+        return Err(Refusal::Count(0));
     }
     if 64 < used {
-        return Outcome::Refused(Refusal::Count(0));
+        return Err(Refusal::Count(0));
     }
     pixels_outcome(t)
 }
 
 // Whether a record is a book, or 2, 3, 4, 19.
-pub fn record_outcome(book: Book) -> Outcome
+pub fn record_outcome(book: Book) -> Result<(), Refusal>
     ensures { result ≡ record_outcome book }
 {
     let count = book.count;
     if count == 0 {
-        return Outcome::Refused(Refusal::Count(0));
+        return Err(Refusal::Count(0));
     }
     if 16 < count {
-        return Outcome::Refused(Refusal::Count(0));
+        return Err(Refusal::Count(0));
     }
     let mut n = 0;
     while n < count {
         let t = book.patterns[n];
-        let outcome = pattern_outcome(t);
-        if let Outcome::Refused(_) = outcome {
-            return outcome;
-        }
+        pattern_outcome(t)?;
         n += 1;
     }
-    Outcome::Done
+    Ok(())
 }

@@ -6,7 +6,7 @@ ghost use Rattle.scope.specs.Numbers.{pixel_read, pattern_read, bytes_test};
 ghost use Rattle.book.specs.Scan.{outcome_of};
 
 use crate::cells::pixel_outcome;
-use scope::{Outcome, Refusal};
+use scope::Refusal;
 
 // The number that a byte is in two's complement.
 pub(crate) fn signed_byte(b: u8) -> i8
@@ -20,7 +20,7 @@ pub(crate) fn signed_byte(b: u8) -> i8
 }
 
 // The tests of `count` pixels that begin at place `at`.
-fn pixels_outcome(s: &[u8], at: usize, count: usize) -> Outcome
+fn pixels_outcome(s: &[u8], at: usize, count: usize) -> Result<(), Refusal>
     requires { (at ≤ length s.now) × (count ≤ 64) }
     ensures { result ≡ outcome_of (first 0 count (pixel_read s.now at)) }
 {
@@ -29,68 +29,62 @@ fn pixels_outcome(s: &[u8], at: usize, count: usize) -> Outcome
     while e < count {
         let i = at + 2 * e;
         if s.len() - i < 2 {
-            return Outcome::Refused(Refusal::Ends(s.len()));
+            return Err(Refusal::Ends(s.len()));
         }
-        let outcome = pixel_outcome(
+        pixel_outcome(
             signed_byte(s[i]),
             signed_byte(s[i + 1]),
             i,
             i + 1,
             e,
             &mut least,
-        );
-        if let Outcome::Refused(_) = outcome {
-            return outcome;
-        }
+        )?;
         e += 1;
     }
-    Outcome::Done
+    Ok(())
 }
 
 // The tests of the pattern whose pixel count is at place `at`.
-fn pattern_outcome(s: &[u8], at: usize) -> Outcome
+fn pattern_outcome(s: &[u8], at: usize) -> Result<(), Refusal>
     requires { at ≤ length s.now }
     ensures { result ≡ outcome_of (pattern_read s.now at) }
 {
     if s.len() <= at {
-        return Outcome::Refused(Refusal::Ends(s.len()));
+        return Err(Refusal::Ends(s.len()));
     }
     let count = s[at] as usize;
     if count == 0 {
-        return Outcome::Refused(Refusal::Count(at));
+        return Err(Refusal::Count(at));
     }
     if 64 < count {
-        return Outcome::Refused(Refusal::Count(at));
+        return Err(Refusal::Count(at));
     }
     pixels_outcome(s, at + 1, count)
 }
 
 // The tests of a whole book.
-pub(crate) fn bytes_outcome(s: &[u8]) -> Outcome
+pub(crate) fn bytes_outcome(s: &[u8]) -> Result<(), Refusal>
     ensures { result ≡ outcome_of (bytes_test s.now) }
 {
     if s.len() == 0 {
-        return Outcome::Refused(Refusal::Ends(0));
+        return Err(Refusal::Ends(0));
     }
     let count = s[0] as usize;
     if count == 0 {
-        return Outcome::Refused(Refusal::Count(0));
+        return Err(Refusal::Count(0));
     }
     if 16 < count {
-        return Outcome::Refused(Refusal::Count(0));
+        return Err(Refusal::Count(0));
     }
     let mut at = 1;
     let mut n = 0;
     while n < count {
-        let outcome = pattern_outcome(s, at);
-        if let Outcome::Refused(_) = outcome {
-            return outcome;
-        }
+        pattern_outcome(s, at)?;
         at = at + 1 + 2 * s[at] as usize;
         n += 1;
     }
     if at < s.len() {
-        return Outcome::Refused(Refusal::Extra(at));
+        return Err(Refusal::Extra(at));
     }
-    Outcome::Done
+    Ok(())
 }

@@ -9,7 +9,7 @@ ghost use Rattle.scope.specs.Calls.{write_book};
 
 use crate::record::record_outcome;
 use integers::raised8;
-use scope::{Book, Counted, Outcome, Pattern, Refusal};
+use scope::{Book, Pattern, Refusal};
 
 // The byte of a number in two's complement.
 fn unsigned_byte(z: i8) -> u8
@@ -69,17 +69,14 @@ fn put_book(book: Book, out: &mut [u8])
 }
 
 // Writes a record's bytes to the start of the output and tells how many, or 2, 3, 4, 19, 16 and the output as it was.
-pub fn write_book(book: Book, out: &mut [u8]) -> Counted
+pub fn write_book(book: Book, out: &mut [u8]) -> Result<u64, Refusal>
     ensures { (result ≡ (write_book book out.old).answer) × (out.new ≡ (write_book book out.old).content) }
 {
-    let outcome = record_outcome(book);
-    if let Outcome::Refused(r) = outcome {
-        return Counted::Refused(r);
-    }
+    record_outcome(book)?;
     let size = byte_count(book);
     if out.len() < size {
-        return Counted::Refused(Refusal::Output);
+        return Err(Refusal::Output);
     }
     put_book(book, out);
-    Counted::Number(size as u64)
+    Ok(size as u64)
 }

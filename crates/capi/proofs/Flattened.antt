@@ -1,6 +1,8 @@
 -- The record of flat arrays by its entries, and that the record of the flat arrays of what a reader gives is that record. So a
 -- caller who reads a book has the record that was read.
 -- Assumes nothing.
+use Rattle.scope.specs.declared.Refusal.{Refusal}
+use Rattle.std.specs.Prelude.{Result, Ok, Err}
 use Prim.Native.Nat.{ℕ, ◌+◌, ◌*◌, ◌/◌, ◌%◌, ◌≤◌, ◌<◌}
 use native.Mathlib.Nat.{zero-add}
 use native.Mathlib.Omega.{arith}
@@ -13,13 +15,12 @@ use lib.ListN.{length, get_or, get_or-eq_default}
 use Rattle.scope.specs.Search.{gather}
 use Rattle.scope.specs.Plans.{Pixel, no_pattern, pattern_at}
 use Rattle.scope.specs.Books.{filled, pattern_of, book_of}
-use Rattle.scope.specs.Numbers.{value, refusal, of_outcome}
+use Rattle.scope.specs.Numbers.{value, refusal, of_result}
 use Rattle.scope.specs.Calls.{read_book}
 use Rattle.scope.specs.declared.Pattern.{Pattern}
 use Rattle.scope.specs.declared.Book.{Book}
 use Rattle.scope.specs.Cycles.{LongClash}
 use Rattle.scope.specs.declared.Reading.{Reading}
-use Rattle.scope.specs.declared.Outcome.{Outcome}
 use Rattle.checks.proofs.Searches.{length_gather, get_d_gather}
 use Rattle.checks.proofs.FilledArrays.{gathered}
 use Rattle.checks.proofs.Chains.{value_not_refusal}
@@ -117,25 +118,25 @@ module _ (ts : List (List Pixel)) where
       sym (is_flat_book (flat_columns book) (flat_rows book) (flat_used book) book.count no_pattern (length_array_book_of ts)
       (λ n h below. pattern_kept n h) empty_kept)
 
-abbrev reading : Book → Outcome → Reading
+abbrev reading : Book → Result Unit Refusal → Reading
 reading b o = record { book = b; outcome = o }
 
-is_done : (o : Outcome) → of_outcome o ≡ value tt → o ≡ Outcome.Done
-is_done Outcome.Done e = refl
-is_done (Outcome.Refused q) e = absurd (value_not_refusal (sym e))
+is_done : (o : Result Unit Refusal) → of_result o ≡ value tt → o ≡ Ok tt
+is_done (Ok tt) e = refl
+is_done (Err q) e = absurd (value_not_refusal (sym e))
 
 -- a refused reading tells its refusal, and leaves an array as it was
 refusal_told :
-    (b : Book) (o : Outcome) (n i : ℕ) (c : Option LongClash) → of_outcome o ≡ refusal n i c → of_reading (reading b o) ≡ refusal n i c
-refusal_told b Outcome.Done n i c e = absurd (value_not_refusal e)
-refusal_told b (Outcome.Refused q) n i c e = cc
+    (b : Book) (o : Result Unit Refusal) (n i : ℕ) (c : Option LongClash) → of_result o ≡ refusal n i c → of_reading (reading b o) ≡ refusal n i c
+refusal_told b (Ok tt) n i c e = absurd (value_not_refusal e)
+refusal_told b (Err q) n i c e = cc
 
 module _ {A : Type 0} (flat : Book → List A) where
   refusal_leaves :
-      (b : Book) (o : Outcome) (n i : ℕ) (c : Option LongClash) → of_outcome o ≡ refusal n i c → (out : List A)
+      (b : Book) (o : Result Unit Refusal) (n i : ℕ) (c : Option LongClash) → of_result o ≡ refusal n i c → (out : List A)
       → when_read flat (reading b o) out ≡ out
-  refusal_leaves b Outcome.Done n i c e out = absurd (value_not_refusal e)
-  refusal_leaves b (Outcome.Refused q) n i c e out = refl
+  refusal_leaves b (Ok tt) n i c e out = absurd (value_not_refusal e)
+  refusal_leaves b (Err q) n i c e out = refl
 
 -- What was read is the record of a list of patterns, so it is the record of the arrays that are told.
 pub read_is_kept : ReadIsKept

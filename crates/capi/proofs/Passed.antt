@@ -1,22 +1,20 @@
 -- How an answer is told: as the value or the refusal that it is, and as the answer that it equals.
 -- Assumes nothing.
+use Rattle.std.specs.Prelude.{Result, Ok, Err}
 use Prim.Native.Nat.{ℕ}
 use native.Mathlib.Omega.{arith}
 use mathlib.Core.Path.{◌≡◌, refl, sym, ◌∙◌, ap, ap₂, subst}
 use mathlib.Core.Option.{Option, none, some}
 use mathlib.Core.List.{List, ◌∷◌}
 use Rattle.scope.specs.Numbers.{Answer, value, refusal, number_of, place_of, clash_of, turned_down, with_positions}
-use Rattle.scope.specs.Calls.{Result}
+use Rattle.scope.specs.Calls.{After}
 use Rattle.scope.specs.Plans.{Pixel}
 use Rattle.scope.specs.declared.Book.{Book}
 use Rattle.scope.specs.declared.Plan.{Plan}
 use Rattle.scope.specs.declared.Refusal.{Refusal}
 use Rattle.scope.specs.Cycles.{LongClash}
-use Rattle.scope.specs.declared.Outcome.{Outcome}
-use Rattle.scope.specs.declared.Outcome.TheVariants.{Done, Refused}
 use Rattle.scope.specs.declared.Reading.{Reading}
 use Rattle.scope.specs.declared.Verdict.{Verdict}
-use Rattle.scope.specs.declared.Counted.{Counted}
 use Rattle.scope.specs.declared.CheckAnswer.{CheckAnswer}
 use Rattle.scope.specs.declared.FetchAnswer.{FetchAnswer}
 use Rattle.checks.proofs.Chains.{Gives}
@@ -35,14 +33,14 @@ told_of {row} of {before} {after} {n} e told = subst (λ z. Tells row (of z) bef
 
 -- the same of a call that changes what it was lent
 pub told_given :
-    {A B C : Type 0} {row : A → List ℕ} (of : B → Answer A) {result : Result B C} {x : B} {content : C}
+    {A B C : Type 0} {row : A → List ℕ} (of : B → Answer A) {result : After B C} {x : B} {content : C}
     {before after : List ℕ} {n : ℕ} → Gives result x content → Tells row (of x) before after n
     → Tells row (of result.answer) before after n × (content ≡ result.content)
 told_given of (answer, same) told = (told_of of answer told, same)
 
 -- the same where the pixel that it was handed is o
 pub told_at :
-    {A B C D : Type 0} {row : A → List ℕ} (of : B → Answer A) (call : Pixel → D → Result B C) {v o : Pixel} {y : D} {x : B}
+    {A B C D : Type 0} {row : A → List ℕ} (of : B → Answer A) (call : Pixel → D → After B C) {v o : Pixel} {y : D} {x : B}
     {content : C} {before after : List ℕ} {n : ℕ} → v ≡ o → Gives (call v y) x content → Tells row (of x) before after n
     → Tells row (of (call o y).answer) before after n × (content ≡ (call o y).content)
 told_at of call {y} {x} {content} e given told = told_given of (subst (λ u. Gives (call u y) x content) e given) told
@@ -81,9 +79,9 @@ same_check = ap₂ (λ (v : Verdict) (es : List ℕ). the_check v es)
     the_check v es = record { verdict = v; positions = es }
 
 pub same_fetch : {a b : FetchAnswer} → a.counted ≡ b.counted → a.positions ≡ b.positions → a ≡ b
-same_fetch = ap₂ (λ (c : Counted) (es : List ℕ). the_fetch c es)
+same_fetch = ap₂ (λ (c : Result ℕ Refusal) (es : List ℕ). the_fetch c es)
   where
-    the_fetch : Counted → List ℕ → FetchAnswer
+    the_fetch : Result ℕ Refusal → List ℕ → FetchAnswer
     the_fetch c es = record { counted = c; positions = es }
 
 -- a refusal told with these positions
@@ -100,18 +98,18 @@ placed_refusal {A} es f = by_clash (clash_of f)
 
 -- a reading that was done, and one that was refused
 module _ (x : Reading) where
-  pub reading_done : x.outcome ≡ Done → of_reading x ≡ value x.book
-  reading_done e = ap (λ (o : Outcome). elim o [ Done ↦ value x.book | Refused q ↦ turned_down q ]) e
+  pub reading_done : x.outcome ≡ Ok tt → of_reading x ≡ value x.book
+  reading_done e = ap (λ (o : Result Unit Refusal). elim o [ Ok u ↦ value x.book | Err q ↦ turned_down q ]) e
 
-  pub reading_refused : {r : Refusal} → x.outcome ≡ Refused r → of_reading x ≡ turned_down r
-  reading_refused e = ap (λ (o : Outcome). elim o [ Done ↦ value x.book | Refused q ↦ turned_down q ]) e
+  pub reading_refused : {r : Refusal} → x.outcome ≡ Err r → of_reading x ≡ turned_down r
+  reading_refused e = ap (λ (o : Result Unit Refusal). elim o [ Ok u ↦ value x.book | Err q ↦ turned_down q ]) e
 
   module _ {A : Type 0} (flat : Book → List A) (out : List A) where
-    pub filled_read : x.outcome ≡ Done → flat x.book ≡ when_read flat x out
-    filled_read e = sym (ap (λ (o : Outcome). elim o [ Done ↦ flat x.book | Refused q ↦ out ]) e)
+    pub filled_read : x.outcome ≡ Ok tt → flat x.book ≡ when_read flat x out
+    filled_read e = sym (ap (λ (o : Result Unit Refusal). elim o [ Ok u ↦ flat x.book | Err q ↦ out ]) e)
 
-    pub kept_refused : {r : Refusal} → x.outcome ≡ Refused r → out ≡ when_read flat x out
-    kept_refused e = sym (ap (λ (o : Outcome). elim o [ Done ↦ flat x.book | Refused q ↦ out ]) e)
+    pub kept_refused : {r : Refusal} → x.outcome ≡ Err r → out ≡ when_read flat x out
+    kept_refused e = sym (ap (λ (o : Result Unit Refusal). elim o [ Ok u ↦ flat x.book | Err q ↦ out ]) e)
 
 -- What came of a list under the finder's plan: the plan's numbers where it was made, and what was wrong where it was not.
 module _ {p : Plan} {l : Listed} {r : FoundRun} {before mid : List ℕ} {n : ℕ} (is : r ≡ FoundRun.Ran p l) (told : Tells no_row (of_listed l) before mid n) where

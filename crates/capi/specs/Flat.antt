@@ -1,17 +1,16 @@
 -- A book record as flat arrays: 16 × 64 columns, 16 × 64 rows, 16 used counts, and the pattern count.
 -- Assumes nothing.
-use Rattle.std.specs.Prelude.{ℕ, ◌+◌, ◌*◌, ◌/◌, ◌%◌, ◌≡◌, List, [], ◌∷◌, ℤ, pos, get_or}
+use Rattle.std.specs.Prelude.{ℕ, ◌+◌, ◌*◌, ◌/◌, ◌%◌, ◌≡◌, List, [], ◌∷◌, ℤ, pos, get_or, Ok, Err}
 use Rattle.std.proofs.Math.Option.{Option}
 use Rattle.scope.specs.Search.{gather}
 use Rattle.scope.specs.Plans.{pattern_at}
 use Rattle.scope.specs.Books.{filled, pattern_of}
-use Rattle.scope.specs.Numbers.{Answer, value, refusal, turned_down, of_outcome}
+use Rattle.scope.specs.Numbers.{Answer, value, refusal, turned_down, of_result}
 use Rattle.scope.specs.Calls.{read_book}
 use Rattle.scope.specs.declared.Pattern.{Pattern}
 use Rattle.scope.specs.declared.Book.{Book}
 use Rattle.scope.specs.Cycles.{LongClash}
 use Rattle.scope.specs.declared.Reading.{Reading}
-use Rattle.scope.specs.declared.Outcome.TheVariants.{Done, Refused}
 
 -- the 64 entries of pattern n
 unfoldable pub entries : List ℤ → ℕ → List ℤ
@@ -46,30 +45,30 @@ flat_used book = gather 0 16 λ n. (pattern_at book n).used
 -- a reading's answer and its value, and an array after it: filled from the record that was read, as it was where the book
 -- was refused
 abbrev pub of_reading : Reading → Answer Book
-of_reading r = elim r.outcome [ Done ↦ value r.book | Refused q ↦ turned_down q ]
+of_reading r = elim r.outcome [ Ok u ↦ value r.book | Err q ↦ turned_down q ]
 
 abbrev pub count_row : Book → List ℕ
 count_row book = book.count ∷ []
 
 abbrev pub when_read : {A : Type 0} → (Book → List A) → Reading → List A → List A
-when_read flat r out = elim r.outcome [ Done ↦ flat r.book | Refused q ↦ out ]
+when_read flat r out = elim r.outcome [ Ok u ↦ flat r.book | Err q ↦ out ]
 
 -- What `bankplan_read_book` tells and leaves is what was read: the answer has its record, and the record of the arrays with
 -- the count told is that record; on a refusal it tells that, and "buffers and lists stay unchanged"
 pub record ReadIsKept : Type 0 where
-  pub told : (s : List ℕ) → of_outcome (read_book s).outcome ≡ value tt → of_reading (read_book s) ≡ value (read_book s).book
+  pub told : (s : List ℕ) → of_result (read_book s).outcome ≡ value tt → of_reading (read_book s) ≡ value (read_book s).book
   pub arrays :
-      (s : List ℕ) (columns rows : List ℤ) (used : List ℕ) → of_outcome (read_book s).outcome ≡ value tt
+      (s : List ℕ) (columns rows : List ℤ) (used : List ℕ) → of_result (read_book s).outcome ≡ value tt
       → flat_book (when_read flat_columns (read_book s) columns) (when_read flat_rows (read_book s) rows)
       (when_read flat_used (read_book s) used)
       (read_book s).book.count
       ≡ (read_book s).book
   pub told_refusal :
-      (s : List ℕ) (n i : ℕ) (c : Option LongClash) → of_outcome (read_book s).outcome ≡ refusal n i c
+      (s : List ℕ) (n i : ℕ) (c : Option LongClash) → of_result (read_book s).outcome ≡ refusal n i c
       → of_reading (read_book s) ≡ refusal n i c
   pub unchanged :
       (s : List ℕ) (columns rows : List ℤ) (used : List ℕ) (n i : ℕ) (c : Option LongClash)
-      → of_outcome (read_book s).outcome ≡ refusal n i c
+      → of_result (read_book s).outcome ≡ refusal n i c
       → (when_read flat_columns (read_book s) columns ≡ columns)
       × (when_read flat_rows (read_book s) rows ≡ rows)
       × (when_read flat_used (read_book s) used ≡ used)

@@ -1,6 +1,6 @@
 -- Worked values of what is told and of flat arrays, and the theorems that check them by computation.
 -- Assumes nothing.
-use Rattle.std.specs.Prelude.{ℕ, ◌≡◌, refl, ℤ, pos, negsuc, length, get_or, replicate, take}
+use Rattle.std.specs.Prelude.{ℕ, ◌≡◌, refl, ℤ, pos, negsuc, length, get_or, replicate, take, Result, Ok, Err}
 use mathlib.Core.List.{List, [], ◌∷◌, ◌++◌, map, flat_map}
 use Rattle.scope.specs.Plans.{Pixel, at, plan, pixels, pattern_at}
 use Rattle.scope.specs.Books.{book_of}
@@ -9,7 +9,6 @@ use Rattle.scope.specs.declared.Book.{Book}
 use Rattle.scope.specs.declared.Refusal.{Refusal}
 use Rattle.scope.specs.declared.Verdict.{Verdict}
 use Rattle.scope.specs.declared.Clash.{Clash}
-use Rattle.scope.specs.declared.Counted.{Counted}
 use Rattle.scope.specs.declared.CheckAnswer.{CheckAnswer}
 use Rattle.scope.specs.declared.FetchAnswer.{FetchAnswer}
 use Rattle.pictures.specs.declared.lists.Listed.{Listed}
@@ -38,7 +37,7 @@ nine = 1 ∷ 2 ∷ 4 ∷ 5 ∷ 6 ∷ 7 ∷ 8 ∷ 20 ∷ 21 ∷ []
 abbrev checked : Verdict → CheckAnswer
 checked v = record { verdict = v; positions = nine }
 
-abbrev fetched : Counted → FetchAnswer
+abbrev fetched : Result ℕ Refusal → FetchAnswer
 fetched c = record { counted = c; positions = nine }
 
 answers : List (Row (List ℕ))
@@ -60,9 +59,9 @@ answers =
     ∷ row (told checked_row (of_check 8 (checked (Verdict.Clashes clash))))
     (10 ∷ 0 ∷ 3 ∷ 1 ∷ 2 ∷ 4 ∷ 5 ∷ 6 ∷ 7 ∷ 8 ∷ 20 ∷ 21 ∷ 9 ∷ [])
     ∷ row (told checked_row (of_check 2 (checked (Verdict.Refused Refusal.Large)))) (9 ∷ 0 ∷ replicate 11 9)
-    ∷ row (told number_row (of_fetch 2 (fetched (Counted.Number 5)))) (0 ∷ 5 ∷ replicate 11 9)
-    ∷ row (told number_row (of_fetch 2 (fetched (Counted.Refused (Refusal.Unsuited clash))))) (10 ∷ 0 ∷ 3 ∷ 1 ∷ 2 ∷ 4 ∷ replicate 7 9)
-    ∷ row (told number_row (of_fetch 2 (fetched (Counted.Refused Refusal.Ring)))) (18 ∷ 0 ∷ replicate 11 9)
+    ∷ row (told number_row (of_fetch 2 (fetched (Ok 5)))) (0 ∷ 5 ∷ replicate 11 9)
+    ∷ row (told number_row (of_fetch 2 (fetched (Err (Refusal.Unsuited clash))))) (10 ∷ 0 ∷ 3 ∷ 1 ∷ 2 ∷ 4 ∷ replicate 7 9)
+    ∷ row (told number_row (of_fetch 2 (fetched (Err Refusal.Ring)))) (18 ∷ 0 ∷ replicate 11 9)
     ∷ []
 
 answers_hold : map (λ r. r.computed) answers ≡ map (λ r. r.stated) answers

@@ -11,19 +11,16 @@ mod told;
 
 ghost use Rattle.std.specs.Prelude.{◌≡◌, [], ◌∷◌, length};
 ghost use Rattle.scope.specs.Plans.{at, plan};
-ghost use Rattle.scope.specs.Numbers.{of_planned, of_counted, of_located, of_outcome, of_check, of_fetch};
+ghost use Rattle.scope.specs.Numbers.{of_result, of_located, of_check, of_fetch};
 ghost use Rattle.scope.specs.Calls.{read_book, pattern_part, part_outcome, part_place, record_outcome, write_book, normal, find, check, write_cycles, bank, depth, address, locate};
 ghost use Rattle.capi.specs.Told.{Tells, plan_row, number_row, pixel_row, checked_row, no_row};
 ghost use Rattle.capi.specs.Flat.{flat_book, flat_columns, flat_rows, flat_used, of_reading, count_row, when_read};
 
 use crate::flat::{book_of, plan_of, put_pixels, put_used};
-use crate::told::{
-    tell_check, tell_counted, tell_fetch, tell_located, tell_outcome, tell_planned, tell_refusal,
-};
+use crate::told::{tell_check, tell_counted, tell_fetch, tell_located, tell_outcome, tell_planned, tell_refusal};
 use book::{part_outcome, part_place, pattern_part, read_book, record_outcome, write_book};
 use finder::{check, find, write_cycles};
 use lattice::normal_form;
-use scope::Outcome;
 
 // The normal form of (x1, x2) and (y1, y2): a, b, d.
 #[unsafe(no_mangle)]
@@ -34,7 +31,7 @@ pub extern "C" fn bankplan_normal_form(
     y2: i16,
     answer: &mut [u64; 12],
 ) -> u64
-    ensures { Tells plan_row (of_planned (normal (at x1 x2) (at y1 y2))) answer.old answer.new result }
+    ensures { Tells plan_row (of_result (normal (at x1 x2) (at y1 y2))) answer.old answer.new result }
 {
     tell_planned(normal_form(x1, x2, y1, y2), answer)
 }
@@ -49,7 +46,7 @@ pub extern "C" fn bankplan_bank(
     j: i16,
     answer: &mut [u64; 12],
 ) -> u64
-    ensures { Tells number_row (of_counted (bank (plan a b d) (at i j))) answer.old answer.new result }
+    ensures { Tells number_row (of_result (bank (plan a b d) (at i j))) answer.old answer.new result }
 {
     tell_counted(plan_of(a, b, d).bank(i, j), answer)
 }
@@ -64,7 +61,7 @@ pub extern "C" fn bankplan_depth(
     h: u32,
     answer: &mut [u64; 12],
 ) -> u64
-    ensures { Tells number_row (of_counted (depth (plan a b d) w h)) answer.old answer.new result }
+    ensures { Tells number_row (of_result (depth (plan a b d) w h)) answer.old answer.new result }
 {
     tell_counted(plan_of(a, b, d).depth(w, h), answer)
 }
@@ -81,7 +78,7 @@ pub extern "C" fn bankplan_address(
     j: i16,
     answer: &mut [u64; 12],
 ) -> u64
-    ensures { Tells number_row (of_counted (address (plan a b d) w h (at i j))) answer.old answer.new result }
+    ensures { Tells number_row (of_result (address (plan a b d) w h (at i j))) answer.old answer.new result }
 {
     tell_counted(plan_of(a, b, d).address(w, h, i, j), answer)
 }
@@ -119,7 +116,7 @@ pub extern "C" fn bankplan_read_book(
 {
     let reading = read_book(s);
     let outcome = reading.outcome;
-    if let Outcome::Refused(r) = outcome {
+    if let Err(r) = outcome {
         return tell_refusal(r, answer);
     }
     let record = reading.book;
@@ -132,10 +129,10 @@ pub extern "C" fn bankplan_read_book(
 // The place and the length of pattern n's part of a book's bytes.
 #[unsafe(no_mangle)]
 pub extern "C" fn bankplan_pattern_part(s: &[u8], n: usize, answer: &mut [u64; 12]) -> u64
-    ensures { Tells (λ x. part_place s.now n ∷ length (pattern_part s.now n) ∷ []) (of_outcome (part_outcome s.now n)) answer.old answer.new result }
+    ensures { Tells (λ x. part_place s.now n ∷ length (pattern_part s.now n) ∷ []) (of_result (part_outcome s.now n)) answer.old answer.new result }
 {
     let outcome = part_outcome(s, n);
-    if let Outcome::Refused(r) = outcome {
+    if let Err(r) = outcome {
         return tell_refusal(r, answer);
     }
     let part = pattern_part(s, n);
@@ -155,7 +152,7 @@ pub extern "C" fn bankplan_write_book(
     out: &mut [u8],
     answer: &mut [u64; 12],
 ) -> u64
-    ensures told { Tells number_row (of_counted (write_book (flat_book columns.now rows.now used.now count) out.old).answer) answer.old answer.new result }
+    ensures told { Tells number_row (of_result (write_book (flat_book columns.now rows.now used.now count) out.old).answer) answer.old answer.new result }
     ensures out { out.new ≡ (write_book (flat_book columns.now rows.now used.now count) out.old).content }
 {
     let record = book_of(columns, rows, used, count);
@@ -171,7 +168,7 @@ pub extern "C" fn bankplan_test_record(
     count: usize,
     answer: &mut [u64; 12],
 ) -> u64
-    ensures { Tells no_row (of_outcome (record_outcome (flat_book columns.now rows.now used.now count))) answer.old answer.new result }
+    ensures { Tells no_row (of_result (record_outcome (flat_book columns.now rows.now used.now count))) answer.old answer.new result }
 {
     tell_outcome(record_outcome(book_of(columns, rows, used, count)), answer)
 }
@@ -187,7 +184,7 @@ pub extern "C" fn bankplan_find(
     limit: u32,
     answer: &mut [u64; 12],
 ) -> u64
-    ensures { Tells plan_row (of_planned (find (flat_book columns.now rows.now used.now count) r limit)) answer.old answer.new result }
+    ensures { Tells plan_row (of_result (find (flat_book columns.now rows.now used.now count) r limit)) answer.old answer.new result }
 {
     tell_planned(find(book_of(columns, rows, used, count), r, limit), answer)
 }

@@ -1,7 +1,7 @@
 // The record list: a slice of records laid out as C does.
 ghost use Rattle.std.specs.Prelude.{◌≡◌};
 ghost use Rattle.scope.specs.Plans.{plan};
-ghost use Rattle.scope.specs.Numbers.{of_outcome};
+ghost use Rattle.scope.specs.Numbers.{of_result};
 ghost use Rattle.scope.specs.Calls.{fill_records};
 ghost use Rattle.capi.specs.Told.{Tells, no_row};
 
@@ -21,7 +21,7 @@ pub extern "C" fn bankplan_fill_records(
     list: &mut [PixelRecord],
     answer: &mut [u64; 12],
 ) -> u64
-    ensures { Tells no_row (of_outcome (fill_records (plan a b d) w h list.old).answer) answer.old answer.new result × (list.new ≡ (fill_records (plan a b d) w h list.old).content) }
+    ensures { Tells no_row (of_result (fill_records (plan a b d) w h list.old).answer) answer.old answer.new result × (list.new ≡ (fill_records (plan a b d) w h list.old).content) }
 {
     tell_outcome(fill_records(plan_of(a, b, d), w, h, list), answer)
 }

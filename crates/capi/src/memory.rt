@@ -1,7 +1,7 @@
 // The calls on a picture: the memory is a slice of 16-bit words, the sums of its banks one of 64-bit numbers.
 ghost use Rattle.std.specs.Prelude.{◌≡◌};
 ghost use Rattle.scope.specs.Plans.{at, plan};
-ghost use Rattle.scope.specs.Numbers.{of_counted, of_fetch, of_loaded, of_outcome};
+ghost use Rattle.scope.specs.Numbers.{of_result, of_fetch};
 ghost use Rattle.scope.specs.Calls.{lent, store, load, clear, sum, make_sums, read_sum, fetch, ring_fetch};
 ghost use Rattle.capi.specs.Told.{Tells, number_row, no_row};
 ghost use Rattle.capi.specs.Flat.{flat_book};
@@ -25,7 +25,7 @@ pub extern "C" fn bankplan_store(
     x: u16,
     answer: &mut [u64; 12],
 ) -> u64
-    ensures told { Tells no_row (of_outcome (store (plan a b d) w h (lent mem.old sums.old) (at i j) x).answer) answer.old answer.new result }
+    ensures told { Tells no_row (of_result (store (plan a b d) w h (lent mem.old sums.old) (at i j) x).answer) answer.old answer.new result }
     ensures left { lent mem.new sums.new ≡ (store (plan a b d) w h (lent mem.old sums.old) (at i j) x).content }
 {
     tell_outcome(store(plan_of(a, b, d), w, h, mem, sums, i, j, x), answer)
@@ -44,7 +44,7 @@ pub extern "C" fn bankplan_load(
     j: i16,
     answer: &mut [u64; 12],
 ) -> u64
-    ensures { Tells number_row (of_loaded (load (plan a b d) w h mem.now (at i j))) answer.old answer.new result }
+    ensures { Tells number_row (of_result (load (plan a b d) w h mem.now (at i j))) answer.old answer.new result }
 {
     tell_loaded(load(plan_of(a, b, d), w, h, mem, i, j), answer)
 }
@@ -62,7 +62,7 @@ pub extern "C" fn bankplan_clear(
     k: u64,
     answer: &mut [u64; 12],
 ) -> u64
-    ensures told { Tells no_row (of_outcome (clear (plan a b d) w h (lent mem.old sums.old) k).answer) answer.old answer.new result }
+    ensures told { Tells no_row (of_result (clear (plan a b d) w h (lent mem.old sums.old) k).answer) answer.old answer.new result }
     ensures left { lent mem.new sums.new ≡ (clear (plan a b d) w h (lent mem.old sums.old) k).content }
 {
     tell_outcome(clear(plan_of(a, b, d), w, h, mem, sums, k), answer)
@@ -80,7 +80,7 @@ pub extern "C" fn bankplan_sum(
     k: u64,
     answer: &mut [u64; 12],
 ) -> u64
-    ensures { Tells number_row (of_counted (sum (plan a b d) w h mem.now k)) answer.old answer.new result }
+    ensures { Tells number_row (of_result (sum (plan a b d) w h mem.now k)) answer.old answer.new result }
 {
     tell_counted(sum(plan_of(a, b, d), w, h, mem, k), answer)
 }
@@ -97,7 +97,7 @@ pub extern "C" fn bankplan_make_sums(
     sums: &mut [u64],
     answer: &mut [u64; 12],
 ) -> u64
-    ensures told { Tells no_row (of_outcome (make_sums (plan a b d) w h (lent mem.now sums.old)).answer) answer.old answer.new result }
+    ensures told { Tells no_row (of_result (make_sums (plan a b d) w h (lent mem.now sums.old)).answer) answer.old answer.new result }
     ensures left { lent mem.now sums.new ≡ (make_sums (plan a b d) w h (lent mem.now sums.old)).content }
 {
     tell_outcome(make_sums(plan_of(a, b, d), w, h, mem, sums), answer)
@@ -113,7 +113,7 @@ pub extern "C" fn bankplan_read_sum(
     k: u64,
     answer: &mut [u64; 12],
 ) -> u64
-    ensures { Tells number_row (of_counted (read_sum (plan a b d) sums.now k)) answer.old answer.new result }
+    ensures { Tells number_row (of_result (read_sum (plan a b d) sums.now k)) answer.old answer.new result }
 {
     tell_counted(read_sum(plan_of(a, b, d), sums, k), answer)
 }

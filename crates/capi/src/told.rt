@@ -1,16 +1,13 @@
 // Answers told in numbers.
 ghost use Rattle.std.specs.Prelude.{◌≡◌, ◌∷◌, suc, length, take};
-ghost use Rattle.scope.specs.Numbers.{number_of, place_of, clash_of, of_planned, of_counted, of_loaded, of_located, of_outcome, of_check, of_fetch};
+ghost use Rattle.scope.specs.Numbers.{number_of, place_of, clash_of, of_result, of_located, of_check, of_fetch};
 ghost use Rattle.pictures.specs.Lists.{clash_numbers};
 ghost use Rattle.capi.specs.Told.{Tells, placed_at, plan_row, checked_row, number_row, pixel_row, no_row, put_from, of_listed, of_found_run};
 
 use claims::FoundRun;
 use integers::size;
 use pictures::Listed;
-use scope::{
-    CheckAnswer, Counted, FetchAnswer, Loaded, Located, Outcome, Plan, Planned, Refusal, Row,
-    Verdict, row_of,
-};
+use scope::{CheckAnswer, FetchAnswer, Plan, Refusal, Row, Verdict, row_of};
 
 // A refusal's number; its place and its clash go to the array.
 pub(crate) fn tell_refusal(r: Refusal, answer: &mut [u64; 12]) -> u64
@@ -36,15 +33,15 @@ fn put_plan(p: Plan, answer: &mut [u64; 12])
 }
 
 // A plan's numbers, or the refusal.
-pub(crate) fn tell_planned(p: Planned, answer: &mut [u64; 12]) -> u64
-    ensures { Tells plan_row (of_planned p) answer.old answer.new result }
+pub(crate) fn tell_planned(p: Result<Plan, Refusal>, answer: &mut [u64; 12]) -> u64
+    ensures { Tells plan_row (of_result p) answer.old answer.new result }
 {
     match p {
-        Planned::Plan(q) => {
+        Ok(q) => {
             put_plan(q, answer);
             0
         }
-        Planned::Refused(r) => tell_refusal(r, answer),
+        Err(r) => tell_refusal(r, answer),
     }
 }
 
@@ -101,63 +98,63 @@ pub(crate) fn tell_fetch(a: FetchAnswer, r: u32, answer: &mut [u64; 12]) -> u64
     let counted = a.counted;
     let positions = a.positions;
     match counted {
-        Counted::Number(n) => {
+        Ok(n) => {
             answer[0] = n;
             0
         }
-        Counted::Refused(f) => tell_clash(f, positions, r, answer),
+        Err(f) => tell_clash(f, positions, r, answer),
     }
 }
 
 // A number, or the refusal.
-pub(crate) fn tell_counted(c: Counted, answer: &mut [u64; 12]) -> u64
-    ensures { Tells number_row (of_counted c) answer.old answer.new result }
+pub(crate) fn tell_counted(c: Result<u64, Refusal>, answer: &mut [u64; 12]) -> u64
+    ensures { Tells number_row (of_result c) answer.old answer.new result }
 {
     match c {
-        Counted::Number(x) => {
+        Ok(x) => {
             answer[0] = x;
             0
         }
-        Counted::Refused(r) => tell_refusal(r, answer),
+        Err(r) => tell_refusal(r, answer),
     }
 }
 
 // A word, or the refusal.
-pub(crate) fn tell_loaded(l: Loaded, answer: &mut [u64; 12]) -> u64
-    ensures { Tells number_row (of_loaded l) answer.old answer.new result }
+pub(crate) fn tell_loaded(l: Result<u16, Refusal>, answer: &mut [u64; 12]) -> u64
+    ensures { Tells number_row (of_result l) answer.old answer.new result }
 {
     match l {
-        Loaded::Word(x) => {
+        Ok(x) => {
             answer[0] = x as u64;
             0
         }
-        Loaded::Refused(r) => tell_refusal(r, answer),
+        Err(r) => tell_refusal(r, answer),
     }
 }
 
 // A pixel's column and row without their signs, or the refusal.
-pub(crate) fn tell_located(l: Located, answer: &mut [u64; 12]) -> u64
+pub(crate) fn tell_located(l: Result<(i16, i16), Refusal>, answer: &mut [u64; 12]) -> u64
     ensures { Tells pixel_row (of_located l) answer.old answer.new result }
 {
     match l {
-        Located::Pixel(i, j) => {
+        Ok((i, j)) => {
             let column = size(i);
             let row = size(j);
             answer[0] = column;
             answer[1] = row;
             0
         }
-        Located::Refused(r) => tell_refusal(r, answer),
+        Err(r) => tell_refusal(r, answer),
     }
 }
 
 // Only that it was done, or the refusal.
-pub(crate) fn tell_outcome(o: Outcome, answer: &mut [u64; 12]) -> u64
-    ensures { Tells no_row (of_outcome o) answer.old answer.new result }
+pub(crate) fn tell_outcome(o: Result<(), Refusal>, answer: &mut [u64; 12]) -> u64
+    ensures { Tells no_row (of_result o) answer.old answer.new result }
 {
     match o {
-        Outcome::Done => 0,
-        Outcome::Refused(r) => tell_refusal(r, answer),
+        Ok(()) => 0,
+        Err(r) => tell_refusal(r, answer),
     }
 }
 

@@ -10,7 +10,7 @@ use Rattle.scope.specs.Search.{first_of}
 use Rattle.scope.specs.Numbers.{Answer, value, refusal, number_of, place_of, clash_of, turned_down}
 use Rattle.scope.specs.Plans.{pattern_at}
 use Rattle.scope.specs.Numbers.{record_test, cycles_test, plan_test, sides_test, memory_test, sums_test, number_test, suits_test}
-use Rattle.scope.specs.Calls.{Result, answered, changed, book_test, picture_test, lent_test, fetch_first, fetch_start, cycles_first}
+use Rattle.scope.specs.Calls.{After, answered, changed, book_test, picture_test, lent_test, fetch_first, fetch_start, cycles_first}
 use Rattle.scope.specs.promises.Meaning.{ChainIsFirst}
 use Rattle.scope.specs.declared.Book.{Book}
 use Rattle.scope.specs.Cycles.{LongClash}
@@ -68,12 +68,12 @@ module _ {A : Type 0} where
   refusal_clash e = cc
 
 -- A call gives this answer and leaves this content.
-abbrev pub Gives : {X Y : Type 0} → Result X Y → X → Y → Type 0
+abbrev pub Gives : {X Y : Type 0} → After X Y → X → Y → Type 0
 Gives result answer content = (answer ≡ result.answer) × (content ≡ result.content)
 
 pub same_gives :
-    {X Y : Type 0} {R S : Result X Y} {answer : X} {content : Y} → R ≡ S → Gives R answer content → Gives S answer content
-same_gives {X} {Y} e (answer, content) = (answer ∙ ap (λ (R : Result X Y). R.answer) e, content ∙ ap (λ (R : Result X Y). R.content) e)
+    {X Y : Type 0} {R S : After X Y} {answer : X} {content : Y} → R ≡ S → Gives R answer content → Gives S answer content
+same_gives {X} {Y} e (answer, content) = (answer ∙ ap (λ (R : After X Y). R.answer) e, content ∙ ap (λ (R : After X Y). R.content) e)
 
 -- A call that changes what it was lent: its answer and the content, each as of a call that gives only that.
 module _ {X Y : Type 0} (t : Option Refusal) (refused : Refusal → X) (old : Y) (x : X) (new : Y) where

@@ -1,6 +1,7 @@
 -- A legal call, of the test of a record, the writer or plans, is never refused, and a refused call leaves what it was lent
 -- as it was.
 -- Assumes nothing.
+use Rattle.std.specs.Prelude.{Ok, Err}
 use Prim.Native.Nat.{ℕ, ◌≤◌}
 use mathlib.Core.Path.{◌≡◌, ap}
 use mathlib.Core.Logic.{◌↔◌}
@@ -13,7 +14,7 @@ use Rattle.scope.specs.Search.{first_of}
 use Rattle.scope.specs.Plans.{Pixel, pattern_at, pixels, determinant_size, normal_form}
 use Rattle.scope.specs.Banks.{bank_of, address_of, depth_of, word_in, over_start}
 use Rattle.scope.specs.Books.{book_bytes}
-use Rattle.scope.specs.Numbers.{value, refusal, of_planned, of_counted, of_fetch, of_outcome, record_test, plan_test, sides_test, outside_test}
+use Rattle.scope.specs.Numbers.{value, refusal, of_result, of_fetch, record_test, plan_test, sides_test, outside_test}
 use Rattle.scope.specs.Numbers.{output_test}
 use Rattle.scope.specs.Calls.{changed, record_outcome, write_book, normal, bank, depth, address, store, clear}
 use Rattle.scope.specs.Calls.{size_of, lent_test, store_test, clear_test, make_sums, moved, pixels_read, beside_clash, fetch_first, fetch_test, fetch_rest, either_fetch, fetch, ring_fetch, cycles_first, write_cycles_test, write_cycles, record_pixel, placed, fill_records}
@@ -23,9 +24,6 @@ use Rattle.scope.specs.declared.Plan.{Plan}
 use Rattle.scope.specs.declared.Book.{Book}
 use Rattle.scope.specs.Cycles.{LongClash, cycles}
 use Rattle.scope.specs.declared.Refusal.{Refusal}
-use Rattle.scope.specs.declared.Planned.{Planned}
-use Rattle.scope.specs.declared.Counted.{Counted}
-use Rattle.scope.specs.declared.Outcome.{Outcome}
 use Rattle.checks.proofs.Chains.{value_not_refusal, answered_none, changed_none_answer, refusal_keeps_content}
 use Rattle.checks.proofs.ClashAnswers.{with_refusal}
 use Rattle.checks.proofs.Booleans.{last_test, test_before}
@@ -51,45 +49,45 @@ pub fill_test_iff :
 fill_test_iff p W H vs =
     (test_before (plan_legal_iff p) (test_before (sides_legal_iff W H) (last_test (all_inside_iff W H vs)))).iff
 
-record_answers : (book : Book) → IsBook book → of_outcome (record_outcome book) ≡ value tt
+record_answers : (book : Book) → IsBook book → of_result (record_outcome book) ≡ value tt
 unfolding record_outcome
 record_answers book legal =
-    ap of_outcome (answered_none (record_test book) Outcome.Refused Outcome.Done ((book_legal_iff book).1 legal))
+    ap of_result (answered_none (record_test book) Err (Ok tt) ((book_legal_iff book).1 legal))
 
 write_answers :
     (book : Book) (out : List ℕ) → IsBook book → length (book_bytes book) ≤ length out
-    → of_counted (write_book book out).answer ≡ value (length (book_bytes book))
+    → of_result (write_book book out).answer ≡ value (length (book_bytes book))
 unfolding write_book
 write_answers book out legal room =
-    ap of_counted
-    (changed_none_answer _ Counted.Refused out (Counted.Number (length (book_bytes book))) (over_start (book_bytes book) out)
+    ap of_result
+    (changed_none_answer _ Err out (Ok (length (book_bytes book))) (over_start (book_bytes book) out)
     ((write_test_iff book (length out)).1 (legal, room)))
 
-normal_answers : (x y : Pixel) → Independent x y → determinant_size x y ≤ 1024 → of_planned (normal x y) ≡ value (normal_form x y)
+normal_answers : (x y : Pixel) → Independent x y → determinant_size x y ≤ 1024 → of_result (normal x y) ≡ value (normal_form x y)
 unfolding normal
 normal_answers x y independent small =
-    ap of_planned
-    (answered_none _ Planned.Refused (Planned.Plan (normal_form x y))
+    ap of_result
+    (answered_none _ Err (Ok (normal_form x y))
     ((test_before (independent_iff x y) (last_test (size_within_iff x y))).iff.1 (independent, small)))
 
-pub bank_answers : (p : Plan) (v : Pixel) → IsPlan p → of_counted (bank p v) ≡ value (bank_of p v)
+pub bank_answers : (p : Plan) (v : Pixel) → IsPlan p → of_result (bank p v) ≡ value (bank_of p v)
 unfolding bank
-bank_answers p v plan = ap of_counted (answered_none _ Counted.Refused (Counted.Number (bank_of p v)) ((plan_legal_iff p).1 plan))
+bank_answers p v plan = ap of_result (answered_none _ Err (Ok (bank_of p v)) ((plan_legal_iff p).1 plan))
 
-depth_answers : (p : Plan) (W H : ℕ) → IsPlan p → IsSide W → IsSide H → of_counted (depth p W H) ≡ value (depth_of p W H)
+depth_answers : (p : Plan) (W H : ℕ) → IsPlan p → IsSide W → IsSide H → of_result (depth p W H) ≡ value (depth_of p W H)
 unfolding depth
 depth_answers p W H plan w h =
-    ap of_counted
-    (answered_none _ Counted.Refused (Counted.Number (depth_of p W H))
+    ap of_result
+    (answered_none _ Err (Ok (depth_of p W H))
     ((test_before (plan_legal_iff p) (last_test (sides_legal_iff W H))).iff.1 (plan, (w, h))))
 
 address_answers :
     (p : Plan) (W H : ℕ) (v : Pixel) → IsPlan p → IsSide W → IsSide H → Inside W H v
-    → of_counted (address p W H v) ≡ value (address_of p W H v)
+    → of_result (address p W H v) ≡ value (address_of p W H v)
 unfolding address
 address_answers p W H v plan w h inside =
-    ap of_counted
-    (answered_none _ Counted.Refused (Counted.Number (address_of p W H v))
+    ap of_result
+    (answered_none _ Err (Ok (address_of p W H v))
     ((fill_test_iff p W H (v ∷ [])).1 (plan, ((w, h), one_inside W H v inside))))
 
 -- A legal call, of the test of a record, the writer or plans, gives its value.
@@ -107,26 +105,26 @@ legal_calls_answer =
 -- a call that counts, and one that tells only that it was done
 counted_unchanged :
     (t : Option Refusal) (old : List ℕ) (count : ℕ) (new : List ℕ) (n i : ℕ) (c : Option LongClash)
-    → of_counted (changed t Counted.Refused old (Counted.Number count) new).answer ≡ refusal n i c
-    → (changed t Counted.Refused old (Counted.Number count) new).content ≡ old
+    → of_result (changed t Err old (Ok count) new).answer ≡ refusal n i c
+    → (changed t Err old (Ok count) new).content ≡ old
 counted_unchanged t old count new n i c e =
-    refusal_keeps_content of_counted t Counted.Refused old (Counted.Number count) new n i c e value_not_refusal
+    refusal_keeps_content of_result t Err old (Ok count) new n i c e value_not_refusal
 
 done_unchanged :
     {Y : Type 0} (t : Option Refusal) (old new : Y) (n i : ℕ) (c : Option LongClash)
-    → of_outcome (changed t Outcome.Refused old Outcome.Done new).answer ≡ refusal n i c
-    → (changed t Outcome.Refused old Outcome.Done new).content ≡ old
-done_unchanged t old new n i c e = refusal_keeps_content of_outcome t Outcome.Refused old Outcome.Done new n i c e value_not_refusal
+    → of_result (changed t Err old (Ok tt) new).answer ≡ refusal n i c
+    → (changed t Err old (Ok tt) new).content ≡ old
+done_unchanged t old new n i c e = refusal_keeps_content of_result t Err old (Ok tt) new n i c e value_not_refusal
 
 -- and one that counts beside a clash
 beside_unchanged :
     (before : Option Refusal) (r : ℕ) (p : Plan) (book : Book) (m : ℕ) (t : Option Refusal) (old : List ℕ) (count : ℕ) (new : List ℕ)
     (n i : ℕ) (c : Option LongClash)
-    → of_fetch r (beside_clash before r p book m (changed t Counted.Refused old (Counted.Number count) new)).answer ≡ refusal n i c
-    → (beside_clash before r p book m (changed t Counted.Refused old (Counted.Number count) new)).content ≡ old
+    → of_fetch r (beside_clash before r p book m (changed t Err old (Ok count) new)).answer ≡ refusal n i c
+    → (beside_clash before r p book m (changed t Err old (Ok count) new)).content ≡ old
 unfolding beside_clash
 beside_unchanged before r p book m t old count new n i c e =
-    let inner = with_refusal _ (of_counted (changed t Counted.Refused old (Counted.Number count) new).answer) n i c e in
+    let inner = with_refusal _ (of_result (changed t Err old (Ok count) new).answer) n i c e in
     counted_unchanged t old count new n i inner.0 inner.1
 
 either_unchanged :

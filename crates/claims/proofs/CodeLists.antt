@@ -1,5 +1,6 @@
 -- Demand 3 of a list that the code made under the finder's plan.
 -- Assumes nothing.
+use Rattle.std.specs.Prelude.{Result, Ok, Err}
 use Prim.Native.Nat.{ℕ}
 use native.Mathlib.Omega.{arith}
 use mathlib.Core.Path.{◌≡◌, refl, sym, ◌∙◌, ap, ap₂, subst}
@@ -7,12 +8,11 @@ use mathlib.Core.List.{List, [], ◌∷◌, ◌++◌, flat_map, append_assoc}
 use lib.ListN.{get_or, drop}
 use Rattle.scope.specs.Search.{state_after, replies_of}
 use Rattle.scope.specs.Banks.{word_in, over_start}
-use Rattle.scope.specs.Numbers.{value, of_planned}
-use Rattle.scope.specs.Calls.{Result, Lent, size_of, find}
+use Rattle.scope.specs.Numbers.{value, of_result}
+use Rattle.scope.specs.Calls.{After, Lent, size_of, find}
 use Rattle.scope.specs.promises.Demand.{Call, Reply, Setting, after, run, replies, picture_words, ListHolds}
 use Rattle.scope.specs.declared.Book.{Book}
 use Rattle.scope.specs.declared.Plan.{Plan}
-use Rattle.scope.specs.declared.Planned.{Planned}
 use Rattle.scope.specs.declared.Refusal.{Refusal}
 use Rattle.checks.proofs.CallLists.{state_after_append}
 use Rattle.checks.proofs.Chains.{Gives}
@@ -67,28 +67,28 @@ refused_not_ran : {r : Refusal} {p : Plan} {l : Listed} → FoundRun.Refused r �
 refused_not_ran e = let z : ◌≡◌ {A = ℕ} 0 1 = cc in omega arith
 
 -- The contract, by the finder's answer: a plan and the list under it,
-module _ (book : Book) (r limit W H : ℕ) (numbers : List ℕ) (b : Buffers) {planned : Planned} (is : planned ≡ find book r limit) where
+module _ (book : Book) (r limit W H : ℕ) (numbers : List ℕ) (b : Buffers) {planned : Result Plan Refusal} (is : planned ≡ find book r limit) where
   abbrev Kept : FoundRun → Buffers → Type 0
   Kept x left =
       (x ≡ (find_and_run book r limit W H numbers b).answer)
       × ((left ≡ (find_and_run book r limit W H numbers b).content) × Demanded x book r W H numbers b left)
 
-  by_answer : {q : Planned} → planned ≡ q → find_and_run book r limit W H numbers b ≡ ran_for q book r W H numbers b
+  by_answer : {q : Result Plan Refusal} → planned ≡ q → find_and_run book r limit W H numbers b ≡ ran_for q book r W H numbers b
   unfolding find_and_run
-  by_answer e = ap (λ (q : Planned). ran_for q book r W H numbers b) (sym is ∙ e)
+  by_answer e = ap (λ (q : Result Plan Refusal). ran_for q book r W H numbers b) (sym is ∙ e)
 
   pub plan_kept :
-      {p : Plan} {listed : Listed} {left : Buffers} → planned ≡ Planned.Plan p
+      {p : Plan} {listed : Listed} {left : Buffers} → planned ≡ Ok p
       → Gives (run_list (setting book r p W H) numbers b) listed left
       → Kept (FoundRun.Ran p listed) left
   unfolding ran_for
   plan_kept {p} {listed} {left} found (answer, content) = (
-    ap (FoundRun.Ran p) answer ∙ ap (λ (x : Result FoundRun Buffers). x.answer) (sym (by_answer found)),
+    ap (FoundRun.Ran p) answer ∙ ap (λ (x : After FoundRun Buffers). x.answer) (sym (by_answer found)),
     (
-      content ∙ ap (λ (x : Result FoundRun Buffers). x.content) (sym (by_answer found)),
+      content ∙ ap (λ (x : After FoundRun Buffers). x.content) (sym (by_answer found)),
       λ q ran enough zeros.
           let same : p ≡ q = same_plan ran in
-          let plan : of_planned (find book r limit) ≡ value q = ap of_planned (sym is ∙ found ∙ ap Planned.Plan same) in
+          let plan : of_result (find book r limit) ≡ value q = ap of_result (sym is ∙ found ∙ ap Ok same) in
           demand_met (setting book r q W H) numbers b left
           (content
           ∙ made_left (setting book r p W H) numbers b (sym (same_listed ran) ∙ answer)
@@ -98,11 +98,11 @@ module _ (book : Book) (r limit W H : ℕ) (numbers : List ℕ) (b : Buffers) {p
   )
 
   -- or its refusal.
-  pub refusal_kept : {f : Refusal} → planned ≡ Planned.Refused f → Kept (FoundRun.Refused f) b
+  pub refusal_kept : {f : Refusal} → planned ≡ Err f → Kept (FoundRun.Refused f) b
   unfolding ran_for
   refusal_kept found = (
-    ap (λ (x : Result FoundRun Buffers). x.answer) (sym (by_answer found)),
-    (ap (λ (x : Result FoundRun Buffers). x.content) (sym (by_answer found)), λ q ran enough zeros. absurd (refused_not_ran ran)),
+    ap (λ (x : After FoundRun Buffers). x.answer) (sym (by_answer found)),
+    (ap (λ (x : After FoundRun Buffers). x.content) (sym (by_answer found)), λ q ran enough zeros. absurd (refused_not_ran ran)),
   )
 
 -- So the third clause of the contract follows from the first two.
@@ -117,9 +117,9 @@ module _ (book : Book) (r limit W H : ℕ) (numbers : List ℕ) (b : Buffers) (x
       subst (λ (s : FoundRun). Demanded s book r W H numbers b left) (a ∙ sym answer)
       (subst (λ (l : Buffers). Demanded s book r W H numbers b l) (c ∙ sym content) demand)
 
-  by_found : (q : Planned) → find book r limit ≡ q → (s : FoundRun) × (l : Buffers) × KeptOf s l
-  by_found (Planned.Plan p) found = (_, _, plan_kept book r limit W H numbers b refl found (refl, refl))
-  by_found (Planned.Refused f) found = (_, _, refusal_kept book r limit W H numbers b refl found)
+  by_found : (q : Result Plan Refusal) → find book r limit ≡ q → (s : FoundRun) × (l : Buffers) × KeptOf s l
+  by_found (Ok p) found = (_, _, plan_kept book r limit W H numbers b refl found (refl, refl))
+  by_found (Err f) found = (_, _, refusal_kept book r limit W H numbers b refl found)
 
 pub demand_follows : DemandFollows
 demand_follows book r limit W H numbers b x left answer content =

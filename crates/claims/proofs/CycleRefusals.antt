@@ -10,7 +10,7 @@ use mathlib.Core.List.{List, [], ◌∷◌}
 use lib.ListN.{length, take}
 use Rattle.scope.specs.Plans.{Pixel, pixels, pattern_at, determinant_size}
 use Rattle.scope.specs.Cycles.{suits_for, LongClash, shortened, lengthened}
-use Rattle.scope.specs.Numbers.{Answer, refusal, turned_down, with_positions, of_counted, of_verdict, of_check, of_fetch}
+use Rattle.scope.specs.Numbers.{Answer, refusal, turned_down, with_positions, of_result, of_verdict, of_check, of_fetch}
 use Rattle.scope.specs.Numbers.{dependent_test, large_test, plan_test, output_test, suits_test, number_test}
 use Rattle.scope.specs.Calls.{book_test, fewest, check_test, check, moved, edge_test, rest_test, fetch_rest, beside_clash, either_fetch, write_cycles_test, write_cycles}
 use Rattle.scope.specs.promises.Meaning.{IsPlan, AllInside, IsPicture, IsBook, IsCycles, Independent, RingAllowed}
@@ -140,11 +140,11 @@ cycles_beside es {x} h =
     }
 
 -- The least count,
-count_follows : (book : Book) (r : ℕ) → Follows (book_tests book r []) (of_counted (fewest book r))
+count_follows : (book : Book) (r : ℕ) → Follows (book_tests book r []) (of_result (fewest book r))
 unfolding fewest book_test
-count_follows book r = answered_follows of_counted _ (λ f. refl)
+count_follows book r = answered_follows of_result _ (λ f. refl)
 
-pub count_refused : (book : Book) (r : ℕ) → BookRefused book r (of_counted (fewest book r))
+pub count_refused : (book : Book) (r : ℕ) → BookRefused book r (of_result (fewest book r))
 count_refused book r = book_refused (count_follows book r)
 
 -- the check,
@@ -179,11 +179,11 @@ module _ (ring : Bool) (book : Book) (r : ℕ) (p : Plan) (W H : ℕ) (mem : Lis
   told = take (suc r) (either_fetch ring book r p W H mem n o out).answer.positions
 
   abbrev plain : Answer ℕ
-  plain = of_counted (either_fetch ring book r p W H mem n o out).answer.counted
+  plain = of_result (either_fetch ring book r p W H mem n o out).answer.counted
 
   either_follows : Follows (fetch_tests p W H (length mem) book r n edge_and_output) plain
   unfolding either_fetch beside_clash fetch_rest rest_test
-  either_follows = fetch_follows p W H (length mem) book r n (changed_follows of_counted _ _ _ (λ f. refl))
+  either_follows = fetch_follows p W H (length mem) book r n (changed_follows of_result _ _ _ (λ f. refl))
 
   pub either_refused : FetchRefused book r p W H (length mem) n answer
   either_refused = fetch_beside told (fetch_refused book r p W H (length mem) n either_follows)
@@ -221,7 +221,7 @@ module _ (book : Book) (r : ℕ) (p : Plan) (n : ℕ) (out : List ℕ) where
   beside = take (suc r) (write_cycles book r p n out).answer.positions
 
   abbrev counted : Answer ℕ
-  counted = of_counted (write_cycles book r p n out).answer.counted
+  counted = of_result (write_cycles book r p n out).answer.counted
 
   written_follows :
       Follows
@@ -229,7 +229,7 @@ module _ (book : Book) (r : ℕ) (p : Plan) (n : ℕ) (out : List ℕ) where
       (plan_test p ∷ number_test book.count n ∷ suits_test r p n (pattern_at book n) ∷ output_test (pattern_at book n).used (length out) ∷ []))
       counted
   unfolding write_cycles write_cycles_test beside_clash
-  written_follows = cycles_follow book r p n (changed_follows of_counted _ _ _ (λ f. refl))
+  written_follows = cycles_follow book r p n (changed_follows of_result _ _ _ (λ f. refl))
 
   pub written_refused : CyclesRefused book r p n (of_fetch r (write_cycles book r p n out).answer)
   written_refused = cycles_beside beside (cycles_refused book r p n written_follows)

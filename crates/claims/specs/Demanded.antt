@@ -1,30 +1,30 @@
 -- Demand 3 about the code: the finder, then a list of calls under its plan, in the numbers of Lists (pictures).
 -- Assumes nothing.
-use Rattle.std.specs.Prelude.{ℕ, ◌≤◌, ◌<◌, ◌≡◌, length, get_or, take, drop, replicate}
+use Rattle.scope.specs.declared.Refusal.{Refusal}
+use Rattle.std.specs.Prelude.{ℕ, ◌≤◌, ◌<◌, ◌≡◌, length, get_or, take, drop, replicate, Result, Ok, Err}
 use mathlib.Core.List.{List, [], ◌∷◌, ◌++◌, flat_map}
 use Rattle.scope.specs.Plans.{Pixel}
 use Rattle.scope.specs.Banks.{word_of, word_in, over_start}
-use Rattle.scope.specs.Calls.{Result, Lent, size_of, find}
+use Rattle.scope.specs.Calls.{After, Lent, size_of, find}
 use Rattle.scope.specs.promises.Meaning.{Inside}
 use Rattle.scope.specs.promises.Demand.{Call, Reply, Setting, reply_due, last_stored, picture_words, ListHolds}
 use Rattle.scope.specs.declared.Book.{Book}
 use Rattle.scope.specs.declared.Plan.{Plan}
-use Rattle.scope.specs.declared.Planned.{Planned}
 use Rattle.pictures.specs.Lists.{setting, calls_of, output_of, reply_numbers, Buffers, run_list}
 use Rattle.pictures.specs.declared.lists.Listed.{Listed}
 use Rattle.claims.specs.declared.FoundRun.{FoundRun}
 
 -- The finder's answer, and what came of the list under its plan; where it gave none, nothing is changed.
-unfoldable pub ran_for : Planned → Book → ℕ → ℕ → ℕ → List ℕ → Buffers → Result FoundRun Buffers
+unfoldable pub ran_for : Result Plan Refusal → Book → ℕ → ℕ → ℕ → List ℕ → Buffers → After FoundRun Buffers
 unfolding run_list
-ran_for (Planned.Plan p) book r W H numbers b =
+ran_for (Ok p) book r W H numbers b =
     record {
       answer = FoundRun.Ran p (run_list (setting book r p W H) numbers b).answer;
       content = (run_list (setting book r p W H) numbers b).content;
     }
-ran_for (Planned.Refused f) book r W H numbers b = record { answer = FoundRun.Refused f; content = b }
+ran_for (Err f) book r W H numbers b = record { answer = FoundRun.Refused f; content = b }
 
-unfoldable pub find_and_run : Book → ℕ → ℕ → ℕ → ℕ → List ℕ → Buffers → Result FoundRun Buffers
+unfoldable pub find_and_run : Book → ℕ → ℕ → ℕ → ℕ → List ℕ → Buffers → After FoundRun Buffers
 unfolding ran_for find
 find_and_run book r limit W H numbers b = ran_for (find book r limit) book r W H numbers b
 

@@ -7,7 +7,7 @@ ghost use Rattle.claims.specs.Demanded.{find_and_run, Demanded};
 
 use finder::find;
 use pictures::{Listed, run_list};
-use scope::{Book, Plan, Planned, Refusal};
+use scope::{Book, Plan, Refusal};
 
 // The finder's plan and what came of the list under it, or the finder's refusal: then nothing was changed.
 #[derive(Clone, Copy)]
@@ -35,10 +35,10 @@ pub fn find_and_run(
 {
     let planned = find(book, r, limit);
     match planned {
-        Planned::Plan(p) => FoundRun::Ran(
+        Ok(p) => FoundRun::Ran(
             p,
             run_list(book, r, p, w, h, mem, sums, numbers, outs, rows),
         ),
-        Planned::Refused(f) => FoundRun::Refused(f),
+        Err(f) => FoundRun::Refused(f),
     }
 }

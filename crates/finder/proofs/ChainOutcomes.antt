@@ -1,6 +1,7 @@
 -- What a chain of tests finds, test by test, and what a function answers that runs through it: the refusal of the first test that
 -- finds one, else that it is done.
 -- Assumes nothing.
+use Rattle.std.specs.Prelude.{Ok, Err}
 use Prim.Native.Nat.{ℕ, ◌≤◌}
 use mathlib.Core.Path.{◌≡◌, refl, ◌∙◌}
 use mathlib.Core.Bool.{true, false}
@@ -11,7 +12,6 @@ use Rattle.scope.specs.Plans.{is_plan}
 use Rattle.scope.specs.Numbers.{record_test, count_test, cycles_test, plan_test, number_test}
 use Rattle.scope.specs.Calls.{book_test, cycles_first}
 use Rattle.scope.specs.declared.Book.{Book}
-use Rattle.scope.specs.declared.Outcome.{Outcome}
 use Rattle.scope.specs.declared.Pattern.{Pattern}
 use Rattle.scope.specs.declared.Plan.{Plan}
 use Rattle.scope.specs.declared.Refusal.{Refusal}
@@ -33,7 +33,7 @@ module _ {chain t : Option Refusal} {ts : List (Option Refusal)} (left : Left ch
   pub found_here : {f : Refusal} → t ≡ some f → chain ≡ some f
   found_here {f} e = left.is ∙ chain_refuses t ts f e
 
-  pub refused_here : {f : Refusal} → t ≡ some f → Outcome.Refused f ≡ outcome_of chain
+  pub refused_here : {f : Refusal} → t ≡ some f → Err f ≡ outcome_of chain
   refused_here {f} e = answered_by_refusal chain f (found_here e)
 
   pub left_after : t ≡ none → Left chain ts
@@ -41,7 +41,7 @@ module _ {chain t : Option Refusal} {ts : List (Option Refusal)} (left : Left ch
 
   -- the same by the test's condition
   module _ {f : Refusal} {P : Type 0} (test : Decides t f P) where
-    pub refused_unless : (P → ⊥) → Outcome.Refused f ≡ outcome_of chain
+    pub refused_unless : (P → ⊥) → Err f ≡ outcome_of chain
     refused_unless fails = refused_here (test.refuses fails)
 
     pub left_where : P → Left chain ts
@@ -51,12 +51,12 @@ pub nothing_found : {chain : Option Refusal} → Left chain [] → chain ≡ non
 unfolding first_of
 nothing_found left = left.is
 
-pub done_at_end : {chain : Option Refusal} → Left chain [] → Outcome.Done ≡ outcome_of chain
+pub done_at_end : {chain : Option Refusal} → Left chain [] → (Ok tt) ≡ outcome_of chain
 done_at_end {chain} left = answered_by_done chain (nothing_found left)
 
 -- 11 by the code's test of a plan
 module _ {chain : Option Refusal} {ts : List (Option Refusal)} (p : Plan) (left : Left chain (plan_test p ∷ ts)) where
-  pub no_plan_refused : is_plan p ≡ false → Outcome.Refused NotPlan ≡ outcome_of chain
+  pub no_plan_refused : is_plan p ≡ false → Err NotPlan ≡ outcome_of chain
   unfolding plan_test
   no_plan_refused e = refused_here left (demand_fails (is_plan p) NotPlan e)
 
@@ -66,7 +66,7 @@ module _ {chain : Option Refusal} {ts : List (Option Refusal)} (p : Plan) (left 
 
 -- 2 for a pattern's pixel count
 module _ {chain : Option Refusal} {ts : List (Option Refusal)} (n : ℕ) (left : Left chain (count_test 64 n 0 ∷ ts)) where
-  pub count_refused_here : ((1 ≤ n) × (n ≤ 64) → ⊥) → Outcome.Refused (Count 0) ≡ outcome_of chain
+  pub count_refused_here : ((1 ≤ n) × (n ≤ 64) → ⊥) → Err (Count 0) ≡ outcome_of chain
   count_refused_here h = refused_here left (count_refused 64 n 0 h)
 
   pub left_after_count : 1 ≤ n → n ≤ 64 → Left chain ts

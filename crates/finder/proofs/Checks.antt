@@ -11,7 +11,7 @@ use mathlib.Core.List.{List, [], ◌∷◌}
 use lib.ListN.{take}
 use Rattle.scope.specs.Plans.{Pixel, patterns, banks, determinant_size, normal_form}
 use Rattle.scope.specs.Cycles.{suits_all_for, suitable_for, least_count_for, LongClash, shortened, clash_for}
-use Rattle.scope.specs.Numbers.{value, refusal, of_verdict, of_planned, of_check, number_of, with_positions, dependent_test, large_test}
+use Rattle.scope.specs.Numbers.{value, refusal, of_verdict, of_result, of_check, number_of, with_positions, dependent_test, large_test}
 use Rattle.scope.specs.Calls.{find, clash_beside, check_test, judged, check}
 use Rattle.scope.specs.promises.Meaning.{IsPlan, IsBook, IsCycles, Independent}
 use Rattle.scope.specs.promises.PlanPromises.{Excess, SurplusIsExcess, CheckDecides}
@@ -67,7 +67,7 @@ module _ (r : ℕ) (ts : List (List Pixel)) (p : Plan) where
 -- The count of a plan that suits is the finder's and its surplus.
 surplus_of_suiting :
     (book : Book) (r : ℕ) → IsBook book → IsCycles r → (p : Plan) → IsPlan p → suits_all_for r p (patterns book) ≡ true
-    → (q : Plan) × (of_planned (find book r 1024) ≡ value q) × (banks p ≡ banks q + (banks p - least_count_for r (patterns book)))
+    → (q : Plan) × (of_result (find book r 1024) ≡ value q) × (banks p ≡ banks q + (banks p - least_count_for r (patterns book)))
 unfolding banks
 surplus_of_suiting book r legal cycles p is_plan_lem suiting =
     let ts : List (List Pixel) = patterns book in

@@ -1,6 +1,7 @@
 -- What counting tells of a plan on trial: the patterns that a book's cells have are the book's, moved, so a plan suits the book for r
 -- exactly if none of them is crowded.
 -- Assumes nothing.
+use Rattle.std.specs.Prelude.{Ok}
 use Prim.Native.Nat.{ℕ, ◌*◌, ◌≤◌, ◌<◌}
 use native.Mathlib.Omega.{arith}
 use native.Mathlib.Decide.{dec_lt}
@@ -16,7 +17,6 @@ use Rattle.scope.specs.Numbers.{record_test}
 use Rattle.scope.specs.Calls.{found}
 use Rattle.scope.specs.declared.Plan.{Plan}
 use Rattle.scope.specs.declared.Book.{Book}
-use Rattle.scope.specs.declared.Planned.{Planned}
 use Rattle.scope.proofs.MethodAnswers.{holds}
 use Rattle.checks.proofs.Searches.{some_below_none, none_some_below, true-not-false}
 use Rattle.checks.proofs.BookTests.{book_legal_iff}
@@ -77,6 +77,6 @@ module _ {r : ℕ} {cells : List ℕ} {a b d : ℕ} (d_least : 1 ≤ d) (b_below
   unfolding found whenever
   crowded_none h = trial_by_cells h
 
-  pub uncrowded_found : not x ≡ true → Searched (CellTest r cells) (λ test. trial test (a * d) b d) (Planned.Plan (plan a b d))
+  pub uncrowded_found : not x ≡ true → Searched (CellTest r cells) (λ test. trial test (a * d) b d) (Ok (plan a b d))
   unfolding found whenever
   uncrowded_found h = trial_by_cells h

@@ -1,5 +1,6 @@
 -- What the call `find` answers by its search: a plan or 7 for a legal book, r and limit, and neither for any other.
 -- Assumes nothing.
+use Rattle.std.specs.Prelude.{Result, Ok, Err}
 use Prim.Native.Nat.{ℕ, ◌≤◌}
 use mathlib.Core.Path.{◌≡◌, refl, sym, ◌∙◌, ap}
 use mathlib.Core.Logic.Iff
@@ -8,12 +9,11 @@ use mathlib.Core.Option.{Option, none, some}
 use mathlib.Core.List.{[], ◌∷◌}
 use Rattle.scope.specs.Plans.{patterns}
 use Rattle.scope.specs.Cycles.{LongClash, least_plan_for}
-use Rattle.scope.specs.Numbers.{record_test, limit_test, cycles_test, value, refusal, of_planned}
+use Rattle.scope.specs.Numbers.{record_test, limit_test, cycles_test, value, refusal, of_result}
 use Rattle.scope.specs.Calls.{find_test, found, find}
 use Rattle.scope.specs.promises.Meaning.{IsBook, IsCycles}
 use Rattle.scope.specs.declared.Plan.{Plan}
 use Rattle.scope.specs.declared.Book.{Book}
-use Rattle.scope.specs.declared.Planned.{Planned}
 use Rattle.scope.specs.declared.Refusal.{Refusal}
 use Rattle.checks.proofs.Chains.{chain_refuses, value_not_refusal, value_injective, answered_none, gives_refusal, RefusedBy, answered_value, answered_refusal}
 use Rattle.checks.proofs.Booleans.{last_test, test_before}
@@ -22,21 +22,21 @@ use Rattle.checks.proofs.BookTests.{book_legal_iff}
 use Rattle.checks.proofs.RefusalNumbers.{find_refusals}
 
 -- what an answer tells of its search
-found_value : (o : Option Plan) (p : Plan) → of_planned (found o) ≡ value p → o ≡ some p
+found_value : (o : Option Plan) (p : Plan) → of_result (found o) ≡ value p → o ≡ some p
 unfolding found
 found_value none p e = absurd (value_not_refusal (sym e))
 found_value (some q) p e = ap some (value_injective e)
 
-found_refusal : {n i : ℕ} {c : Option LongClash} (o : Option Plan) → of_planned (found o) ≡ refusal n i c → o ≡ none
+found_refusal : {n i : ℕ} {c : Option LongClash} (o : Option Plan) → of_result (found o) ≡ refusal n i c → o ≡ none
 unfolding found
 found_refusal none e = refl
 found_refusal (some p) e = absurd (value_not_refusal e)
 
-pub plan_found : {r : Planned} {p : Plan} (o : Option Plan) → r ≡ found o → r ≡ Planned.Plan p → o ≡ some p
-plan_found {p} o answer e = found_value o p (ap of_planned (sym answer ∙ e))
+pub plan_found : {r : Result Plan Refusal} {p : Plan} (o : Option Plan) → r ≡ found o → r ≡ Ok p → o ≡ some p
+plan_found {p} o answer e = found_value o p (ap of_result (sym answer ∙ e))
 
-pub none_found : {r : Planned} {x : Refusal} (o : Option Plan) → r ≡ found o → r ≡ Planned.Refused x → o ≡ none
-none_found o answer e = found_refusal o (ap of_planned (sym answer ∙ e))
+pub none_found : {r : Result Plan Refusal} {x : Refusal} (o : Option Plan) → r ≡ found o → r ≡ Err x → o ≡ none
+none_found o answer e = found_refusal o (ap of_result (sym answer ∙ e))
 
 -- "A book and a limit are legal if no number but 7 turns them down.", and r is from 1 to 8
 pub record LegalFind (book : Book) (r limit : ℕ) : Type 0 where
@@ -58,43 +58,43 @@ module _ (book : Book) (r limit : ℕ) where
   search = least_plan_for r (patterns book) limit
 
   -- A call that is turned down answers what its tests found, those of the record first.
-  pub find_refused : (f : Refusal) → find_test book r limit ≡ some f → Planned.Refused f ≡ find book r limit
+  pub find_refused : (f : Refusal) → find_test book r limit ≡ some f → Err f ≡ find book r limit
   unfolding find
-  find_refused f e = gives_refusal e Planned.Refused (found search)
+  find_refused f e = gives_refusal e Err (found search)
 
-  pub book_refused : (f : Refusal) → record_test book ≡ some f → Planned.Refused f ≡ find book r limit
+  pub book_refused : (f : Refusal) → record_test book ≡ some f → Err f ≡ find book r limit
   unfolding find_test
   book_refused f e = find_refused f (chain_refuses (record_test book) (limit_test limit ∷ cycles_test r ∷ []) f e)
 
   -- A legal call answers what its search found.
   pub legal_find : LegalFind book r limit → find book r limit ≡ found search
   unfolding find
-  legal_find h = answered_none (find_test book r limit) Planned.Refused (found search) ((legal_find_iff book r limit).1 h)
+  legal_find h = answered_none (find_test book r limit) Err (found search) ((legal_find_iff book r limit).1 h)
 
   -- A plan is answered exactly where the call is legal and the search finds it.
-  pub find_value_iff : (p : Plan) → (of_planned (find book r limit) ≡ value p) ↔ (LegalFind book r limit × (search ≡ some p))
+  pub find_value_iff : (p : Plan) → (of_result (find book r limit) ≡ value p) ↔ (LegalFind book r limit × (search ≡ some p))
   unfolding find found
   find_value_iff p = (there, back)
     where
-      there : of_planned (find book r limit) ≡ value p → LegalFind book r limit × (search ≡ some p)
+      there : of_result (find book r limit) ≡ value p → LegalFind book r limit × (search ≡ some p)
       there e =
-          let t = answered_value of_planned (find_test book r limit) Planned.Refused (found search) p (λ f. refl) e in
+          let t = answered_value of_result (find_test book r limit) Err (found search) p (λ f. refl) e in
           ((legal_find_iff book r limit).0 t.0, found_value search p t.1)
 
-      back : LegalFind book r limit × (search ≡ some p) → of_planned (find book r limit) ≡ value p
-      back (h, e) = ap of_planned (legal_find h ∙ ap found e)
+      back : LegalFind book r limit × (search ≡ some p) → of_result (find book r limit) ≡ value p
+      back (h, e) = ap of_result (legal_find h ∙ ap found e)
 
   -- 7 is answered exactly where the call is legal and the search finds nothing.
-  pub find_none_iff : (of_planned (find book r limit) ≡ refusal 7 0 none) ↔ (LegalFind book r limit × (search ≡ none))
+  pub find_none_iff : (of_result (find book r limit) ≡ refusal 7 0 none) ↔ (LegalFind book r limit × (search ≡ none))
   unfolding find found
-  find_none_iff = (λ e. there (answered_refusal of_planned (find_test book r limit) Planned.Refused (found search) 7 0 none (λ f. refl) e), back)
+  find_none_iff = (λ e. there (answered_refusal of_result (find_test book r limit) Err (found search) 7 0 none (λ f. refl) e), back)
     where
       there :
           RefusedBy (find_test book r limit) 7 0 none
-          ⊎ ((find_test book r limit ≡ none) × (of_planned (found search) ≡ refusal 7 0 none))
+          ⊎ ((find_test book r limit ≡ none) × (of_result (found search) ≡ refusal 7 0 none))
           → LegalFind book r limit × (search ≡ none)
       there (inl t) = absurd (find_refusals book r limit t.0 t.1 t.2)
       there (inr t) = ((legal_find_iff book r limit).0 t.0, found_refusal search t.1)
 
-      back : LegalFind book r limit × (search ≡ none) → of_planned (find book r limit) ≡ refusal 7 0 none
-      back (h, e) = ap of_planned (legal_find h ∙ ap found e)
+      back : LegalFind book r limit × (search ≡ none) → of_result (find book r limit) ≡ refusal 7 0 none
+      back (h, e) = ap of_result (legal_find h ∙ ap found e)

@@ -13,7 +13,7 @@ use Rattle.integers.proofs.Divisions.{ceiling_division}
 use Rattle.scope.specs.Plans.{pattern_at, pixels, patterns, banks, suits_all, normal_form}
 use Rattle.scope.specs.Finding.{clash_in, clash}
 use Rattle.scope.specs.Cycles.{LongClash, lengthened, shortened}
-use Rattle.scope.specs.Numbers.{refusal, of_planned}
+use Rattle.scope.specs.Numbers.{refusal, of_result}
 use Rattle.scope.specs.Calls.{find}
 use Rattle.scope.specs.promises.Meaning.{IsBook}
 use Rattle.scope.specs.promises.CyclePromises.{LeastForCycles}
@@ -45,7 +45,7 @@ least_for_one book legal p l =
     }
 
 -- 7 exactly where no two vectors that part the pixels have a determinant within the limit
-none_parted_iff : (book : Book) (limit : ℕ) → (of_planned (find book 1 limit) ≡ refusal 7 0 none) ↔ NoneParted book limit
+none_parted_iff : (book : Book) (limit : ℕ) → (of_result (find book 1 limit) ≡ refusal 7 0 none) ↔ NoneParted book limit
 none_parted_iff book limit = (
   λ e.
       let w = (finder_none book 1 limit).0 e in

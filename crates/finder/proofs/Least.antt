@@ -6,7 +6,7 @@ use mathlib.Core.Logic.{◌⊎◌, inl, inr}
 use mathlib.Core.Option.{Option, none, some}
 use Rattle.scope.specs.Plans.{patterns}
 use Rattle.scope.specs.Cycles.{least_plan_for}
-use Rattle.scope.specs.Numbers.{value, refusal, of_planned}
+use Rattle.scope.specs.Numbers.{value, refusal, of_result}
 use Rattle.scope.specs.Calls.{find}
 use Rattle.scope.specs.promises.PlanPromises.{FinderIsLeast, FinderNone, FinderDecides, FinderOrder}
 use Rattle.scope.specs.declared.Plan.{Plan}
@@ -25,7 +25,7 @@ finder_decides book r limit legal cycles least most = by_found (least_plan_for r
     h = record { legal_book = legal; limit_least = least; limit_most = most; legal_cycles = cycles }
 
     by_found : (o : Option Plan) → least_plan_for r (patterns book) limit ≡ o
-        → ((p : Plan) × (of_planned (find book r limit) ≡ value p)) ⊎ (of_planned (find book r limit) ≡ refusal 7 0 none)
+        → ((p : Plan) × (of_result (find book r limit) ≡ value p)) ⊎ (of_result (find book r limit) ≡ refusal 7 0 none)
     by_found none e = inr ((find_none_iff book r limit).1 (h, e))
     by_found (some p) e = inl (p, (find_value_iff book r limit p).1 (h, e))
 

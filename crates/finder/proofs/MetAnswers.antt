@@ -1,5 +1,6 @@
 -- What an answer tells of the search behind it, the positions of the clash that it found, and whether a plan suits, test by test.
 -- Assumes nothing.
+use Rattle.std.specs.Prelude.{Result, Ok, Err}
 use Prim.Native.Nat.{ℕ, ◌≤◌, ◌<◌}
 use native.Mathlib.Omega.{arith}
 use mathlib.Core.Path.{◌≡◌, refl, sym, ◌∙◌, ap}
@@ -16,7 +17,6 @@ use Rattle.scope.specs.Banks.{over_start}
 use Rattle.scope.specs.Cycles.{LongClash, shortened, followers, clash_in_for}
 use Rattle.scope.specs.Numbers.{suits_test, places}
 use Rattle.scope.specs.declared.Clash.{Clash}
-use Rattle.scope.specs.declared.Outcome.{Outcome}
 use Rattle.scope.specs.declared.Pattern.{Pattern}
 use Rattle.scope.specs.declared.Plan.{Plan}
 use Rattle.scope.specs.declared.Refusal.{Refusal}
@@ -101,10 +101,10 @@ single_legal_iff p t r =
 
 -- Whether a plan suits a pattern, with the positions of the clash: what these tests found, then what the search found.
 module _ (p : Plan) (n : ℕ) (t : Pattern) (r : ℕ) where
-  abbrev Told : Outcome → List ℕ → Type 0
+  abbrev Told : Result Unit Refusal → List ℕ → Type 0
   Told outcome positions = (outcome ≡ suits_outcome p n t r) × (positions ≡ suits_positions p n t r)
 
-  pub refused_first : {outcome : Outcome} {f : Refusal} → outcome ≡ outcome_of (single_test p t r) → outcome ≡ Outcome.Refused f → Told outcome (replicate 9 0)
+  pub refused_first : {outcome : Result Unit Refusal} {f : Refusal} → outcome ≡ outcome_of (single_test p t r) → outcome ≡ Err f → Told outcome (replicate 9 0)
   unfolding suits_outcome suits_positions places
   refused_first {f} answer refused =
       let found : single_test p t r ≡ some f = refused_found (single_test p t r) answer refused in (
@@ -121,7 +121,7 @@ module _ (p : Plan) (n : ℕ) (t : Pattern) (r : ℕ) where
     unfolding suits_positions
     only_clash = beside_none (single_test p t r) (clash_in_for r p n (pixels t)) passed
 
-    pub suits_clash : (l : LongClash) → clash_in_for r p n (pixels t) ≡ some l → Told (Outcome.Refused (Unsuited (shortened l))) (places (some l))
+    pub suits_clash : (l : LongClash) → clash_in_for r p n (pixels t) ≡ some l → Told (Err (Unsuited (shortened l))) (places (some l))
     unfolding suits_test
     suits_clash l e =
         let found : suits_test r p n t ≡ some (Unsuited (shortened l)) = rw (e, suits_test) in (
@@ -129,7 +129,7 @@ module _ (p : Plan) (n : ℕ) (t : Pattern) (r : ℕ) where
           ap places (sym e) ∙ sym only_clash,
         )
 
-    pub suits_done : clash_in_for r p n (pixels t) ≡ none → Told Outcome.Done (replicate 9 0)
+    pub suits_done : clash_in_for r p n (pixels t) ≡ none → Told (Ok tt) (replicate 9 0)
     unfolding places
     suits_done e = (
       answered_by_done (suits_test r p n t) ((suits_test_none_iff r p n t).1 e) ∙ sym only_10,

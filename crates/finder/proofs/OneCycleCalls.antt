@@ -1,6 +1,7 @@
 -- At r = 1 the finder, the least count, the check and both fetches are what they were without r: 1 is legal, the same plans suit, and
 -- the clash is the same.
 -- Assumes nothing.
+use Rattle.std.specs.Prelude.{Result, Ok, Err}
 use Prim.Native.Nat.{ℕ, ◌-◌}
 use mathlib.Core.Path.{◌≡◌, refl, sym, ◌∙◌, ap, ap₂}
 use mathlib.Core.Bool.{Bool}
@@ -12,8 +13,8 @@ use Rattle.scope.specs.Search.{first_of}
 use Rattle.scope.specs.Plans.{Pixel, pattern_at, pixels, patterns, banks, normal_form}
 use Rattle.scope.specs.Finding.{least_plan, least_count, clash_in, clash}
 use Rattle.scope.specs.Cycles.{LongClash, lengthened, shortened, clash_in_for, clash_for}
-use Rattle.scope.specs.Numbers.{refusal, of_verdict, of_counted, of_check, of_fetch, record_test, limit_test, cycles_test, suits_test, dependent_test, large_test, number_test, output_test, places}
-use Rattle.scope.specs.Calls.{answered, found, find, find_test, book_test, fewest, check_test, judged, check, picture_test, fetch_first, fetch_start, clash_beside, beside_clash, edge_test, moved, rest_test, fetch_rest, either_fetch, Result}
+use Rattle.scope.specs.Numbers.{refusal, of_verdict, of_result, of_check, of_fetch, record_test, limit_test, cycles_test, suits_test, dependent_test, large_test, number_test, output_test, places}
+use Rattle.scope.specs.Calls.{answered, found, find, find_test, book_test, fewest, check_test, judged, check, picture_test, fetch_first, fetch_start, clash_beside, beside_clash, edge_test, moved, rest_test, fetch_rest, either_fetch, After}
 use Rattle.scope.specs.promises.Meaning.{IsBook}
 use Rattle.scope.specs.promises.OneCyclePromises.{find_before, fewest_before, judged_before, check_before, suits_test_before, start_before, fetch_before, OneCycleIsBefore}
 use Rattle.scope.specs.declared.Plan.{Plan}
@@ -22,8 +23,6 @@ use Rattle.scope.specs.declared.Pattern.{Pattern}
 use Rattle.scope.specs.declared.Clash.{Clash}
 use Rattle.scope.specs.declared.Refusal.{Refusal}
 use Rattle.scope.specs.declared.Verdict.{Verdict}
-use Rattle.scope.specs.declared.Planned.{Planned}
-use Rattle.scope.specs.declared.Counted.{Counted}
 use Rattle.checks.proofs.Chains.{value_not_refusal, refusal_clash, RefusedBy, answered_refusal, tests_as_one}
 use Rattle.checks.proofs.Searches.{none_not_some, some_injective}
 use Rattle.checks.proofs.ClashAnswers.{no_clash, same_positions, places_first, beside_none}
@@ -66,16 +65,16 @@ module _ (book : Book) where
   find_one : (limit : ℕ) → find book 1 limit ≡ find_before book limit
   unfolding find find_before
   find_one limit =
-      answered_alike (find_test book 1 limit) Planned.Refused _ _
+      answered_alike (find_test book 1 limit) Err _ _
       (λ e. ap found (least_plan_one book ((legal_find_iff book 1 limit).0 e).legal_book limit))
-      ∙ ap (λ (t : Option Refusal). answered t Planned.Refused (found (least_plan ts limit))) (find_test_one book limit)
+      ∙ ap (λ (t : Option Refusal). answered t Err (found (least_plan ts limit))) (find_test_one book limit)
 
   fewest_one : fewest book 1 ≡ fewest_before book
   unfolding fewest fewest_before
   fewest_one =
-      answered_alike (book_test book 1) Counted.Refused _ _
-      (λ e. ap Counted.Number (least_count_one book ((book_test_iff book 1).0 e).0))
-      ∙ ap (λ (t : Option Refusal). answered t Counted.Refused (Counted.Number (least_count ts))) (book_test_one book)
+      answered_alike (book_test book 1) Err _ _
+      (λ e. ap Ok (least_count_one book ((book_test_iff book 1).0 e).0))
+      ∙ ap (λ (t : Option Refusal). answered t Err (Ok (least_count ts))) (book_test_one book)
 
   -- the verdict on a plan
   judged_one : IsBook book → (p : Plan) → judged 1 ts p ≡ judged_before ts p
@@ -160,7 +159,7 @@ module _ (ring : Bool) (book : Book) (p : Plan) (W H : ℕ) (mem : List ℕ) (n 
   abbrev t : Pattern
   t = pattern_at book n
 
-  abbrev rest : Option Refusal → Result Counted (List ℕ)
+  abbrev rest : Option Refusal → After (Result ℕ Refusal) (List ℕ)
   rest start = fetch_rest start ring t p W H mem o out
 
   same_rest : rest (fetch_start book 1 p W H (length mem) n) ≡ fetch_before ring book p W H mem n o out
@@ -169,16 +168,16 @@ module _ (ring : Bool) (book : Book) (p : Plan) (W H : ℕ) (mem : List ℕ) (n 
 
   fetch_one : (either_fetch ring book 1 p W H mem n o out).answer.counted ≡ (fetch_before ring book p W H mem n o out).answer
   unfolding either_fetch beside_clash
-  fetch_one = ap (λ (x : Result Counted (List ℕ)). x.answer) same_rest
+  fetch_one = ap (λ (x : After (Result ℕ Refusal) (List ℕ)). x.answer) same_rest
 
   fetched_one : (either_fetch ring book 1 p W H mem n o out).content ≡ (fetch_before ring book p W H mem n o out).content
   unfolding either_fetch beside_clash
-  fetched_one = ap (λ (x : Result Counted (List ℕ)). x.content) same_rest
+  fetched_one = ap (λ (x : After (Result ℕ Refusal) (List ℕ)). x.content) same_rest
 
   fetch_answer_one :
-      of_fetch 1 (either_fetch ring book 1 p W H mem n o out).answer ≡ of_counted (fetch_before ring book p W H mem n o out).answer
+      of_fetch 1 (either_fetch ring book 1 p W H mem n o out).answer ≡ of_result (fetch_before ring book p W H mem n o out).answer
   unfolding either_fetch beside_clash fetch_rest fetch_start rest_test shortened
-  fetch_answer_one = same_positions _ (of_counted (either_fetch ring book 1 p W H mem n o out).answer.counted) two_told ∙ ap of_counted fetch_one
+  fetch_answer_one = same_positions _ (of_result (either_fetch ring book 1 p W H mem n o out).answer.counted) two_told ∙ ap of_result fetch_one
     where
       before : Option Refusal
       before = fetch_first book 1 p W H (length mem) n
@@ -199,7 +198,7 @@ module _ (ring : Bool) (book : Book) (p : Plan) (W H : ℕ) (mem : List ℕ) (n 
               let is : lengthened c ≡ k = some_injective (sym (clash_for_one_in p n (pixels t) ∙ ap (map lengthened) h) ∙ e) in
               ap (λ (j : LongClash). lengthened (shortened j)) (sym is) ∙ is
 
-      own : (m i : ℕ) (d : LongClash) → of_counted (rest (fetch_start book 1 p W H (length mem) n)).answer ≡ refusal m i (some d)
+      own : (m i : ℕ) (d : LongClash) → of_result (rest (fetch_start book 1 p W H (length mem) n)).answer ≡ refusal m i (some d)
           → OwnClash book 1 p n d before after d
       own m i d e =
           let k : RefusedBy (first_of (fetch_start book 1 p W H (length mem) n ∷ after)) m i (some d) =
@@ -207,7 +206,7 @@ module _ (ring : Bool) (book : Book) (p : Plan) (W H : ℕ) (mem : List ℕ) (n 
           own_clash book 1 p n d before after (fetch_not_ten book 1 p W H (length mem) n) (rest_not_ten ring p W H (moved t o) t.used (length out)) d
           (rw (sym (tests_as_one [] (before ∷ suits_test 1 p n t ∷ []) after)) at k)
 
-      two_told : (m i : ℕ) (d : LongClash) → of_counted (rest (fetch_start book 1 p W H (length mem) n)).answer ≡ refusal m i (some d)
+      two_told : (m i : ℕ) (d : LongClash) → of_result (rest (fetch_start book 1 p W H (length mem) n)).answer ≡ refusal m i (some d)
           → d.positions ≡ take 2 (clash_beside before found)
       two_told m i d e =
           let w = own m i d e in

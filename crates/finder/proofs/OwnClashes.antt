@@ -1,5 +1,6 @@
 -- The clash for r of its own pattern that a fetch or the cycles are turned down by: the search found it, and the nine places hold it.
 -- Assumes nothing.
+use Rattle.std.specs.Prelude.{Ok, Err}
 use Prim.Native.Nat.{ℕ, suc, ◌≤◌, ◌<◌}
 use native.Mathlib.Omega.{arith}
 use mathlib.Core.Path.{◌≡◌, refl, sym, ◌∙◌, ap, ap₂}
@@ -11,7 +12,7 @@ use lib.ListN.{length, take, drop}
 use Rattle.scope.specs.Search.{first_of}
 use Rattle.scope.specs.Plans.{Pixel, pattern_at, pixels}
 use Rattle.scope.specs.Cycles.{LongClash, lengthened, shortened, clash_in_for}
-use Rattle.scope.specs.Numbers.{refusal, of_counted, of_fetch, number_of, clash_of, suits_test}
+use Rattle.scope.specs.Numbers.{refusal, of_result, of_fetch, number_of, clash_of, suits_test}
 use Rattle.scope.specs.Numbers.{output_test, number_test, places}
 use Rattle.scope.specs.Calls.{changed, clash_beside, moved, edge_test, fetch_first, fetch_start, rest_test, fetch_rest}
 use Rattle.scope.specs.Calls.{book_test, picture_test, beside_clash, either_fetch, cycles_first, write_cycles_test, write_cycles}
@@ -21,7 +22,6 @@ use Rattle.scope.specs.promises.PlanPromises.{ClashOf}
 use Rattle.scope.specs.declared.Plan.{Plan}
 use Rattle.scope.specs.declared.Book.{Book}
 use Rattle.scope.specs.declared.Pattern.{Pattern}
-use Rattle.scope.specs.declared.Counted.{Counted}
 use Rattle.scope.specs.declared.Refusal.{Refusal}
 use Rattle.checks.proofs.Searches.{some_injective}
 use Rattle.checks.proofs.Chains.{value_not_refusal, RefusedBy, chain_some, changed_refusal, tests_as_one}
@@ -80,12 +80,12 @@ NotTen n = n ≡ 10 → ⊥
 -- a call that counts what it puts is refused only by its tests
 pub refused_by_tests :
     (t : Option Refusal) (count : ℕ) (old new : List ℕ) {n i : ℕ} {c : Option LongClash}
-    → of_counted (changed t Counted.Refused old (Counted.Number count) new).answer ≡ refusal n i c
+    → of_result (changed t Err old (Ok count) new).answer ≡ refusal n i c
     → RefusedBy t n i c
 refused_by_tests t count old new {n} {i} {c} h =
-    by_source (changed_refusal of_counted t Counted.Refused old (Counted.Number count) new n i c (λ f. refl) h)
+    by_source (changed_refusal of_result t Err old (Ok count) new n i c (λ f. refl) h)
   where
-    by_source : RefusedBy t n i c ⊎ ((t ≡ none) × (of_counted (Counted.Number count) ≡ refusal n i c)) → RefusedBy t n i c
+    by_source : RefusedBy t n i c ⊎ ((t ≡ none) × (of_result (Ok count) ≡ refusal n i c)) → RefusedBy t n i c
     by_source (inl k) = k
     by_source (inr k) = absurd (value_not_refusal k.1)
 
@@ -126,8 +126,8 @@ module _ (book : Book) (r : ℕ) (p : Plan) (n : ℕ) (c : LongClash) (before : 
 
   clash_of_counted :
       (count : ℕ) (old new : List ℕ) → Numbers NotTen before → ChainNumbers NotTen after → (before ≡ none → BeforeTen book r p n)
-      → of_fetch r (beside_clash before r p book n (changed tests Counted.Refused old (Counted.Number count) new)).answer ≡ refusal 10 0 (some c)
-      → FoundIn book r p n c (beside_clash before r p book n (changed tests Counted.Refused old (Counted.Number count) new)).answer.positions
+      → of_fetch r (beside_clash before r p book n (changed tests Err old (Ok count) new)).answer ≡ refusal 10 0 (some c)
+      → FoundIn book r p n c (beside_clash before r p book n (changed tests Err old (Ok count) new)).answer.positions
   unfolding beside_clash shortened
   clash_of_counted count old new not_before others legal h =
       record { before = b; found = o.found ∙ ap some (sym same); is = is ∙ ap (λ (d : LongClash). places (some d)) (sym same) }
@@ -135,7 +135,7 @@ module _ (book : Book) (r : ℕ) (p : Plan) (n : ℕ) (c : LongClash) (before : 
       nine : List ℕ
       nine = clash_beside before l
 
-      w : ClashWith (take (suc r) nine) (of_counted (changed tests Counted.Refused old (Counted.Number count) new).answer) 10 0 c
+      w : ClashWith (take (suc r) nine) (of_result (changed tests Err old (Ok count) new).answer) 10 0 c
       w = with_clash _ _ 10 0 c h
 
       o : OwnClash w.inner

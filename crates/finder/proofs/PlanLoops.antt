@@ -1,5 +1,6 @@
 -- What a loop over plans answers at the first plan that it finds and at its end, for any tests of plans.
 -- Assumes nothing.
+use Rattle.std.specs.Prelude.{Result, Ok, Err}
 use Prim.Native.Nat.{ℕ, ◌+◌, ◌*◌, ◌/◌, ◌%◌, min, ◌≤◌, ◌<◌}
 use native.Mathlib.Nat.{div-add-mod'}
 use native.Mathlib.Omega.{arith}
@@ -12,7 +13,6 @@ use Rattle.scope.specs.Plans.{plan}
 use Rattle.scope.specs.Finding.{trial, first_with}
 use Rattle.scope.specs.Calls.{found}
 use Rattle.scope.specs.declared.Plan.{Plan}
-use Rattle.scope.specs.declared.Planned.{Planned}
 use Rattle.scope.specs.declared.Refusal.{Refusal}
 use Rattle.checks.proofs.Searches.{found_first, none_first}
 use Rattle.finder.specs.Searching.{least_below, Searched}
@@ -21,11 +21,11 @@ use Rattle.finder.proofs.Narrowing.{SoFar, none_so_far, replaced, kept, best_is_
 use Rattle.finder.proofs.FindAnswers.{plan_found, none_found}
 
 -- the answer of a search that found nothing
-abbrev pub no_plan : Planned
-no_plan = Planned.Refused Refusal.NoPlan
+abbrev pub no_plan : Result Plan Refusal
+no_plan = Err Refusal.NoPlan
 
 -- the answer for what a search found
-found_some : {p : Plan} {o : Option Plan} → o ≡ some p → Planned.Plan p ≡ found o
+found_some : {p : Plan} {o : Option Plan} → o ≡ some p → Ok p ≡ found o
 unfolding found
 found_some e = sym (ap found e)
 
@@ -35,7 +35,7 @@ found_none e = sym (ap found e)
 
 -- what holds for each of some tests holds for fewer
 pub searched_by :
-    {Tests Fewer : (Plan → Bool) → Type 0} {searched : (Plan → Bool) → Option Plan} {r : Planned}
+    {Tests Fewer : (Plan → Bool) → Type 0} {searched : (Plan → Bool) → Option Plan} {r : Result Plan Refusal}
     → ((test : Plan → Bool) → Fewer test → Tests test) → Searched Tests searched r → Searched Fewer searched r
 searched_by among s = record { is = λ test t. s.is test (among test t) }
 
@@ -49,7 +49,7 @@ module _ {Tests : (Plan → Bool) → Type 0} (f : (Plan → Bool) → ℕ → O
 
   -- nor does e, which was turned down
   pub one_more_none :
-      (k e : ℕ) {r : Planned} {x : Refusal} → NoneFrom Tests f k e → Searched Tests (λ test. f test e) r → r ≡ Planned.Refused x
+      (k e : ℕ) {r : Result Plan Refusal} {x : Refusal} → NoneFrom Tests f k e → Searched Tests (λ test. f test e) r → r ≡ Err x
       → NoneFrom Tests f k (e + 1)
   one_more_none k e before here refused = record { each = λ c p q. by_place c p q (ℕ_discrete c e) }
     where
@@ -59,8 +59,8 @@ module _ {Tests : (Plan → Bool) → Type 0} (f : (Plan → Bool) → ℕ → O
 
   -- the first number that gives a plan
   pub found_at :
-      (k n e : ℕ) {r : Planned} {p : Plan} → NoneFrom Tests f k e → k ≤ e → e < k + n → Searched Tests (λ test. f test e) r
-      → r ≡ Planned.Plan p → Searched Tests (λ test. first k n (f test)) r
+      (k n e : ℕ) {r : Result Plan Refusal} {p : Plan} → NoneFrom Tests f k e → k ≤ e → e < k + n → Searched Tests (λ test. f test e) r
+      → r ≡ Ok p → Searched Tests (λ test. first k n (f test)) r
   found_at k n e {p} before from below here is_plan_lem =
       record {
         is = λ test t.
@@ -103,7 +103,7 @@ module _ {Tests : (Plan → Bool) → Type 0} where
 
   -- For a d that divides n the search over b is made; for any other it finds nothing.
   pub divisor_searched :
-      (n d m : ℕ) {r : Planned} → n % d ≡ 0 → Searched Tests (λ test. least_below test (n / d * d) d m) r
+      (n d m : ℕ) {r : Result Plan Refusal} → n % d ≡ 0 → Searched Tests (λ test. least_below test (n / d * d) d m) r
       → Searched Tests (λ test. least_below test n d m) r
   divisor_searched n d m {r} divides s =
       let whole : n / d * d ≡ n = omega (arith, divides, div-add-mod' n d) in
@@ -115,7 +115,7 @@ module _ {Tests : (Plan → Bool) → Type 0} where
       record { is = λ test t. found_none (none_first 0 m (λ b. trial test n b d) (λ b p q. trial_undivided test n b d h)) }
 
 -- The best plan of n banks with d from 1 to e, and the b below which a next one is looked for.
-pub record BestIn (Tests : (Plan → Bool) → Type 0) (n e : ℕ) (best : Planned) (below : ℕ) : Type 0 where
+pub record BestIn (Tests : (Plan → Bool) → Type 0) (n e : ℕ) (best : Result Plan Refusal) (below : ℕ) : Type 0 where
   pub found_so_far : (test : Plan → Bool) → Tests test → (o : Option Plan) × (best ≡ found o) × SoFar test n e below o
 
 module _ {Tests : (Plan → Bool) → Type 0} (n : ℕ) where
@@ -124,9 +124,9 @@ module _ {Tests : (Plan → Bool) → Type 0} (n : ℕ) where
   none_best = record { found_so_far = λ test t. (none, refl, none_so_far test n) }
 
   -- the next d: a plan with a smaller b replaces the best one, else that one stays
-  module _ (e : ℕ) {best r : Planned} {below : ℕ} (before : BestIn Tests n e best below)
+  module _ (e : ℕ) {best r : Result Plan Refusal} {below : ℕ} (before : BestIn Tests n e best below)
       (here : Searched Tests (λ test. least_below test n (e + 1) below) r) where
-    pub best_replaced : {p : Plan} → r ≡ Planned.Plan p → BestIn Tests n (e + 1) (Planned.Plan p) p.b
+    pub best_replaced : {p : Plan} → r ≡ Ok p → BestIn Tests n (e + 1) (Ok p) p.b
     unfolding found
     best_replaced {p} is_plan_lem =
         record {
@@ -136,7 +136,7 @@ module _ {Tests : (Plan → Bool) → Type 0} (n : ℕ) where
               (some p, refl, replaced test n e below o p so_far h);
         }
 
-    pub best_stays : {x : Refusal} → r ≡ Planned.Refused x → BestIn Tests n (e + 1) best below
+    pub best_stays : {x : Refusal} → r ≡ Err x → BestIn Tests n (e + 1) best below
     best_stays refused =
         record {
           found_so_far = λ test t.
@@ -147,7 +147,7 @@ module _ {Tests : (Plan → Bool) → Type 0} (n : ℕ) where
 
   -- once every d was looked at
   pub best_at_end :
-      {e : ℕ} {best : Planned} {below : ℕ} → BestIn Tests n e best below → e ≡ n → Searched Tests (λ test. first_with test n) best
+      {e : ℕ} {best : Result Plan Refusal} {below : ℕ} → BestIn Tests n e best below → e ≡ n → Searched Tests (λ test. first_with test n) best
   best_at_end {e} {best} {below} before all =
       record {
         is = λ test t.

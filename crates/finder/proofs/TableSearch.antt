@@ -1,5 +1,6 @@
 -- What a book's table tells of a plan on trial.
 -- Assumes nothing.
+use Rattle.std.specs.Prelude.{Ok}
 use Prim.Native.Nat.{ℕ, ◌+◌, ◌*◌, ◌≤◌, ◌<◌}
 use native.Mathlib.Omega.{arith}
 use mathlib.Core.Path.{◌≡◌, refl, sym, ◌∙◌, ap, ap₂}
@@ -10,7 +11,6 @@ use Rattle.scope.specs.Plans.{plan}
 use Rattle.scope.specs.Finding.{trial}
 use Rattle.scope.specs.Calls.{found}
 use Rattle.scope.specs.declared.Plan.{Plan}
-use Rattle.scope.specs.declared.Planned.{Planned}
 use Rattle.scope.proofs.MethodAnswers.{fails, holds}
 use Rattle.finder.specs.Table.{row_marked, rows_marked, TestOf}
 use Rattle.finder.specs.Searching.{Searched}
@@ -50,6 +50,6 @@ module _ {marks : List ℕ} {a b d : ℕ} (d_least : 1 ≤ d) (b_below : b < a) 
 
   pub unmarked_found :
       {r q : Bool} → r ≡ row_marked marks a 0 (31 + a) → r ≡ false → q ≡ rows_marked marks a b d → not q ≡ true
-      → Searched (TestOf marks) (λ test. trial test (a * d) b d) (Planned.Plan (plan a b d))
+      → Searched (TestOf marks) (λ test. trial test (a * d) b d) (Ok (plan a b d))
   unfolding found whenever
   unmarked_found row e rows h = trial_by_table (ap₂ (λ (x y : Bool). not x && not y) (sym row ∙ e) (fails rows h))

@@ -1,6 +1,7 @@
 -- What the call that writes a pattern's cycles answers and leaves, test by test: those before 10, then 10 with its positions, then
 -- 16, and where none of them refuses the cycles.
 -- Assumes nothing.
+use Rattle.std.specs.Prelude.{Result, Ok, Err}
 use Prim.Native.Nat.{ℕ, ◌≤◌, ◌<◌}
 use native.Mathlib.Omega.{arith}
 use mathlib.Core.Path.{◌≡◌, refl, sym, ◌∙◌, ap}
@@ -14,8 +15,6 @@ use Rattle.scope.specs.Numbers.{suits_test, output_test, places}
 use Rattle.scope.specs.Calls.{book_test, clash_beside, cycles_first, write_cycles_test, write_cycles}
 use Rattle.scope.specs.promises.Meaning.{IsBook, IsCycles, IsPlan}
 use Rattle.scope.specs.declared.Book.{Book}
-use Rattle.scope.specs.declared.Counted.{Counted}
-use Rattle.scope.specs.declared.Outcome.{Outcome}
 use Rattle.scope.specs.declared.Pattern.{Pattern}
 use Rattle.scope.specs.declared.Plan.{Plan}
 use Rattle.scope.specs.declared.Refusal.{Refusal}
@@ -63,7 +62,7 @@ module _ (book : Book) (r : ℕ) (p : Plan) (n : ℕ) where
 
   -- What the call, lent this output, answers with these positions, and leaves.
   module _ (out : List ℕ) where
-    abbrev Written : Counted → List ℕ → List ℕ → Type 0
+    abbrev Written : Result ℕ Refusal → List ℕ → List ℕ → Type 0
     Written counted positions left =
         ((counted ≡ (write_cycles book r p n out).answer.counted) × (positions ≡ (write_cycles book r p n out).answer.positions))
         × (left ≡ (write_cycles book r p n out).content)
@@ -84,16 +83,16 @@ module _ (book : Book) (r : ℕ) (p : Plan) (n : ℕ) where
     abbrev clash : Option LongClash
     clash = clash_in_for r p n (pixels (pattern_at book n))
 
-    refused_with : {f : Refusal} {positions : List ℕ} → tests ≡ some f → positions ≡ clash_beside first clash → Written (Counted.Refused f) positions out
+    refused_with : {f : Refusal} {positions : List ℕ} → tests ≡ some f → positions ≡ clash_beside first clash → Written (Err f) positions out
     unfolding write_cycles
     refused_with {f} found are = let (answer, content) = refusal_given tests _ _ _ _ f found in ((answer, are), content)
 
-    pub first_refused : {f : Refusal} → first ≡ some f → Written (Counted.Refused f) (replicate 9 0) out
+    pub first_refused : {f : Refusal} → first ≡ some f → Written (Err f) (replicate 9 0) out
     unfolding places
     first_refused {f} found = refused_with (found_here all_left found) (sym (beside_some first clash f found))
 
     -- Past these tests the pattern's record t was asked whether the plan suits it.
-    module _ (passed : first ≡ none) {t : Pattern} (own : t ≡ pattern_at book n) {outcome : Outcome} {positions : List ℕ}
+    module _ (passed : first ≡ none) {t : Pattern} (own : t ≡ pattern_at book n) {outcome : Result Unit Refusal} {positions : List ℕ}
         (is : outcome ≡ suits_outcome p n t r) (are : positions ≡ suits_positions p n t r) where
       single : single_test p (pattern_at book n) r ≡ none
       single = (single_legal_iff p (pattern_at book n) r).1 (own_legal passed)
@@ -109,26 +108,26 @@ module _ (book : Book) (r : ℕ) (p : Plan) (n : ℕ) where
       past_first : Left tests (suiting ∷ room ∷ [])
       past_first = left_after all_left passed
 
-      pub unsuited : {f : Refusal} → outcome ≡ Outcome.Refused f → Written (Counted.Refused f) positions out
+      pub unsuited : {f : Refusal} → outcome ≡ Err f → Written (Err f) positions out
       unsuited e = refused_with (found_here past_first (refused_found suiting outcome_is e)) positions_are
 
-      module _ (done : outcome ≡ Outcome.Done) where
+      module _ (done : outcome ≡ Ok tt) where
         only_room : Left tests (room ∷ [])
         only_room = left_after past_first (done_found_nothing suiting outcome_is done)
 
         same_used : t.used ≡ (pattern_at book n).used
         same_used = ap (λ (t : Pattern). t.used) own
 
-        pub no_room : length out < t.used → Written (Counted.Refused Output) positions out
+        pub no_room : length out < t.used → Written (Err Output) positions out
         no_room short =
             refused_with (found_here only_room ((output_decides _ (length out)).refuses (λ h. omega (arith, same_used)))) positions_are
 
         pub cycles_written :
-            {left : List ℕ} → t.used ≤ length out → left ≡ over_start (cycles p (pixels t)) out → Written (Counted.Number t.used) positions left
+            {left : List ℕ} → t.used ≤ length out → left ≡ over_start (cycles p (pixels t)) out → Written (Ok t.used) positions left
         unfolding write_cycles
         cycles_written enough put =
             let fits = left_after only_room ((output_decides _ (length out)).passes (omega (arith, same_used))) in
             let (answer, content) = value_given tests _ _ _ _ (nothing_found fits) in
             let count : t.used ≡ length (cycles p (pixels (pattern_at book n))) =
             same_used ∙ sym (cycles_part.as_many p (pixels (pattern_at book n)) ∙ length_pixels (pattern_at book n)) in
-            ((ap Counted.Number count ∙ answer, positions_are), put ∙ ap (λ (t : Pattern). over_start (cycles p (pixels t)) out) own ∙ content)
+            ((ap Ok count ∙ answer, positions_are), put ∙ ap (λ (t : Pattern). over_start (cycles p (pixels t)) out) own ∙ content)

@@ -1,6 +1,6 @@
 -- A clash that a search found or did not find, and whether a plan suits a pattern, as the code's answers.
 -- Assumes nothing.
-use Rattle.std.specs.Prelude.{ℕ, List, [], ◌∷◌}
+use Rattle.std.specs.Prelude.{ℕ, List, [], ◌∷◌, Result, Ok, Err}
 use Rattle.std.proofs.Math.Option.{Option, none, some}
 use Rattle.scope.specs.Search.{first_of}
 use Rattle.scope.specs.Plans.{pixels}
@@ -8,7 +8,6 @@ use Rattle.scope.specs.Cycles.{clash_in_for}
 use Rattle.scope.specs.Numbers.{count_test, cycles_test, plan_test, suits_test}
 use Rattle.scope.specs.Calls.{answered, clash_beside}
 use Rattle.scope.specs.declared.Clash.{Clash}
-use Rattle.scope.specs.declared.Outcome.{Outcome}
 use Rattle.scope.specs.declared.Pattern.{Pattern}
 use Rattle.scope.specs.declared.Plan.{Plan}
 use Rattle.scope.specs.declared.Refusal.{Refusal}
@@ -24,9 +23,9 @@ unfolding first_of count_test cycles_test plan_test
 single_test p t r = first_of (count_test 64 t.used 0 ∷ cycles_test r ∷ plan_test p ∷ [])
 
 -- the plan suits the pattern t, number n, for r, or these and 10
-unfoldable pub suits_outcome : Plan → ℕ → Pattern → ℕ → Outcome
+unfoldable pub suits_outcome : Plan → ℕ → Pattern → ℕ → Result Unit Refusal
 unfolding answered first_of single_test suits_test
-suits_outcome p n t r = answered (first_of (single_test p t r ∷ suits_test r p n t ∷ [])) Outcome.Refused Outcome.Done
+suits_outcome p n t r = answered (first_of (single_test p t r ∷ suits_test r p n t ∷ [])) Err (Ok tt)
 
 -- and the positions of the clash in nine places
 unfoldable pub suits_positions : Plan → ℕ → Pattern → ℕ → List ℕ

@@ -7,14 +7,14 @@ ghost use Rattle.scope.specs.Numbers.{record_test, places};
 ghost use Rattle.scope.specs.Calls.{judged, check};
 ghost use Rattle.finder.specs.Clashing.{met_at};
 
-use crate::clash::{Met, clash_in, class_positions};
+use crate::clash::{clash_in, class_positions};
 use crate::cycles::book_outcome;
 use crate::finding::least_count;
 use lattice::normal_form;
-use scope::{Book, CheckAnswer, Checked, Counted, Outcome, Plan, Planned, Verdict};
+use scope::{Book, CheckAnswer, Checked, Plan, Verdict};
 
 // The clash for r of the lowest pattern that has one.
-fn first_clash(p: Plan, book: Book, r: u8) -> Met
+fn first_clash(p: Plan, book: Book, r: u8) -> Option<Clash>
     requires { (is_plan p ≡ true) × (record_test book ≡ none) × (1 ≤ r) }
     ensures { result ≡ met_at (map shortened (clash_for r p (patterns book))) }
 {
@@ -23,12 +23,12 @@ fn first_clash(p: Plan, book: Book, r: u8) -> Met
     while n < count {
         let t = book.patterns[n];
         let met = clash_in(p, n, t, r);
-        if let Met::At(_) = met {
+        if let Some(_) = met {
             return met;
         }
         n += 1;
     }
-    Met::Nowhere
+    None
 }
 
 // The surplus of a plan that suits over the least count for r.
@@ -38,11 +38,11 @@ fn surplus_of(p: Plan, book: Book, r: u8) -> Verdict
 {
     let least = least_count(book, r as u32);
     match least {
-        Counted::Number(n) => {
+        Ok(n) => {
             let surplus = (p.banks() - n) as u32;
             Verdict::Suits(Checked { plan: p, surplus })
         }
-        Counted::Refused(f) => Verdict::Refused(f),
+        Err(f) => Verdict::Refused(f),
     }
 }
 
@@ -52,7 +52,7 @@ fn judge(p: Plan, book: Book, r: u8) -> CheckAnswer
     ensures { (result.verdict ≡ judged r (patterns book) p) × (result.positions ≡ places (clash_for r p (patterns book))) }
 {
     let met = first_clash(p, book, r);
-    if let Met::At(c) = met {
+    if let Some(c) = met {
         let n = c.pattern;
         let t = book.patterns[n];
         let positions = class_positions(p, t, c.earlier, r);
@@ -72,7 +72,7 @@ pub fn check(book: Book, r: u32, x1: i16, x2: i16, y1: i16, y2: i16) -> CheckAns
     ensures { (result.verdict ≡ (check book r (at x1 x2) (at y1 y2)).verdict) × (result.positions ≡ (check book r (at x1 x2) (at y1 y2)).positions) }
 {
     let outcome = book_outcome(book, r);
-    if let Outcome::Refused(f) = outcome {
+    if let Err(f) = outcome {
         return CheckAnswer {
             verdict: Verdict::Refused(f),
             positions: [0; 9],
@@ -80,8 +80,8 @@ pub fn check(book: Book, r: u32, x1: i16, x2: i16, y1: i16, y2: i16) -> CheckAns
     }
     let form = normal_form(x1, x2, y1, y2);
     match form {
-        Planned::Plan(p) => judge(p, book, r as u8),
-        Planned::Refused(f) => CheckAnswer {
+        Ok(p) => judge(p, book, r as u8),
+        Err(f) => CheckAnswer {
             verdict: Verdict::Refused(f),
             positions: [0; 9],
         },

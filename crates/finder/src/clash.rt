@@ -7,7 +7,7 @@ ghost use Rattle.scope.specs.Banks.{bank_of, over_start};
 ghost use Rattle.book.specs.Scan.{outcome_of};
 ghost use Rattle.finder.specs.Clashing.{met_at, single_test, suits_outcome, suits_positions};
 
-use scope::{Clash, Counted, Outcome, Pattern, Plan, Refusal};
+use scope::{Clash, Pattern, Plan, Refusal};
 
 // Whether more than r pixels of a pattern meet in one bank, and which are the first two.
 #[derive(Clone, Copy)]
@@ -23,15 +23,15 @@ pub(crate) fn bank_in(p: Plan, i: i8, j: i8) -> usize
 {
     let answer = p.bank(i as i16, j as i16);
     match answer {
-        Counted::Number(k) => k as usize,
-        Counted::Refused(_) => 0,
+        Ok(k) => k as usize,
+        Err(_) => 0,
     }
 }
 
 // The clash for r of pattern n, whose record is t: its first two positions. The pixels are taken from the last to the first; `next`
 // has for each bank the position of the one taken last, 0 for none: position 0 is taken last of all. `held` has for each position
 // that was taken how many its bank has from there on.
-pub(crate) fn clash_in(p: Plan, n: usize, t: Pattern, r: u8) -> Met
+pub(crate) fn clash_in(p: Plan, n: usize, t: Pattern, r: u8) -> Option<Clash>
     requires { (is_plan p ≡ true) × (t.used ≤ 64) × (1 ≤ r) }
     ensures { result ≡ met_at (map shortened (clash_in_for r p n (pixels t))) }
 {
@@ -39,7 +39,7 @@ pub(crate) fn clash_in(p: Plan, n: usize, t: Pattern, r: u8) -> Met
     let rows = t.rows;
     let mut next = [0u8; 1024];
     let mut held = [0u8; 64];
-    let mut met = Met::Nowhere;
+    let mut met = None;
     let mut e = t.used;
     while 0 < e {
         e -= 1;
@@ -47,7 +47,7 @@ pub(crate) fn clash_in(p: Plan, n: usize, t: Pattern, r: u8) -> Met
         let later = next[k] as usize;
         let count = held[later];
         if r <= count {
-            met = Met::At(Clash {
+            met = Some(Clash {
                 pattern: n,
                 earlier: e,
                 later,
@@ -87,31 +87,31 @@ pub(crate) fn class_positions(p: Plan, t: Pattern, e: usize, r: u8) -> [usize; 9
 // Whether a plan suits a pattern for r, and beside it the positions of the clash in nine places.
 #[derive(Clone, Copy)]
 pub struct Suited {
-    pub outcome: Outcome,
+    pub outcome: Result<(), Refusal>,
     pub positions: [usize; 9],
 }
 
 // 2 for the pixel count of a pattern, 20 for r, 11.
-fn single_outcome(p: Plan, t: Pattern, r: u32) -> Outcome
+fn single_outcome(p: Plan, t: Pattern, r: u32) -> Result<(), Refusal>
     ensures { result ≡ outcome_of (single_test p t r) }
 {
     let used = t.used;
     if used == 0 {
-        return Outcome::Refused(Refusal::Count(0));
+        return Err(Refusal::Count(0));
     }
     if 64 < used {
-        return Outcome::Refused(Refusal::Count(0));
+        return Err(Refusal::Count(0));
     }
     if r == 0 {
-        return Outcome::Refused(Refusal::Cycles);
+        return Err(Refusal::Cycles);
     }
     if 8 < r {
-        return Outcome::Refused(Refusal::Cycles);
+        return Err(Refusal::Cycles);
     }
     if !p.is_plan() {
-        return Outcome::Refused(Refusal::NotPlan);
+        return Err(Refusal::NotPlan);
     }
-    Outcome::Done
+    Ok(())
 }
 
 // Whether a plan suits the pattern t, number n, for r, or 2 for its pixel count, 20, 11, 10.
@@ -120,14 +120,14 @@ pub fn suits_answer(p: Plan, n: usize, t: Pattern, r: u32) -> Suited
 {
     let outcome = single_outcome(p, t, r);
     let mut positions = [0usize; 9];
-    if let Outcome::Refused(_) = outcome {
+    if let Err(_) = outcome {
         return Suited { outcome, positions };
     }
     let met = clash_in(p, n, t, r as u8);
-    if let Met::At(c) = met {
+    if let Some(c) = met {
         positions = class_positions(p, t, c.earlier, r as u8);
         return Suited {
-            outcome: Outcome::Refused(Refusal::Unsuited(c)),
+            outcome: Err(Refusal::Unsuited(c)),
             positions,
         };
     }

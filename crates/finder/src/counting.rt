@@ -8,7 +8,7 @@ ghost use Rattle.finder.specs.Counting.{cell_pixel, pattern_in, lanes_of, bases_
 ghost use Rattle.finder.specs.Searching.{least_below, Searched};
 
 use crate::bank_tables::{put_bases, put_lanes, put_shifts};
-use scope::{Plan, Planned, Refusal};
+use scope::{Plan, Refusal};
 
 // The bank of a cell under a plan, by the plan's tables.
 fn cell_bank(p: Plan, lanes: &[u16], bases: &[u16], shifts: &[u16], cell: u16) -> usize
@@ -78,7 +78,7 @@ fn book_crowded(p: Plan, lanes: &[u16], bases: &[u16], cells: &[u16], r: u8) -> 
 }
 
 // Of the plans with this a and d and a b below `below` that suit for r the one with least b; the cells are those of a book.
-pub(crate) fn counted_b(cells: &[u16], r: u8, a: usize, d: usize, below: usize) -> Planned
+pub(crate) fn counted_b(cells: &[u16], r: u8, a: usize, d: usize, below: usize) -> Result<Plan, Refusal>
     requires { (length cells.now ≡ 1040) × (1 ≤ a) × (1 ≤ d) × (a * d ≤ 1024) }
     ensures { Searched (CellTest r cells.now) (λ test. least_below test (a * d) d below) result }
 {
@@ -95,9 +95,9 @@ pub(crate) fn counted_b(cells: &[u16], r: u8, a: usize, d: usize, below: usize) 
             d: d as u32,
         };
         if !book_crowded(p, &lanes, &bases, cells, r) {
-            return Planned::Plan(p);
+            return Ok(p);
         }
         b += 1;
     }
-    Planned::Refused(Refusal::NoPlan)
+    Err(Refusal::NoPlan)
 }

@@ -8,40 +8,34 @@ ghost use Rattle.book.specs.Scan.{outcome_of};
 
 use crate::clash::{bank_in, suits_answer};
 use book::{entry_number, record_outcome};
-use scope::{Book, Counted, FetchAnswer, Outcome, Pattern, Plan, Refusal};
+use scope::{Book, FetchAnswer, Pattern, Plan, Refusal};
 
 // 2, 3, 4, 19, 20: whether a record is a book and r is from 1 to 8.
-pub fn book_outcome(book: Book, r: u32) -> Outcome
+pub fn book_outcome(book: Book, r: u32) -> Result<(), Refusal>
     ensures { result ≡ outcome_of (book_test book r) }
 {
-    let outcome = record_outcome(book);
-    if let Outcome::Refused(_) = outcome {
-        return outcome;
-    }
+    record_outcome(book)?;
     if r == 0 {
-        return Outcome::Refused(Refusal::Cycles);
+        return Err(Refusal::Cycles);
     }
     if 8 < r {
-        return Outcome::Refused(Refusal::Cycles);
+        return Err(Refusal::Cycles);
     }
-    Outcome::Done
+    Ok(())
 }
 
 // 2, 3, 4, 19, 20, 11, 17.
-fn cycles_outcome(book: Book, r: u32, p: Plan, n: usize) -> Outcome
+fn cycles_outcome(book: Book, r: u32, p: Plan, n: usize) -> Result<(), Refusal>
     ensures { result ≡ outcome_of (cycles_first book r p n) }
 {
-    let outcome = book_outcome(book, r);
-    if let Outcome::Refused(_) = outcome {
-        return outcome;
-    }
+    book_outcome(book, r)?;
     if !p.is_plan() {
-        return Outcome::Refused(Refusal::NotPlan);
+        return Err(Refusal::NotPlan);
     }
     if book.count <= n {
-        return Outcome::Refused(Refusal::NoPattern);
+        return Err(Refusal::NoPattern);
     }
-    Outcome::Done
+    Ok(())
 }
 
 // Puts the cycle of each pixel of a pattern at the start of the output. `taken` counts the pixels so far in each bank.
@@ -68,9 +62,9 @@ pub fn write_cycles(book: Book, r: u32, p: Plan, n: usize, out: &mut [u8]) -> Fe
     ensures left { out.new ≡ (write_cycles book r p n out.old).content }
 {
     let outcome = cycles_outcome(book, r, p, n);
-    if let Outcome::Refused(f) = outcome {
+    if let Err(f) = outcome {
         return FetchAnswer {
-            counted: Counted::Refused(f),
+            counted: Err(f),
             positions: [0; 9],
         };
     }
@@ -79,21 +73,21 @@ pub fn write_cycles(book: Book, r: u32, p: Plan, n: usize, out: &mut [u8]) -> Fe
     let suited = suits_answer(p, n, t, r);
     let positions = suited.positions;
     let suits = suited.outcome;
-    if let Outcome::Refused(f) = suits {
+    if let Err(f) = suits {
         return FetchAnswer {
-            counted: Counted::Refused(f),
+            counted: Err(f),
             positions,
         };
     }
     if out.len() < t.used {
         return FetchAnswer {
-            counted: Counted::Refused(Refusal::Output),
+            counted: Err(Refusal::Output),
             positions,
         };
     }
     put_cycles(p, t, out);
     FetchAnswer {
-        counted: Counted::Number(t.used as u64),
+        counted: Ok(t.used as u64),
         positions,
     }
 }

@@ -16,7 +16,7 @@ use crate::cells::put_cells;
 use crate::counting::counted_b;
 use book::record_outcome;
 use integers::raised8;
-use scope::{Book, Counted, Outcome, Pattern, Plan, Planned, Refusal};
+use scope::{Book, Pattern, Plan, Refusal};
 
 // The cell of (i, j) - (x, y): 63 to a row, column -31 first; 2016 where the difference is outside the half window.
 fn difference_cell(i: i8, j: i8, x: i8, y: i8) -> usize
@@ -123,19 +123,19 @@ fn rows_marked(marks: &[u8], a: usize, b: usize, d: usize, s: usize) -> bool
 }
 
 // Of the suiting plans with this a and d and a b below `below` the one with least b; the table is that of a book.
-fn least_b(marks: &[u8], a: usize, d: usize, below: usize) -> Planned
+fn least_b(marks: &[u8], a: usize, d: usize, below: usize) -> Result<Plan, Refusal>
     requires { (length marks.now ≡ 2017) × (1 ≤ a) × (a ≤ 1024) × (1 ≤ d) × (d ≤ 1024) }
     ensures { Searched (TestOf marks.now) (λ test. least_below test (a * d) d below) result }
 {
     if row_marked(marks, a, 0, 31 + a) {
-        return Planned::Refused(Refusal::NoPlan);
+        return Err(Refusal::NoPlan);
     }
     let end = if below < a { below } else { a };
     let mut s = 31 % a;
     let mut b = 0;
     while b < end {
         if !rows_marked(marks, a, b, d, s) {
-            return Planned::Plan(Plan {
+            return Ok(Plan {
                 a: a as u32,
                 b: b as u32,
                 d: d as u32,
@@ -147,11 +147,11 @@ fn least_b(marks: &[u8], a: usize, d: usize, below: usize) -> Planned
             s = 0;
         }
     }
-    Planned::Refused(Refusal::NoPlan)
+    Err(Refusal::NoPlan)
 }
 
 // The same for r, of the plans that suit for r: by the marks for r = 1, and by the cells for any other.
-fn least_b_for(marks: &[u8], cells: &[u16], r: u8, a: usize, d: usize, below: usize) -> Planned
+fn least_b_for(marks: &[u8], cells: &[u16], r: u8, a: usize, d: usize, below: usize) -> Result<Plan, Refusal>
     requires { (length marks.now ≡ 2017) × (length cells.now ≡ 1040) × (1 ≤ a) × (1 ≤ d) × (a * d ≤ 1024) }
     ensures { Searched (TestFor r marks.now cells.now) (λ test. least_below test (a * d) d below) result }
 {
@@ -163,18 +163,18 @@ fn least_b_for(marks: &[u8], cells: &[u16], r: u8, a: usize, d: usize, below: us
 
 // Of the plans with n banks that suit for r the one with least b, then least d. It goes by d, and a later plan replaces an earlier
 // one only with a smaller b.
-fn first_with(marks: &[u8], cells: &[u16], r: u8, n: usize) -> Planned
+fn first_with(marks: &[u8], cells: &[u16], r: u8, n: usize) -> Result<Plan, Refusal>
     requires { (length marks.now ≡ 2017) × (length cells.now ≡ 1040) × (n ≤ 1024) }
     ensures { Searched (TestFor r marks.now cells.now) (λ test. first_with test n) result }
 {
-    let mut best = Planned::Refused(Refusal::NoPlan);
+    let mut best = Err(Refusal::NoPlan);
     let mut below = n;
     let mut d = 0;
     while d < n {
         d += 1;
         if n % d == 0 {
             let p = least_b_for(marks, cells, r, n / d, d, below);
-            if let Planned::Plan(q) = p {
+            if let Ok(q) = p {
                 best = p;
                 below = q.b as usize;
             }
@@ -184,23 +184,23 @@ fn first_with(marks: &[u8], cells: &[u16], r: u8, n: usize) -> Planned
 }
 
 // Of the plans with at most `limit` banks that suit for r the one with the fewest, or 7.
-fn least_plan(marks: &[u8], cells: &[u16], r: u8, limit: usize) -> Planned
+fn least_plan(marks: &[u8], cells: &[u16], r: u8, limit: usize) -> Result<Plan, Refusal>
     requires { (length marks.now ≡ 2017) × (length cells.now ≡ 1040) × (limit ≤ 1024) }
     ensures { Searched (TestFor r marks.now cells.now) (λ test. least_of test limit) result }
 {
     let mut n = 1;
     while n <= limit {
         let p = first_with(marks, cells, r, n);
-        if let Planned::Plan(_) = p {
+        if let Ok(_) = p {
             return p;
         }
         n += 1;
     }
-    Planned::Refused(Refusal::NoPlan)
+    Err(Refusal::NoPlan)
 }
 
 // The plan for r of a legal book with the fewest banks within the limit, or 7.
-fn plan_for(book: Book, r: u8, limit: usize) -> Planned
+fn plan_for(book: Book, r: u8, limit: usize) -> Result<Plan, Refusal>
     requires { (record_test book ≡ none) × (limit ≤ 1024) }
     ensures { result ≡ found (least_plan_for r (patterns book) limit) }
 {
@@ -215,35 +215,32 @@ fn plan_for(book: Book, r: u8, limit: usize) -> Planned
 }
 
 // The plan for r with the fewest banks within the limit, of several the one with least b, then least d; or 2, 3, 4, 19, 6, 20, 7.
-pub fn find(book: Book, r: u32, limit: u32) -> Planned
+pub fn find(book: Book, r: u32, limit: u32) -> Result<Plan, Refusal>
     ensures { result ≡ find book r limit }
 {
-    let outcome = record_outcome(book);
-    if let Outcome::Refused(f) = outcome {
-        return Planned::Refused(f);
-    }
+    record_outcome(book)?;
     if limit == 0 {
-        return Planned::Refused(Refusal::Limit);
+        return Err(Refusal::Limit);
     }
     if 1024 < limit {
-        return Planned::Refused(Refusal::Limit);
+        return Err(Refusal::Limit);
     }
     if r == 0 {
-        return Planned::Refused(Refusal::Cycles);
+        return Err(Refusal::Cycles);
     }
     if 8 < r {
-        return Planned::Refused(Refusal::Cycles);
+        return Err(Refusal::Cycles);
     }
     plan_for(book, r as u8, limit as usize)
 }
 
 // The least count for r of a book, the N of the finder's plan at limit 1024, or 2, 3, 4, 19, 20.
-pub fn least_count(book: Book, r: u32) -> Counted
+pub fn least_count(book: Book, r: u32) -> Result<u64, Refusal>
     ensures { result ≡ fewest book r }
 {
     let least = find(book, r, 1024);
     match least {
-        Planned::Plan(p) => Counted::Number(p.banks()),
-        Planned::Refused(f) => Counted::Refused(f),
+        Ok(p) => Ok(p.banks()),
+        Err(f) => Err(f),
     }
 }

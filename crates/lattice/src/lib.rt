@@ -7,7 +7,7 @@ ghost use Rattle.scope.specs.Plans.{at, determinant_size, upright, falling};
 ghost use Rattle.scope.specs.Calls.{normal};
 
 use integers::{gcd_of, raised16, remainder, size};
-use scope::{Plan, Planned, Refusal};
+use scope::{Plan, Refusal};
 
 // The determinant's size. With each coordinate raised by 2^15 the determinant is a difference of two numbers that are not negative.
 fn determinant_size(x1: i16, x2: i16, y1: i16, y2: i16) -> u64
@@ -52,15 +52,15 @@ fn falling_column(a: u64, x: u64, p: u64, y: u64, q: u64) -> u64
 }
 
 // The normal form of (x1, x2) and (y1, y2), or 8, 9.
-pub fn normal_form(x1: i16, x2: i16, y1: i16, y2: i16) -> Planned
+pub fn normal_form(x1: i16, x2: i16, y1: i16, y2: i16) -> Result<Plan, Refusal>
     ensures { result ≡ normal (at x1 x2) (at y1 y2) }
 {
     let n = determinant_size(x1, x2, y1, y2);
     if n == 0 {
-        return Planned::Refused(Refusal::Dependent);
+        return Err(Refusal::Dependent);
     }
     if 1024 < n {
-        return Planned::Refused(Refusal::Large);
+        return Err(Refusal::Large);
     }
     let p = size(x2);
     let q = size(y2);
@@ -69,7 +69,7 @@ pub fn normal_form(x1: i16, x2: i16, y1: i16, y2: i16) -> Planned
     let x = upright_column(a, x1, x2);
     let y = upright_column(a, y1, y2);
     let b = falling_column(a, x, p, y, q);
-    Planned::Plan(Plan {
+    Ok(Plan {
         a: a as u32,
         b: b as u32,
         d: d as u32,

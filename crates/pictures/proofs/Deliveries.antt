@@ -1,5 +1,6 @@
 -- What both fetches answer and leave in the output: the refusal of a test and the output as it was, or what is delivered.
 -- Assumes nothing.
+use Rattle.std.specs.Prelude.{Result, Ok, Err}
 use Rattle.std.proofs.Common.{◌≡◌, ℕ, ◌<◌, ◌≤◌, Bool, true, false, not, List, [], ◌∷◌, map, length, pos, sym, refl, ap, ◌∙◌, ap₂, arith}
 use mathlib.Core.Bool.{false≢true}
 use mathlib.Core.Option.{Option, none, some}
@@ -9,9 +10,7 @@ use Rattle.scope.specs.Search.{every, first_of, whenever}
 use Rattle.scope.specs.Plans.{Pixel}
 use Rattle.scope.specs.Banks.{inside, word_in, over_start, wrapped}
 use Rattle.scope.specs.Numbers.{output_test}
-use Rattle.scope.specs.Calls.{Result, changed, moved, edge_test, pixels_read, rest_test, fetch_rest}
-use Rattle.scope.specs.declared.Counted.{Counted}
-use Rattle.scope.specs.declared.Outcome.{Outcome}
+use Rattle.scope.specs.Calls.{After, changed, moved, edge_test, pixels_read, rest_test, fetch_rest}
 use Rattle.scope.specs.declared.Pattern.{Pattern}
 use Rattle.scope.specs.declared.Plan.{Plan}
 use Rattle.scope.specs.declared.Refusal.{Refusal}
@@ -34,27 +33,27 @@ module _ (t : Pattern) (p : Plan) (W H : ℕ) (mem : List ℕ) (o : Pixel) (out 
   abbrev room : Option Refusal
   room = output_test (length (moved t o)) (length out)
 
-  abbrev number : Counted
-  number = Counted.Number (length (moved t o))
+  abbrev number : Result ℕ Refusal
+  number = Ok (length (moved t o))
 
   abbrev filled : List ℕ
   filled = over_start (words_at p W H mem (moved t o)) out
 
-  pub too_short : length out < t.used → Gives (delivered p W H mem (moved t o) out) (Counted.Refused Output) out
+  pub too_short : length out < t.used → Gives (delivered p W H mem (moved t o) out) (Err Output) out
   unfolding delivered
   too_short h =
-      refusal_given room Counted.Refused out number filled Output
+      refusal_given room Err out number filled Output
       ((output_decides (length (moved t o)) (length out)).refuses (λ k. omega (arith, moved_size t o)))
 
   pub enough_room :
       {v : Pixel} {content : List ℕ} → t.used ≤ length out → v ≡ o → content ≡ over_start (words_at p W H mem (moved t v)) out
-      → Gives (delivered p W H mem (moved t o) out) (Counted.Number t.used) content
+      → Gives (delivered p W H mem (moved t o) out) (Ok t.used) content
   unfolding delivered
   enough_room h same put =
       let right =
-      value_given room Counted.Refused out number filled
+      value_given room Err out number filled
       ((output_decides (length (moved t o)) (length out)).passes (omega (arith, moved_size t o))) in (
-        ap Counted.Number (sym (moved_size t o)) ∙ right.0,
+        ap Ok (sym (moved_size t o)) ∙ right.0,
         put ∙ ap (λ (u : Pixel). over_start (words_at p W H mem (moved t u)) out) same ∙ right.1,
       )
 
@@ -73,10 +72,10 @@ map_fixed f (x ∷ xs) h = ap₂ ◌∷◌ (h x (Memᴰ.head refl)) (map_fixed f
 
 -- A test of a condition: its outcome where the condition fails, and where it holds.
 module _ (b : Bool) (r : Refusal) where
-  pub condition_fails : b ≡ false → Outcome.Refused r ≡ outcome_of (whenever (not b) r)
+  pub condition_fails : b ≡ false → Err r ≡ outcome_of (whenever (not b) r)
   condition_fails e = answered_by_refusal (whenever (not b) r) r (demand_fails b r e)
 
-  pub condition_holds : b ≡ true → Outcome.Done ≡ outcome_of (whenever (not b) r)
+  pub condition_holds : b ≡ true → (Ok tt) ≡ outcome_of (whenever (not b) r)
   condition_holds e = answered_by_done (whenever (not b) r) (demand_met b r e)
 
 -- where the edge's test finds nothing, the wrapped pixels are those that are read
@@ -111,21 +110,21 @@ module _
     abbrev output : Option Refusal
     output = output_test t.used (length out)
 
-    abbrev rest : Result Counted (List ℕ)
+    abbrev rest : After (Result ℕ Refusal) (List ℕ)
     rest = fetch_rest start ring t p W H mem o out
 
-    abbrev count_read_lem : Counted
-    count_read_lem = Counted.Number (length (pixels_read ring W H vs))
+    abbrev count_read_lem : Result ℕ Refusal
+    count_read_lem = Ok (length (pixels_read ring W H vs))
 
     abbrev words_put : List ℕ
     words_put = over_start (map (word_in p W H mem) (pixels_read ring W H vs)) out
 
-    refused : (r : Refusal) → first_of (start ∷ edge ∷ output ∷ []) ≡ some r → Gives rest (Counted.Refused r) out
+    refused : (r : Refusal) → first_of (start ∷ edge ∷ output ∷ []) ≡ some r → Gives rest (Err r) out
     unfolding fetch_rest rest_test
-    refused = refusal_given (first_of (start ∷ edge ∷ output ∷ [])) Counted.Refused out count_read_lem words_put
+    refused = refusal_given (first_of (start ∷ edge ∷ output ∷ [])) Err out count_read_lem words_put
 
     -- The refusal of the first tests,
-    pub rest_turned_down : (r : Refusal) → start ≡ some r → Gives rest (Counted.Refused r) out
+    pub rest_turned_down : (r : Refusal) → start ≡ some r → Gives rest (Err r) out
     rest_turned_down r e = refused r (chain_refuses start (edge ∷ output ∷ []) r e)
 
     module _ (passed : start ≡ none) where
@@ -133,12 +132,12 @@ module _
       past_start = chain_goes_on start (edge ∷ output ∷ []) passed
 
       -- that of the edge,
-      pub rest_at_edge : (r : Refusal) → edge ≡ some r → Gives rest (Counted.Refused r) out
+      pub rest_at_edge : (r : Refusal) → edge ≡ some r → Gives rest (Err r) out
       rest_at_edge r e = refused r (past_start ∙ chain_refuses edge (output ∷ []) r e)
 
       -- or what is delivered; the pixel v that was handed on is the position o.
       pub rest_delivers :
-          {v : Pixel} {answer : Counted} {content : List ℕ} → edge ≡ none → v ≡ o
+          {v : Pixel} {answer : Result ℕ Refusal} {content : List ℕ} → edge ≡ none → v ≡ o
           → Gives (delivered p W H mem (moved t v) out) answer content
           → Gives rest answer content
       unfolding delivered fetch_rest rest_test words_at

@@ -1,14 +1,15 @@
 -- What a legal fetch gives, plain or ring: the words of its pixels in order, at most one from each bank in each of r cycles. And what
 -- the call for the cycles gives: the cycles of its pixels in order.
 -- Assumes nothing.
+use Rattle.std.specs.Prelude.{Result, Ok, Err}
 use Rattle.std.proofs.Common.{◌≡◌, ℕ, suc, ◌<◌, ◌≤◌, Bool, true, false, List, map, length, get_or, take, drop, refl, ap, ◌∙◌, subst, arith}
 use mathlib.Core.Option.{Option, none}
 use lib.ListN.{length-map}
 use Rattle.scope.specs.Plans.{Pixel, pattern_at, pixels}
 use Rattle.scope.specs.Banks.{word_of, word_in, over_start, wrapped}
 use Rattle.scope.specs.Cycles.{cycle_of, cycles}
-use Rattle.scope.specs.Numbers.{value, with_positions, of_counted, of_fetch}
-use Rattle.scope.specs.Calls.{Result, changed, moved, ring_moved, beside_clash, pixels_read, fetch_first, fetch_rest, fetch_test, either_fetch, fetch, ring_fetch}
+use Rattle.scope.specs.Numbers.{value, with_positions, of_result, of_fetch}
+use Rattle.scope.specs.Calls.{After, changed, moved, ring_moved, beside_clash, pixels_read, fetch_first, fetch_rest, fetch_test, either_fetch, fetch, ring_fetch}
 use Rattle.scope.specs.Calls.{cycles_first, write_cycles_test, write_cycles}
 use Rattle.scope.specs.promises.Meaning.{AllInside, RingAllowed}
 use Rattle.scope.specs.promises.Demand.{EdgeAllowed}
@@ -16,7 +17,6 @@ use Rattle.scope.specs.promises.PicturePromises.{FetchedAll, LegalFetch, LegalCy
 use Rattle.scope.specs.declared.Plan.{Plan}
 use Rattle.scope.specs.declared.Book.{Book}
 use Rattle.scope.specs.declared.Pattern.{Pattern}
-use Rattle.scope.specs.declared.Counted.{Counted}
 use Rattle.scope.specs.declared.FetchAnswer.{FetchAnswer}
 use Rattle.scope.specs.declared.Refusal.{Refusal}
 use Rattle.checks.proofs.Chains.{changed_none_answer, changed_none_content}
@@ -32,8 +32,8 @@ use Rattle.pictures.proofs.CallTests.{fetch_test_iff, cycles_test_iff}
 module _
     (before : Option Refusal) (r : ℕ) (p : Plan) (book : Book) (n : ℕ) (t : Option Refusal) (m : ℕ) (xs out : List ℕ)
   where
-    abbrev putting : Result FetchAnswer (List ℕ)
-    putting = beside_clash before r p book n (changed t Counted.Refused out (Counted.Number m) (over_start xs out))
+    abbrev putting : After FetchAnswer (List ℕ)
+    putting = beside_clash before r p book n (changed t Err out (Ok m) (over_start xs out))
 
     record PutAll : Type 0 where
       count : of_fetch r putting.answer ≡ value m
@@ -44,12 +44,12 @@ module _
     counted_is : t ≡ none → of_fetch r putting.answer ≡ value m
     unfolding beside_clash
     counted_is passed =
-        ap (λ (c : Counted). with_positions (take (suc r) putting.answer.positions) (of_counted c))
-        (changed_none_answer t Counted.Refused out (Counted.Number m) (over_start xs out) passed)
+        ap (λ (c : Result ℕ Refusal). with_positions (take (suc r) putting.answer.positions) (of_result c))
+        (changed_none_answer t Err out (Ok m) (over_start xs out) passed)
 
     content_is : t ≡ none → putting.content ≡ over_start xs out
     unfolding beside_clash
-    content_is passed = changed_none_content t Counted.Refused out _ _ passed
+    content_is passed = changed_none_content t Err out _ _ passed
 
     put_all : t ≡ none → length xs ≡ m → m ≤ length out → PutAll
     put_all passed size room =

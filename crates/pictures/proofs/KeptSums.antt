@@ -1,10 +1,11 @@
 -- The sums of the banks over a list of calls: from a call that makes them afresh and is not turned down, each is the walk's figure.
 -- Assumes nothing.
+use Rattle.std.specs.Prelude.{Result, Ok, Err}
 use Rattle.std.proofs.Common.{◌≡◌, ℕ, List, [], ◌∷◌, ◌++◌, map, length, sym, refl, ap, ◌∙◌, subst, ap₂}
 use mathlib.Core.Option.{Option, none}
 use mathlib.Core.List.Memᴰ
 use Rattle.scope.specs.Search.{state_after, replies_of}
-use Rattle.scope.specs.Numbers.{plan_test, sums_test, bank_test, of_counted}
+use Rattle.scope.specs.Numbers.{plan_test, sums_test, bank_test, of_result}
 use Rattle.scope.specs.Calls as Calls
 use Rattle.scope.specs.Calls.{Lent, Size, size_of, picture_test, whole_bank_test, read_sum_test}
 use Rattle.scope.specs.promises.Meaning.{IsLent}
@@ -12,7 +13,6 @@ use Rattle.scope.specs.promises.Demand.{make_sums, load, fetch, sum, read_sum, C
 use Rattle.scope.specs.promises.Demand.{read_reply, reply, after, run, replies, test}
 use Rattle.scope.specs.promises.SumPromises.{Words16, AllStore16, SumsAre, walking, walking_since, SumsKept}
 use Rattle.scope.specs.declared.Refusal.{Refusal}
-use Rattle.scope.specs.declared.Counted.{Counted}
 use Rattle.checks.proofs.Chains.{chain_goes_on}
 use Rattle.checks.proofs.Tests.{plan_legal_iff, sums_enough_iff}
 use Rattle.checks.proofs.CallLists.{state_after_append, reply_in_place}
@@ -40,8 +40,8 @@ module _ (g : Setting) where
   reads_as_walk : (start l : Lent) → Kept g start l → (k : ℕ) → reply g l (read (read_sum k)) ≡ reply g l (read (sum k))
   unfolding reply read_reply Calls.sum Calls.read_sum
   reads_as_walk start l h k =
-      ap (λ (c : Counted). summed (of_counted c))
-      (same_answers (same_tests (size_of l) k here) Counted.Refused (λ t. ap Counted.Number
+      ap (λ (c : Result ℕ Refusal). summed (of_result c))
+      (same_answers (same_tests (size_of l) k here) Err (λ t. ap Ok
       (h.each k ((bank_test_iff g.plan g.W g.H (length l.memory) k).0 t).1)))
     where
       here : IsLent g.plan g.W g.H (size_of l)

@@ -1,19 +1,18 @@
 -- What the code does for one call of a list, in the terms of demand 3.
 -- Assumes nothing.
+use Rattle.scope.specs.declared.Refusal.{Refusal}
+use Rattle.std.specs.Prelude.{Result}
 use Rattle.std.proofs.Common.{◌≡◌, ℕ, zero, suc, ◌%◌, ◌<◌, ◌≤◌, Bool, true, false, cond, ◌||◌, eqb, ltb, leb, ◌⊎◌, List, [], ◌∷◌, length, get_or, take, drop, sym, refl, ap, ◌∙◌, subst, ap₂, inl, inr, arith, ne_eqb, le-leb}
 use mathlib.Core.List.Memᴰ
 use mathlib.Core.List.{Memᴰ}
 use borrow.Author.Tests.{lt-leb}
 use Rattle.integers.proofs.Comparisons.{ltb_false_iff, or_false_iff}
 use Rattle.scope.specs.Plans.{Pixel, at}
-use Rattle.scope.specs.Numbers.{with_positions, of_counted, of_loaded, of_outcome, of_fetch}
+use Rattle.scope.specs.Numbers.{with_positions, of_result, of_fetch}
 use Rattle.scope.specs.Calls as Calls
 use Rattle.scope.specs.Calls.{Lent, fetch_rest}
 use Rattle.scope.specs.promises.Demand.{store, clear, make_sums, load, fetch, sum, read_sum, Call, write, read, Setting, write_result, read_reply, reply, after}
 use Rattle.scope.specs.declared.Book.{Book}
-use Rattle.scope.specs.declared.Counted.{Counted}
-use Rattle.scope.specs.declared.Loaded.{Loaded}
-use Rattle.scope.specs.declared.Outcome.{Outcome}
 use Rattle.scope.specs.declared.Pattern.{Pattern}
 use Rattle.scope.specs.declared.Plan.{Plan}
 use Rattle.checks.proofs.Chains.{Gives, same_gives}
@@ -61,32 +60,32 @@ module _ (book : Book) (r : ℕ) (p : Plan) (W H : ℕ) (l : Lent) (kind i j n :
   abbrev Makes : List ℕ → Lent → List ℕ → Type 0
   Makes row next end = OneMade (setting book r p W H) l (call_of kind i j n out) out row next end
 
-  abbrev told : Outcome → List ℕ
-  told o = twelve (answer_numbers (λ x. []) (of_outcome o))
+  abbrev told : Result Unit Refusal → List ℕ
+  told o = twelve (answer_numbers (λ x. []) (of_result o))
 
-  abbrev numbered : Counted → List ℕ
-  numbered c = twelve (answer_numbers (λ m. m ∷ []) (of_counted c))
+  abbrev numbered : Result ℕ Refusal → List ℕ
+  numbered c = twelve (answer_numbers (λ m. m ∷ []) (of_result c))
 
   pub clear_made :
-      {answer : Outcome} {next : Lent} {row : List ℕ} → kind ≡ 1 → Gives (Calls.clear p W H l n) answer next → row ≡ told answer
+      {answer : Result Unit Refusal} {next : Lent} {row : List ℕ} → kind ≡ 1 → Gives (Calls.clear p W H l n) answer next → row ≡ told answer
       → Makes row next out
   unfolding call_of reply write_result after reply_numbers
   clear_made is (answer, content) row_is = rw is (record { row_is = row_is ∙ ap told answer; picture_is = content; output_is = refl })
 
   -- the calls on the sums
   pub sums_made :
-      {answer : Outcome} {next : Lent} {row : List ℕ} → kind ≡ 5 → Gives (Calls.make_sums p W H l) answer next → row ≡ told answer
+      {answer : Result Unit Refusal} {next : Lent} {row : List ℕ} → kind ≡ 5 → Gives (Calls.make_sums p W H l) answer next → row ≡ told answer
       → Makes row next out
   unfolding call_of reply write_result after reply_numbers
   sums_made is (answer, content) row_is = rw is (record { row_is = row_is ∙ ap told answer; picture_is = content; output_is = refl })
 
   pub walk_made :
-      {answer : Counted} {row : List ℕ} → kind ≡ 6 → answer ≡ Calls.sum p W H l.memory n → row ≡ numbered answer → Makes row l out
+      {answer : Result ℕ Refusal} {row : List ℕ} → kind ≡ 6 → answer ≡ Calls.sum p W H l.memory n → row ≡ numbered answer → Makes row l out
   unfolding call_of reply read_reply after reply_numbers
   walk_made is answer row_is = rw is (record { row_is = row_is ∙ ap numbered answer; picture_is = refl; output_is = refl })
 
   pub read_made :
-      {answer : Counted} {row : List ℕ} → 4 < kind → (kind ≡ 5 → ⊥) → (kind ≡ 6 → ⊥) → answer ≡ Calls.read_sum p l.sums n
+      {answer : Result ℕ Refusal} {row : List ℕ} → 4 < kind → (kind ≡ 5 → ⊥) → (kind ≡ 6 → ⊥) → answer ≡ Calls.read_sum p l.sums n
       → row ≡ numbered answer
       → Makes row l out
   unfolding call_of reply read_reply after reply_numbers
@@ -103,7 +102,7 @@ module _ (book : Book) (r : ℕ) (p : Plan) (W H : ℕ) (l : Lent) (kind i j n :
   -- the pixel that was handed on is that of the numbers
   module _ {v : Pixel} (handed : v ≡ at (coordinate_of i) (coordinate_of j)) where
     pub store_made :
-        {answer : Outcome} {next : Lent} {row : List ℕ} → kind ≡ 0 → Gives (Calls.store p W H l v (n % 65536)) answer next
+        {answer : Result Unit Refusal} {next : Lent} {row : List ℕ} → kind ≡ 0 → Gives (Calls.store p W H l v (n % 65536)) answer next
         → row ≡ told answer
         → Makes row next out
     unfolding call_of reply write_result after reply_numbers
@@ -112,22 +111,22 @@ module _ (book : Book) (r : ℕ) (p : Plan) (W H : ℕ) (l : Lent) (kind i j n :
         rw is (record { row_is = row_is ∙ ap told answer; picture_is = content; output_is = refl })
 
     pub load_made :
-        {word : Loaded} {row : List ℕ} → kind ≡ 2 → word ≡ Calls.load p W H l.memory v
-        → row ≡ twelve (answer_numbers (λ m. m ∷ []) (of_loaded word))
+        {word : Result ℕ Refusal} {row : List ℕ} → kind ≡ 2 → word ≡ Calls.load p W H l.memory v
+        → row ≡ twelve (answer_numbers (λ m. m ∷ []) (of_result word))
         → Makes row l out
     unfolding call_of reply read_reply after reply_numbers
     load_made is word row_is =
         rw is (record {
           row_is =
               row_is
-              ∙ ap (λ (x : Loaded). twelve (answer_numbers (λ m. m ∷ []) (of_loaded x))) (word ∙ ap (Calls.load p W H l.memory) handed);
+              ∙ ap (λ (x : Result ℕ Refusal). twelve (answer_numbers (λ m. m ∷ []) (of_result x))) (word ∙ ap (Calls.load p W H l.memory) handed);
           picture_is = refl;
           output_is = refl;
         })
 
     -- a fetch, with what it begins with and the record that stands for its pattern
     pub fetch_made :
-        {start : Suited} {t : Pattern} {counted : Counted} {end row : List ℕ}
+        {start : Suited} {t : Pattern} {counted : Result ℕ Refusal} {end row : List ℕ}
         → (kind ≡ 0 → ⊥) → (kind ≡ 1 → ⊥) → (kind ≡ 2 → ⊥) → kind ≤ 4
         → BegunAt book r p W H (length l.memory) n start → t ≡ entry_for book n
         → Gives (fetch_rest (found_by start.outcome) (eqb kind 4) t p W H l.memory v out) counted end
@@ -140,7 +139,7 @@ module _ (book : Book) (r : ℕ) (p : Plan) (W H : ℕ) (l : Lent) (kind i j n :
         rw (ne_eqb kind 0 no_store, ne_eqb kind 1 no-clear, ne_eqb kind 2 no-load, le-leb kind 4 below) (record {
           row_is =
               row_is
-              ∙ ap₂ (λ (c : Counted) (es : List ℕ). twelve (answer_numbers (λ m. m ∷ []) (with_positions (take (suc r) es) (of_counted c))))
+              ∙ ap₂ (λ (c : Result ℕ Refusal) (es : List ℕ). twelve (answer_numbers (λ m. m ∷ []) (with_positions (take (suc r) es) (of_result c))))
               number
               positions;
           picture_is = refl;

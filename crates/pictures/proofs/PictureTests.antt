@@ -1,6 +1,7 @@
 -- The tests 11, 12, 13 of a picture, what the answers of depth and place tell of the tests of the calls, and what a call
 -- that writes leaves by what its tests found.
 -- Assumes nothing.
+use Rattle.std.specs.Prelude.{Result, Ok, Err}
 use Rattle.std.proofs.Common.{◌≡◌, ℕ, ◌<◌, [], ◌∷◌, sym, ap, ◌∙◌, arith}
 use mathlib.Core.Option.{Option, none, some}
 use Rattle.scope.specs.Search.{first_of}
@@ -10,8 +11,6 @@ use Rattle.scope.specs.Numbers.{plan_test, sides_test, memory_test, outside_test
 use Rattle.scope.specs.promises.Meaning.{IsPlan, IsSide}
 use Rattle.scope.specs.Calls.{Lent, Size, answered, changed, address_test, picture_test, lent_test, word_test, whole_bank_test}
 use Rattle.scope.specs.declared.Plan.{Plan}
-use Rattle.scope.specs.declared.Counted.{Counted}
-use Rattle.scope.specs.declared.Outcome.{Outcome}
 use Rattle.scope.specs.declared.Refusal.{Refusal}
 use Rattle.checks.proofs.Tests.{plan_legal_iff, sides_legal_iff}
 use Rattle.checks.proofs.Chains.{chain_goes_on, tests_as_one, Gives, value_given, refusal_given}
@@ -40,36 +39,36 @@ module _ (p : Plan) (W H words : ℕ) where
       omega (arith, (pixels_have_words p W H picture.plan).word_below v inside, picture.memory)
 
   -- What the answer of `picture_depth` tells,
-  module _ {answer : Counted} (is : answer ≡ picture_depth p W H words) where
-    pub picture_shows : {n : ℕ} → answer ≡ Counted.Number n → (picture_test p W H words ≡ none) × (depth_of p W H ≡ n)
+  module _ {answer : Result ℕ Refusal} (is : answer ≡ picture_depth p W H words) where
+    pub picture_shows : {n : ℕ} → answer ≡ Ok n → (picture_test p W H words ≡ none) × (depth_of p W H ≡ n)
     unfolding picture_depth
     picture_shows = number_shows (picture_test p W H words) (depth_of p W H) is
 
-    pub picture_refusal_shows : {r : Refusal} → answer ≡ Counted.Refused r → picture_test p W H words ≡ some r
+    pub picture_refusal_shows : {r : Refusal} → answer ≡ Err r → picture_test p W H words ≡ some r
     unfolding picture_depth
     picture_refusal_shows = refusal_shows (picture_test p W H words) (depth_of p W H) is
 
   -- that of `word_place`, to which the pixel v was handed as u,
-  module _ {u v : Pixel} (handed : u ≡ v) {answer : Counted} (is : answer ≡ word_place p W H words u) where
-    place_tested : answer ≡ answered (word_test p W H words v) Counted.Refused (Counted.Number (word_of p W H v))
+  module _ {u v : Pixel} (handed : u ≡ v) {answer : Result ℕ Refusal} (is : answer ≡ word_place p W H words u) where
+    place_tested : answer ≡ answered (word_test p W H words v) Err (Ok (word_of p W H v))
     unfolding word_place
     place_tested = is ∙ ap (word_place p W H words) handed
 
-    pub place_in : {n : ℕ} → answer ≡ Counted.Number n → PlaceIn p W H words v n
+    pub place_in : {n : ℕ} → answer ≡ Ok n → PlaceIn p W H words v n
     place_in e =
         let (passed, same) = number_shows (word_test p W H words v) (word_of p W H v) place_tested e in
         record { passed = passed; place_is = same; in_memory = rw same at (word_in_memory v passed) }
 
-    pub place_refusal_shows : {r : Refusal} → answer ≡ Counted.Refused r → word_test p W H words v ≡ some r
+    pub place_refusal_shows : {r : Refusal} → answer ≡ Err r → word_test p W H words v ≡ some r
     place_refusal_shows = refusal_shows (word_test p W H words v) (word_of p W H v) place_tested
 
   -- and that of `bank_depth`.
-  module _ (k : ℕ) {answer : Counted} (is : answer ≡ bank_depth p W H words k) where
-    pub bank_shows : {n : ℕ} → answer ≡ Counted.Number n → (whole_bank_test p W H words k ≡ none) × (depth_of p W H ≡ n)
+  module _ (k : ℕ) {answer : Result ℕ Refusal} (is : answer ≡ bank_depth p W H words k) where
+    pub bank_shows : {n : ℕ} → answer ≡ Ok n → (whole_bank_test p W H words k ≡ none) × (depth_of p W H ≡ n)
     unfolding bank_depth
     bank_shows = number_shows (whole_bank_test p W H words k) (depth_of p W H) is
 
-    pub bank_refusal_shows : {r : Refusal} → answer ≡ Counted.Refused r → whole_bank_test p W H words k ≡ some r
+    pub bank_refusal_shows : {r : Refusal} → answer ≡ Err r → whole_bank_test p W H words k ≡ some r
     unfolding bank_depth
     bank_refusal_shows = refusal_shows (whole_bank_test p W H words k) (depth_of p W H) is
 
@@ -84,12 +83,12 @@ only_outside p W H v {t} passed plan w_side h_side =
     ∙ sym (chain_goes_on t (outside ∷ []) passed)
 
 -- What the answer of `lent_depth` tells
-module _ (p : Plan) (W H : ℕ) (s : Size) {answer : Counted} (is : answer ≡ lent_depth p W H s) where
-  pub lent_shows : {n : ℕ} → answer ≡ Counted.Number n → (lent_test p W H s ≡ none) × (depth_of p W H ≡ n)
+module _ (p : Plan) (W H : ℕ) (s : Size) {answer : Result ℕ Refusal} (is : answer ≡ lent_depth p W H s) where
+  pub lent_shows : {n : ℕ} → answer ≡ Ok n → (lent_test p W H s ≡ none) × (depth_of p W H ≡ n)
   unfolding lent_depth
   lent_shows = number_shows (lent_test p W H s) (depth_of p W H) is
 
-  pub lent_refusal_shows : {r : Refusal} → answer ≡ Counted.Refused r → lent_test p W H s ≡ some r
+  pub lent_refusal_shows : {r : Refusal} → answer ≡ Err r → lent_test p W H s ≡ some r
   unfolding lent_depth
   lent_refusal_shows = refusal_shows (lent_test p W H s) (depth_of p W H) is
 
@@ -98,11 +97,11 @@ module _ (p : Plan) (W H : ℕ) (s : Size) {answer : Counted} (is : answer ≡ l
 module _ {t : Option Refusal} where
   pub leaves_written :
       t ≡ none → (old new : Lent) {left : Lent} → left ≡ new
-      → Gives (changed t Outcome.Refused old Outcome.Done new) Outcome.Done left
+      → Gives (changed t Err old (Ok tt) new) (Ok tt) left
   leaves_written passed old new e =
-      let (done, left) = value_given t Outcome.Refused old Outcome.Done new passed in
+      let (done, left) = value_given t Err old (Ok tt) new passed in
       (done, e ∙ left)
 
   pub leaves_as_it_was :
-      {r : Refusal} → t ≡ some r → (old new : Lent) → Gives (changed t Outcome.Refused old Outcome.Done new) (Outcome.Refused r) old
-  leaves_as_it_was {r} found old new = refusal_given t Outcome.Refused old Outcome.Done new r found
+      {r : Refusal} → t ≡ some r → (old new : Lent) → Gives (changed t Err old (Ok tt) new) (Err r) old
+  leaves_as_it_was {r} found old new = refusal_given t Err old (Ok tt) new r found

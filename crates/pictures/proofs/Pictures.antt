@@ -1,20 +1,18 @@
 -- The calls on a picture: a legal call is never refused and gives what it is for.
 -- Assumes nothing.
+use Rattle.std.specs.Prelude.{Ok, Err}
 use Rattle.std.proofs.Common.{◌≡◌, ℕ, zero, suc, ◌+◌, ◌*◌, ◌<◌, ◌≤◌, List, [], ◌∷◌, map, length, get_or, refl, ap, ◌∙◌, arith}
 use mathlib.Core.Option.{Option, none}
 use lib.ListN.{length-map}
 use Rattle.scope.specs.Plans.{Pixel, banks}
 use Rattle.scope.specs.Banks.{bank_of, depth_of, word_of, word_in, after_store, after_clear, bank_sum, sums_after_store, sums_after_clear, fresh_sums}
-use Rattle.scope.specs.Numbers.{value, of_counted, of_loaded, of_outcome}
+use Rattle.scope.specs.Numbers.{value, of_result}
 use Rattle.scope.specs.Calls.{changed, Lent, lent, size_of, store, load, whole_bank_test, clear, sum, make_sums, read_sum, record_pixel, placed, fill_records}
 use Rattle.scope.specs.promises.Meaning.{IsPlan, IsSide, Inside, AllInside, IsPicture, IsLent}
 use Rattle.scope.specs.promises.PicturePromises.{word_at, StoredOne, ClearedOne, SumsMade, total_below, no_record, FilledAll, PictureCalls}
 use Rattle.scope.specs.declared.Plan.{Plan}
 use Rattle.scope.specs.declared.PixelRecord.{PixelRecord}
 use Rattle.scope.specs.declared.Refusal.{Refusal}
-use Rattle.scope.specs.declared.Counted.{Counted}
-use Rattle.scope.specs.declared.Loaded.{Loaded}
-use Rattle.scope.specs.declared.Outcome.{Outcome}
 use Rattle.checks.proofs.Lists.{get_d_map}
 use Rattle.checks.proofs.Legal.{fill_test_iff}
 use Rattle.checks.proofs.Chains.{value_injective, answered_none, changed_none_answer, changed_none_content, answered_value}
@@ -30,11 +28,11 @@ use Rattle.pictures.proofs.Fetches.{fetch_gives, ring_fetch_gives, cycles_given}
 
 -- a call that changes what it was lent and whose tests found nothing is done, and leaves the new content
 module _ {X : Type 0} {t : Option Refusal} (old new : X) (passed : t ≡ none) where
-  is_done : of_outcome (changed t Outcome.Refused old Outcome.Done new).answer ≡ value tt
-  is_done = ap of_outcome (changed_none_answer t Outcome.Refused old Outcome.Done new passed)
+  is_done : of_result (changed t Err old (Ok tt) new).answer ≡ value tt
+  is_done = ap of_result (changed_none_answer t Err old (Ok tt) new passed)
 
-  content_is : (changed t Outcome.Refused old Outcome.Done new).content ≡ new
-  content_is = changed_none_content t Outcome.Refused old Outcome.Done new passed
+  content_is : (changed t Err old (Ok tt) new).content ≡ new
+  content_is = changed_none_content t Err old (Ok tt) new passed
 
 module _ (p : Plan) (W H : ℕ) (l : Lent) (legal : IsLent p W H (size_of l)) where
   abbrev held : List ℕ
@@ -95,18 +93,18 @@ module _ (p : Plan) (W H : ℕ) (l : Lent) (legal : IsLent p W H (size_of l)) wh
 
 sum_read :
     (p : Plan) (sums : List ℕ) (k : ℕ) → IsPlan p → banks p ≤ length sums → k < banks p
-    → of_counted (read_sum p sums k) ≡ value (get_or sums k 0)
+    → of_result (read_sum p sums k) ≡ value (get_or sums k 0)
 unfolding read_sum
 sum_read p sums k plan enough below =
-    ap of_counted
-    (answered_none _ Counted.Refused (Counted.Number (get_or sums k 0)) ((read_sum_test_iff p (length sums) k).1 (plan, (enough, below))))
+    ap of_result
+    (answered_none _ Err (Ok (get_or sums k 0)) ((read_sum_test_iff p (length sums) k).1 (plan, (enough, below))))
 
 module _ (p : Plan) (W H : ℕ) (mem : List ℕ) where
-  load_gives : (v : Pixel) → IsPicture p W H (length mem) → Inside W H v → of_loaded (load p W H mem v) ≡ value (word_at p W H mem v)
+  load_gives : (v : Pixel) → IsPicture p W H (length mem) → Inside W H v → of_result (load p W H mem v) ≡ value (word_at p W H mem v)
   unfolding load word_in word_of
   load_gives v legal inside =
-      ap of_loaded
-      (answered_none _ Loaded.Refused (Loaded.Word (word_in p W H mem v)) ((word_test_iff p W H (length mem) v).1 (legal, inside)))
+      ap of_result
+      (answered_none _ Err (Ok (word_in p W H mem v)) ((word_test_iff p W H (length mem) v).1 (legal, inside)))
 
   module _ (k : ℕ) (legal : IsPicture p W H (length mem)) (below : k < banks p) where
     passed : whole_bank_test p W H (length mem) k ≡ none
@@ -115,18 +113,18 @@ module _ (p : Plan) (W H : ℕ) (mem : List ℕ) where
     fits : bank_end p W H k ≤ length mem
     fits = omega (arith, bank_in_picture p W H k below)
 
-    sum_gives : of_counted (sum p W H mem k) ≡ value (total_below (depth_of p W H) (λ i. get_or mem (k * depth_of p W H + i) 0))
+    sum_gives : of_result (sum p W H mem k) ≡ value (total_below (depth_of p W H) (λ i. get_or mem (k * depth_of p W H + i) 0))
     unfolding sum
     sum_gives =
-        ap of_counted (answered_none _ Counted.Refused (Counted.Number (bank_sum p W H mem k)) passed)
+        ap of_result (answered_none _ Err (Ok (bank_sum p W H mem k)) passed)
         ∙ ap value (bank_sum_is_total p W H mem k fits)
 
   -- at most 4096 × 4096 words below 65536
   sum_below :
-      (k n : ℕ) → ((i : ℕ) → get_or mem i 0 < 65536) → of_counted (sum p W H mem k) ≡ value n → n < 0x1_0000_0000_0000_0000
+      (k n : ℕ) → ((i : ℕ) → get_or mem i 0 < 65536) → of_result (sum p W H mem k) ≡ value n → n < 0x1_0000_0000_0000_0000
   unfolding sum
   sum_below k n small e =
-      let t = answered_value of_counted _ Counted.Refused (Counted.Number (bank_sum p W H mem k)) n (λ r. refl) e in
+      let t = answered_value of_result _ Err (Ok (bank_sum p W H mem k)) n (λ r. refl) e in
       let (legal, below) = (bank_test_iff p W H (length mem) k).0 t.0 in
       omega (
         arith,

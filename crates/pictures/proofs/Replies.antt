@@ -1,19 +1,18 @@
 -- In a memory where the words last stored stand in their places, each call gives what it is to give.
 -- Assumes nothing.
+use Rattle.std.specs.Prelude.{Result, Err}
 use Rattle.std.proofs.Common.{◌≡◌, ℕ, Bool, List, [], ◌∷◌, map, length, refl, ap, ◌∙◌, ap₂}
 use mathlib.Core.Option.{Option, none, some}
 use mathlib.Core.List.{Memᴰ}
 use Rattle.scope.specs.Plans.{Pixel}
 use Rattle.scope.specs.Banks.{word_in, over_start}
-use Rattle.scope.specs.Numbers.{Answer, value, turned_down, with_positions, of_counted, of_loaded, of_outcome}
+use Rattle.scope.specs.Numbers.{Answer, value, turned_down, with_positions, of_result}
 use Rattle.scope.specs.Calls as Calls
-use Rattle.scope.specs.Calls.{Result, Lent, Size, size_of, answered, changed, beside_clash, fetch_rest, fetch_test, either_fetch}
+use Rattle.scope.specs.Calls.{After, Lent, Size, size_of, answered, changed, beside_clash, fetch_rest, fetch_test, either_fetch}
 use Rattle.scope.specs.promises.Meaning.{AllInside}
 use Rattle.scope.specs.promises.Demand.{load, fetch, sum, read_sum, Call, write, read, Setting, run, test, last_stored}
 use Rattle.scope.specs.promises.Demand.{wrote, loaded, fetched, summed, read_reply, reply, pixels_fetched, refused_fetch, reply_due}
 use Rattle.scope.specs.declared.Refusal.{Refusal}
-use Rattle.scope.specs.declared.Counted.{Counted}
-use Rattle.scope.specs.declared.Outcome.{Outcome}
 use Rattle.checks.proofs.Chains.{changed_answer, changed_content}
 use Rattle.lattice.proofs.Rings.{read_inside}
 use Rattle.pictures.proofs.CallTests.{word_test_iff, fetch_test_iff}
@@ -93,21 +92,21 @@ module _
     unfolding reply read_reply reply_due test Calls.load Calls.sum Calls.read_sum either_fetch beside_clash fetch_rest fetch_test pixels_fetched
     reply_is_due (write w) =
         ap wrote
-        (ap (λ (r : Result Outcome Lent). of_outcome r.answer) (write_is g l w)
-        ∙ read_changed (same_test (write w)) of_outcome turned_down l _ (λ f e. refl) (λ e. refl))
+        (ap (λ (r : After (Result Unit Refusal) Lent). of_result r.answer) (write_is g l w)
+        ∙ read_changed (same_test (write w)) of_result turned_down l _ (λ f e. refl) (λ e. refl))
     reply_is_due (read (load v)) =
         ap loaded
-        (read_answer (same_test (read (load v))) of_loaded turned_down (λ f e. refl)
+        (read_answer (same_test (read (load v))) of_result turned_down (λ f e. refl)
         (λ e. ap value (h.words v ((word_test_iff g.plan g.W g.H (length start.memory) v).0 e).1)))
     reply_is_due (read (fetch ring n o out)) =
         let same = same_test (read (fetch ring n o out)) in
         ap₂ fetched
         (read_changed same
-        (λ (c : Counted). with_positions (told g.book g.r g.plan g.W g.H (length l.memory) n) (of_counted c)) (refused_fetch g n)
+        (λ (c : Result ℕ Refusal). with_positions (told g.book g.r g.plan g.W g.H (length l.memory) n) (of_result c)) (refused_fetch g n)
         out _
         (λ f e. told_as_due g n f (length l.memory) ring o (length out) (same ∙ e)) (λ e. refl))
-        (read_content same Counted.Refused out _ (λ e. ap (λ (xs : List ℕ). over_start xs out)
+        (read_content same Err out _ (λ e. ap (λ (xs : List ℕ). over_start xs out)
         (words_due (pixels_fetched g ring n o) (fetched_inside ring n o out e))))
-    reply_is_due (read (sum k)) = ap summed (read_answer (same_test (read (sum k))) of_counted turned_down (λ f e. refl) (λ e. refl))
+    reply_is_due (read (sum k)) = ap summed (read_answer (same_test (read (sum k))) of_result turned_down (λ f e. refl) (λ e. refl))
     reply_is_due (read (read_sum k)) =
-        ap summed (read_answer (same_test (read (read_sum k))) of_counted turned_down (λ f e. refl) (λ e. refl))
+        ap summed (read_answer (same_test (read (read_sum k))) of_result turned_down (λ f e. refl) (λ e. refl))

@@ -1,10 +1,11 @@
 -- A reply's twelve numbers: how the code makes them, that they are twelve, and that they tell the answer.
 -- Assumes nothing.
+use Rattle.std.specs.Prelude.{Result, Ok, Err}
 use Rattle.std.proofs.Common.{◌≡◌, ℕ, suc, ◌≤◌, Bool, true, false, cond, eqb, List, [], ◌∷◌, length, get_or, take, drop, replicate, sym, refl, ap, ◌∙◌, arith, length-take, ne_eqb}
 use mathlib.Core.Option.{Option, none, some}
 use lib.Seq.{take-append_seam}
 use Rattle.scope.specs.Cycles.{LongClash, lengthened}
-use Rattle.scope.specs.Numbers.{Answer, value, refusal, row_of, place_of, turned_down, with_positions, of_outcome, of_loaded, of_counted, of_fetch}
+use Rattle.scope.specs.Numbers.{Answer, value, refusal, row_of, place_of, turned_down, with_positions, of_result, of_fetch}
 use Rattle.scope.specs.Calls as Calls
 use Rattle.scope.specs.Calls.{Lent, beside_clash, either_fetch}
 use Rattle.scope.specs.code.RefusalRows.{clash_if}
@@ -12,9 +13,6 @@ use Rattle.scope.specs.promises.Demand.{Call, write, read, load, fetch, sum, rea
 use Rattle.scope.specs.declared.Clash.{Clash}
 use Rattle.scope.specs.declared.Refusal.{Refusal}
 use Rattle.scope.specs.declared.Refusal.TheVariants.{Ends, Count, Coordinate, Repeat, Extra, Limit, NoPlan, Dependent, Large, Unsuited, NotPlan, Sides, Memory, Outside, Cell, Output, NoPattern, Ring, Lower, Cycles}
-use Rattle.scope.specs.declared.Outcome.{Outcome}
-use Rattle.scope.specs.declared.Loaded.{Loaded}
-use Rattle.scope.specs.declared.Counted.{Counted}
 use Rattle.scope.specs.declared.FetchAnswer.{FetchAnswer}
 use Rattle.checks.proofs.Outputs.{over_start_length}
 use Rattle.pictures.specs.Lists.{clash_numbers, answer_numbers, twelve, reply_numbers, OneMade}
@@ -118,26 +116,26 @@ module _ {A : Type 0} (values : A → List ℕ) where
   length_turned_down_with es h f =
       let (k, c, row) = has_row f in length_refused (suc k) (place_of f) (clash_at c es) (row_refused_with c row es) h
 
-length_outcome : (o : Outcome) → length (twelve (answer_numbers (λ x. []) (of_outcome o))) ≡ 12
+length_outcome : (o : Result Unit Refusal) → length (twelve (answer_numbers (λ x. []) (of_result o))) ≡ 12
 unfolding twelve answer_numbers
-length_outcome Outcome.Done = refl
-length_outcome (Outcome.Refused f) = length_turned_down {A = Unit} (λ x. []) f
+length_outcome (Ok tt) = refl
+length_outcome (Err f) = length_turned_down {A = Unit} (λ x. []) f
 
-length_loaded : (l : Loaded) → length (twelve (answer_numbers (λ n. n ∷ []) (of_loaded l))) ≡ 12
+length_loaded : (l : Result ℕ Refusal) → length (twelve (answer_numbers (λ n. n ∷ []) (of_result l))) ≡ 12
 unfolding twelve answer_numbers
-length_loaded (Loaded.Word x) = refl
-length_loaded (Loaded.Refused f) = length_turned_down (λ n. n ∷ []) f
+length_loaded (Ok x) = refl
+length_loaded (Err f) = length_turned_down (λ n. n ∷ []) f
 
 length_counted :
-    (es : List ℕ) → length es ≤ 9 → (c : Counted) → length (twelve (answer_numbers (λ n. n ∷ []) (with_positions es (of_counted c)))) ≡ 12
+    (es : List ℕ) → length es ≤ 9 → (c : Result ℕ Refusal) → length (twelve (answer_numbers (λ n. n ∷ []) (with_positions es (of_result c)))) ≡ 12
 unfolding twelve answer_numbers
-length_counted es h (Counted.Number x) = refl
-length_counted es h (Counted.Refused f) = length_turned_down_with (λ n. n ∷ []) es h f
+length_counted es h (Ok x) = refl
+length_counted es h (Err f) = length_turned_down_with (λ n. n ∷ []) es h f
 
-length_number : (c : Counted) → length (twelve (answer_numbers (λ n. n ∷ []) (of_counted c))) ≡ 12
+length_number : (c : Result ℕ Refusal) → length (twelve (answer_numbers (λ n. n ∷ []) (of_result c))) ≡ 12
 unfolding twelve answer_numbers
-length_number (Counted.Number x) = refl
-length_number (Counted.Refused f) = length_turned_down (λ n. n ∷ []) f
+length_number (Ok x) = refl
+length_number (Err f) = length_turned_down (λ n. n ∷ []) f
 
 pub length_reply : (g : Setting) (l : Lent) (c : Call) → length (reply_numbers (reply g l c)) ≡ 12
 unfolding reply_numbers reply read_reply either_fetch beside_clash
@@ -188,28 +186,28 @@ module _ {A : Type 0} (from : ℕ → A) (m : ℕ) where
   turned_down_with_read values es size f =
       let (k, c, row) = has_row f in refused_read values k (place_of f) (clash_at c es) size (row_refused_with c row es)
 
-outcome_read : (o : Outcome) → answer_in (λ n. tt) 2 (twelve (answer_numbers (λ x. []) (of_outcome o))) ≡ of_outcome o
+outcome_read : (o : Result Unit Refusal) → answer_in (λ n. tt) 2 (twelve (answer_numbers (λ x. []) (of_result o))) ≡ of_result o
 unfolding answer_in twelve answer_numbers
-outcome_read Outcome.Done = refl
-outcome_read (Outcome.Refused f) = turned_down_read (λ n. tt) 2 (λ x. []) refl f
+outcome_read (Ok tt) = refl
+outcome_read (Err f) = turned_down_read (λ n. tt) 2 (λ x. []) refl f
 
-loaded_read : (l : Loaded) → answer_in (λ n. n) 2 (twelve (answer_numbers (λ n. n ∷ []) (of_loaded l))) ≡ of_loaded l
+loaded_read : (l : Result ℕ Refusal) → answer_in (λ n. n) 2 (twelve (answer_numbers (λ n. n ∷ []) (of_result l))) ≡ of_result l
 unfolding answer_in twelve answer_numbers
-loaded_read (Loaded.Word x) = refl
-loaded_read (Loaded.Refused f) = turned_down_read (λ n. n) 2 (λ n. n ∷ []) refl f
+loaded_read (Ok x) = refl
+loaded_read (Err f) = turned_down_read (λ n. n) 2 (λ n. n ∷ []) refl f
 
-number_read : (c : Counted) → answer_in (λ n. n) 2 (twelve (answer_numbers (λ n. n ∷ []) (of_counted c))) ≡ of_counted c
+number_read : (c : Result ℕ Refusal) → answer_in (λ n. n) 2 (twelve (answer_numbers (λ n. n ∷ []) (of_result c))) ≡ of_result c
 unfolding answer_in twelve answer_numbers
-number_read (Counted.Number x) = refl
-number_read (Counted.Refused f) = turned_down_read (λ n. n) 2 (λ n. n ∷ []) refl f
+number_read (Ok x) = refl
+number_read (Err f) = turned_down_read (λ n. n) 2 (λ n. n ∷ []) refl f
 
 counted_read :
-    (m : ℕ) (es : List ℕ) → length es ≡ m → (c : Counted) →
-    let a = with_positions es (of_counted c) in
+    (m : ℕ) (es : List ℕ) → length es ≡ m → (c : Result ℕ Refusal) →
+    let a = with_positions es (of_result c) in
     answer_in (λ n. n) m (twelve (answer_numbers (λ n. n ∷ []) a)) ≡ a
 unfolding answer_in twelve answer_numbers
-counted_read m es size (Counted.Number x) = refl
-counted_read m es size (Counted.Refused f) = turned_down_with_read (λ n. n) m (λ n. n ∷ []) es size f
+counted_read m es size (Ok x) = refl
+counted_read m es size (Err f) = turned_down_with_read (λ n. n) m (λ n. n ∷ []) es size f
 
 -- So two answers with the same twelve numbers are the same.
 row_tells :
@@ -219,21 +217,21 @@ row_tells :
 row_tells values from m x y x-read y-read e = sym x-read ∙ ap (answer_in from m) e ∙ y-read
 
 pub outcome_row_tells :
-    (o p : Outcome) → twelve (answer_numbers (λ x. []) (of_outcome o)) ≡ twelve (answer_numbers (λ x. []) (of_outcome p))
-    → of_outcome o ≡ of_outcome p
-outcome_row_tells o p = row_tells (λ x. []) (λ n. tt) 2 (of_outcome o) (of_outcome p) (outcome_read o) (outcome_read p)
+    (o p : Result Unit Refusal) → twelve (answer_numbers (λ x. []) (of_result o)) ≡ twelve (answer_numbers (λ x. []) (of_result p))
+    → of_result o ≡ of_result p
+outcome_row_tells o p = row_tells (λ x. []) (λ n. tt) 2 (of_result o) (of_result p) (outcome_read o) (outcome_read p)
 
 pub loaded_row_tells :
-    (l m : Loaded)
-    → twelve (answer_numbers (λ n. n ∷ []) (of_loaded l)) ≡ twelve (answer_numbers (λ n. n ∷ []) (of_loaded m))
-    → of_loaded l ≡ of_loaded m
-loaded_row_tells l m = row_tells (λ n. n ∷ []) (λ n. n) 2 (of_loaded l) (of_loaded m) (loaded_read l) (loaded_read m)
+    (l m : Result ℕ Refusal)
+    → twelve (answer_numbers (λ n. n ∷ []) (of_result l)) ≡ twelve (answer_numbers (λ n. n ∷ []) (of_result m))
+    → of_result l ≡ of_result m
+loaded_row_tells l m = row_tells (λ n. n ∷ []) (λ n. n) 2 (of_result l) (of_result m) (loaded_read l) (loaded_read m)
 
 pub counted_row_tells :
-    (c d : Counted)
-    → twelve (answer_numbers (λ n. n ∷ []) (of_counted c)) ≡ twelve (answer_numbers (λ n. n ∷ []) (of_counted d))
-    → of_counted c ≡ of_counted d
-counted_row_tells c d = row_tells (λ n. n ∷ []) (λ n. n) 2 (of_counted c) (of_counted d) (number_read c) (number_read d)
+    (c d : Result ℕ Refusal)
+    → twelve (answer_numbers (λ n. n ∷ []) (of_result c)) ≡ twelve (answer_numbers (λ n. n ∷ []) (of_result d))
+    → of_result c ≡ of_result d
+counted_row_tells c d = row_tells (λ n. n ∷ []) (λ n. n) 2 (of_result c) (of_result d) (number_read c) (number_read d)
 
 -- two fetches for the same r, with as many positions beside them
 pub fetched_row_tells :

@@ -1,5 +1,6 @@
 -- What a run of calls does to a memory: the word last stored at each pixel stands at its place, call by call.
 -- Assumes nothing.
+use Rattle.std.specs.Prelude.{Result, Ok, Err}
 use Rattle.std.proofs.Common.{◌≡◌, ℕ, ◌<◌, ◌≤◌, List, [], ◌∷◌, length, get_or, drop, sym, refl, ap, ◌∙◌, subst, arith}
 use native.Mathlib.Decide.{ℕ_discrete}
 use mathlib.Core.Option.{Option, none, some}
@@ -8,13 +9,12 @@ use Rattle.scope.specs.Search.{state_after}
 use Rattle.scope.specs.Plans.{Pixel, banks}
 use Rattle.scope.specs.Banks.{bank_of, word_of, word_in, after_store, after_clear, sums_after_store, sums_after_clear, fresh_sums}
 use Rattle.scope.specs.Calls as Calls
-use Rattle.scope.specs.Calls.{Result, Lent, lent, Size, size_of, answered, changed}
+use Rattle.scope.specs.Calls.{After, Lent, lent, Size, size_of, answered, changed}
 use Rattle.scope.specs.promises.Meaning.{IsPlan, Inside}
 use Rattle.scope.specs.promises.PicturePromises.{WordsOf}
 use Rattle.scope.specs.promises.Demand.{Write, store, clear, make_sums, Call, write, read, Setting, write_result, after, run}
 use Rattle.scope.specs.promises.Demand.{test, effect, word_after, stored_since, picture_words}
 use Rattle.scope.specs.declared.Refusal.{Refusal}
-use Rattle.scope.specs.declared.Outcome.{Outcome}
 use Rattle.checks.proofs.Chains.{changed_content}
 use Rattle.lattice.proofs.Words.{pixels_have_words}
 use Rattle.pictures.proofs.Memory.{bank_end, bank_in_picture, store_puts, store_elsewhere, store_past, store_length}
@@ -44,7 +44,7 @@ done g l make_sums = lent l.memory (fresh_sums g.plan g.W g.H l.memory l.sums)
 -- a write leaves both as they were if it is turned down
 pub write_is :
     (g : Setting) (l : Lent) (w : Write)
-    → write_result g l w ≡ changed (test g (size_of l) (write w)) Outcome.Refused l Outcome.Done (done g l w)
+    → write_result g l w ≡ changed (test g (size_of l) (write w)) Err l (Ok tt) (done g l w)
 unfolding write_result test Calls.store Calls.clear Calls.make_sums
 write_is g l (store v x) = refl
 write_is g l (clear k) = refl
@@ -54,8 +54,8 @@ pub after_is :
     (g : Setting) (l : Lent) (w : Write) → after g l (write w) ≡ answered (test g (size_of l) (write w)) (λ r. l) (done g l w)
 unfolding after
 after_is g l w =
-    ap (λ (r : Result Outcome Lent). r.content) (write_is g l w)
-    ∙ changed_content (test g (size_of l) (write w)) Outcome.Refused l Outcome.Done (done g l w)
+    ap (λ (r : After (Result Unit Refusal) Lent). r.content) (write_is g l w)
+    ∙ changed_content (test g (size_of l) (write w)) Err l (Ok tt) (done g l w)
 
 -- the word of a pixel inside is one of the picture's
 pub word_inside_picture :

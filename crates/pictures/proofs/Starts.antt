@@ -1,18 +1,16 @@
 -- What a fetch begins with: what its first tests find and the positions of the clash, by the test that refuses; what that tells; and
 -- that the record which stands for the pattern's number is then that pattern's own.
 -- Assumes nothing.
+use Rattle.std.specs.Prelude.{Result, Ok, Err}
 use Rattle.std.proofs.Common.{◌≡◌, ℕ, ◌<◌, ◌≤◌, Bool, true, false, List, [], ◌∷◌, length, replicate, sym, refl, ap, ◌∙◌, arith}
 use mathlib.Core.Option.{Option, none, some}
 use Rattle.scope.specs.Search.{first_of}
 use Rattle.scope.specs.Plans.{Pixel, pattern_at, pixels}
 use Rattle.scope.specs.Cycles.{LongClash, clash_in_for}
 use Rattle.scope.specs.Numbers.{number_test, suits_test, places}
-use Rattle.scope.specs.Calls.{Result, book_test, picture_test, clash_beside, beside_clash, fetch_first, fetch_start, fetch_rest, either_fetch, fetch, ring_fetch}
+use Rattle.scope.specs.Calls.{After, book_test, picture_test, clash_beside, beside_clash, fetch_first, fetch_start, fetch_rest, either_fetch, fetch, ring_fetch}
 use Rattle.scope.specs.declared.Book.{Book}
-use Rattle.scope.specs.declared.Counted.{Counted}
 use Rattle.scope.specs.declared.FetchAnswer.{FetchAnswer}
-use Rattle.scope.specs.declared.Outcome.{Outcome}
-use Rattle.scope.specs.declared.Outcome.TheVariants.{Done, Refused}
 use Rattle.scope.specs.declared.Pattern.{Pattern}
 use Rattle.scope.specs.declared.Plan.{Plan}
 use Rattle.scope.specs.declared.Refusal.{Refusal}
@@ -33,9 +31,9 @@ use Rattle.pictures.proofs.CallTests.{picture_test_iff, fetch_first_iff, fetch_s
 use Rattle.pictures.proofs.Deliveries.{rest_alike}
 
 -- An outcome says what its tests found.
-pub found_by_lem : {outcome : Outcome} (t : Option Refusal) → outcome ≡ outcome_of t → found_by outcome ≡ t
-found_by_lem {outcome = Done} t e = sym (done_found_nothing t e refl)
-found_by_lem {outcome = Refused r} t e = sym (refused_found t e refl)
+pub found_by_lem : {outcome : Result Unit Refusal} (t : Option Refusal) → outcome ≡ outcome_of t → found_by outcome ≡ t
+found_by_lem {outcome = Ok tt} t e = sym (done_found_nothing t e refl)
+found_by_lem {outcome = Err r} t e = sym (refused_found t e refl)
 
 -- the entry for a number below 16 is that pattern's
 entry_below : (book : Book) (n : ℕ) → n < 16 → entry_for book n ≡ pattern_at book n
@@ -56,22 +54,22 @@ module _ (tested picture : Option Refusal) (count : ℕ) (t : Pattern) (r : ℕ)
   found = clash_in_for r p n (pixels t)
 
   -- what a fetch begins with, as the code has it
-  abbrev pub Begins : Outcome → List ℕ → Type 0
+  abbrev pub Begins : Result Unit Refusal → List ℕ → Type 0
   Begins outcome positions =
       (outcome ≡ outcome_of (start_test tested picture count t r p n)) × (positions ≡ start_positions tested picture count t r p n)
 
   -- A test before 10 refuses,
-  refused_before : {f : Refusal} → before ≡ some f → Begins (Refused f) (replicate 9 0)
+  refused_before : {f : Refusal} → before ≡ some f → Begins (Err f) (replicate 9 0)
   unfolding start_test start_positions places
   refused_before {f} e =
       (answered_by_refusal _ f (chain_refuses before (suiting ∷ []) f e), sym (beside_some before found f e))
 
-  pub refused_by_tested : {f : Refusal} → tested ≡ some f → Begins (Refused f) (replicate 9 0)
+  pub refused_by_tested : {f : Refusal} → tested ≡ some f → Begins (Err f) (replicate 9 0)
   unfolding first_test
   refused_by_tested {f} e = refused_before (chain_refuses tested (picture ∷ number ∷ []) f e)
 
   module _ (legal : tested ≡ none) where
-    pub refused_by_picture : {f : Refusal} → picture ≡ some f → Begins (Refused f) (replicate 9 0)
+    pub refused_by_picture : {f : Refusal} → picture ≡ some f → Begins (Err f) (replicate 9 0)
     unfolding first_test
     refused_by_picture {f} e =
         refused_before (chain_goes_on tested (picture ∷ number ∷ []) legal ∙ chain_refuses picture (number ∷ []) f e)
@@ -82,12 +80,12 @@ module _ (tested picture : Option Refusal) (count : ℕ) (t : Pattern) (r : ℕ)
       past_picture =
           chain_goes_on tested (picture ∷ number ∷ []) legal ∙ chain_goes_on picture (number ∷ []) here ∙ chain_of_one number
 
-      pub refused_by_number : count ≤ n → Begins (Refused NoPattern) (replicate 9 0)
+      pub refused_by_number : count ≤ n → Begins (Err NoPattern) (replicate 9 0)
       refused_by_number h = refused_before (past_picture ∙ (number_decides count n).refuses (λ below. omega arith))
 
       -- or what is left is whether the plan suits.
       pub as_it_suits :
-          {outcome : Outcome} {positions : List ℕ} → SingleLegal p t r → n < count → outcome ≡ suits_outcome p n t r
+          {outcome : Result Unit Refusal} {positions : List ℕ} → SingleLegal p t r → n < count → outcome ≡ suits_outcome p n t r
           → positions ≡ suits_positions p n t r → Begins outcome positions
       unfolding start_test start_positions
       as_it_suits legal below is are =
@@ -204,13 +202,13 @@ module _ (book : Book) (r : ℕ) (p : Plan) (W H words n : ℕ) where
       }
 
 -- A fetch gives this count, leaves this content, and has these positions beside it.
-abbrev pub GivesFetch : Result FetchAnswer (List ℕ) → Counted → List ℕ → List ℕ → Type 0
+abbrev pub GivesFetch : After FetchAnswer (List ℕ) → Result ℕ Refusal → List ℕ → List ℕ → Type 0
 GivesFetch x counted positions content = ((counted ≡ x.answer.counted) × (positions ≡ x.answer.positions)) × (content ≡ x.content)
 
 -- Fetch and ring fetch are either fetch; the position is as a call hands it on.
 module _
     (book : Book) (r : ℕ) (p : Plan) (W H : ℕ) (mem : List ℕ) (n : ℕ) (o : Pixel) (out : List ℕ)
-    {v : Pixel} {counted : Counted} {positions content : List ℕ} (same : v ≡ o)
+    {v : Pixel} {counted : Result ℕ Refusal} {positions content : List ℕ} (same : v ≡ o)
   where
     pub is_fetch :
         GivesFetch (either_fetch false book r p W H mem n v out) counted positions content
@@ -228,7 +226,7 @@ module _
 -- book.
 pub fetched_by_entry :
     (ring : Bool) (book : Book) (r : ℕ) (p : Plan) (W H : ℕ) (mem : List ℕ) (n : ℕ) (o : Pixel) (out : List ℕ)
-    {start : Suited} {t : Pattern} {v : Pixel} {counted : Counted} {content : List ℕ}
+    {start : Suited} {t : Pattern} {v : Pixel} {counted : Result ℕ Refusal} {content : List ℕ}
     → BegunAt book r p W H (length mem) n start → t ≡ entry_for book n → v ≡ o
     → Gives (fetch_rest (found_by start.outcome) ring t p W H mem v out) counted content
     → GivesFetch (either_fetch ring book r p W H mem n o out) counted start.positions content

@@ -1,6 +1,8 @@
 -- Where a bank of a picture stands in the memory, what the depth that `bank_depth` gives tells of it, and what the part of the memory
 -- that the code takes for it is.
 -- Assumes nothing.
+use Rattle.scope.specs.declared.Refusal.{Refusal}
+use Rattle.std.specs.Prelude.{Result, Ok}
 use Rattle.std.proofs.Common.{◌≡◌, ℕ, ◌+◌, ◌-◌, ◌*◌, ◌<◌, ◌≤◌, List, ◌++◌, length, take, drop, replicate, mul-le-mul, arith, length-drop, length-take-le, drop-drop}
 use mathlib.Core.Option.{none}
 use Rattle.scope.specs.Plans.{banks}
@@ -8,7 +10,6 @@ use Rattle.scope.specs.Banks.{depth_of, bank_words, after_clear}
 use Rattle.scope.specs.Calls.{whole_bank_test}
 use Rattle.scope.specs.promises.Meaning.{IsPicture}
 use Rattle.scope.specs.declared.Plan.{Plan}
-use Rattle.scope.specs.declared.Counted.{Counted}
 use Rattle.pictures.proofs.CallTests.{bank_test_iff}
 use Rattle.pictures.proofs.Memory.{bank_in_picture}
 use Rattle.lattice.proofs.Words.{depth_at_most}
@@ -39,7 +40,7 @@ module _ {p : Plan} {W H : ℕ} {mem : List ℕ} {k deep : ℕ} where
 
   -- what `bank_depth` shows
   pub bank_given :
-      {answer : Counted} → answer ≡ bank_depth p W H (length mem) k → answer ≡ Counted.Number deep
+      {answer : Result ℕ Refusal} → answer ≡ bank_depth p W H (length mem) k → answer ≡ Ok deep
       → (whole_bank_test p W H (length mem) k ≡ none) × BankIn p W H mem k deep
   bank_given is number =
       let (passed, depth_is) = bank_shows p W H (length mem) k is number in

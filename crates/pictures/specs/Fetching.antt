@@ -1,26 +1,23 @@
 -- What the code of both fetches goes by.
 -- Assumes nothing.
-use Rattle.std.specs.Prelude.{ℕ, List, [], ◌∷◌, map, length}
+use Rattle.std.specs.Prelude.{ℕ, List, [], ◌∷◌, map, length, Result, Ok, Err}
 use Rattle.std.proofs.Math.Option.{Option, none, some}
 use Rattle.scope.specs.Search.{first_of}
 use Rattle.scope.specs.Plans.{Pixel, pattern_at, pixels}
 use Rattle.scope.specs.Banks.{word_in, over_start, wrapped}
 use Rattle.scope.specs.Cycles.{clash_in_for}
 use Rattle.scope.specs.Numbers.{number_test, suits_test, output_test}
-use Rattle.scope.specs.Calls.{Result, changed, clash_beside}
+use Rattle.scope.specs.Calls.{After, changed, clash_beside}
 use Rattle.book.specs.Scan.{entry_number}
 use Rattle.scope.specs.declared.Plan.{Plan}
 use Rattle.scope.specs.declared.Book.{Book}
 use Rattle.scope.specs.declared.Pattern.{Pattern}
-use Rattle.scope.specs.declared.Counted.{Counted}
-use Rattle.scope.specs.declared.Outcome.{Outcome}
-use Rattle.scope.specs.declared.Outcome.TheVariants.{Done, Refused}
 use Rattle.scope.specs.declared.Refusal.{Refusal}
 
 -- what an outcome says that the tests behind it found
-abbrev pub found_by : Outcome → Option Refusal
-found_by Done = none
-found_by (Refused r) = some r
+abbrev pub found_by : Result Unit Refusal → Option Refusal
+found_by (Ok tt) = none
+found_by (Err r) = some r
 
 -- the record that stands for pattern n: its entry, the last one where there is none
 unfoldable pub entry_for : Book → ℕ → Pattern
@@ -47,8 +44,8 @@ unfolding word_in wrapped
 words_at p W H mem vs = map (word_in p W H mem) (map (wrapped W H) vs)
 
 -- 16, and the words at the start of the output
-unfoldable pub delivered : Plan → ℕ → ℕ → List ℕ → List Pixel → List ℕ → Result Counted (List ℕ)
+unfoldable pub delivered : Plan → ℕ → ℕ → List ℕ → List Pixel → List ℕ → After (Result ℕ Refusal) (List ℕ)
 unfolding changed output_test words_at over_start
 delivered p W H mem vs out =
-    changed (output_test (length vs) (length out)) Counted.Refused out (Counted.Number (length vs))
+    changed (output_test (length vs) (length out)) Err out (Ok (length vs))
     (over_start (words_at p W H mem vs) out)

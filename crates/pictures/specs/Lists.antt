@@ -5,7 +5,7 @@
 -- number in two's complement; the number is below 65536, also of a call that has no use for it. The fourth number of a load and of kind 5,
 -- and the fifth of every call but a fetch, are not looked at. Each fetch has the next `room` words of the outputs as "an output of its own".
 -- Assumes nothing.
-use Rattle.std.specs.Prelude.{◌≡◌, ℕ, zero, suc, ◌+◌, ◌-◌, ◌*◌, ◌/◌, ◌%◌, ◌<◌, Bool, true, false, cond, not, ◌&&◌, ◌||◌, List, [], ◌∷◌, ◌++◌, length, take, drop, replicate, ℤ, pos, ◌-ℤ◌, ◌==◌, nat_le, nat_lt, slice_index, slice_index_or}
+use Rattle.std.specs.Prelude.{◌≡◌, ℕ, zero, suc, ◌+◌, ◌-◌, ◌*◌, ◌/◌, ◌%◌, ◌<◌, Bool, true, false, cond, not, ◌&&◌, ◌||◌, List, [], ◌∷◌, ◌++◌, length, take, drop, replicate, ℤ, pos, ◌-ℤ◌, ◌==◌, nat_le, nat_lt, slice_index, slice_index_or, Ok}
 use Rattle.std.proofs.Math.Option.{Option, none, some}
 use mathlib.Core.List.{flat_map}
 use Rattle.scope.specs.Search.{whenever, first_of}
@@ -13,13 +13,12 @@ use Rattle.scope.specs.Plans.{at, pixels, pattern_at, banks}
 use Rattle.scope.specs.Cycles.{LongClash, clash_in_for}
 use Rattle.scope.specs.Banks.{over_start}
 use Rattle.scope.specs.Numbers.{Answer, value, refusal}
-use Rattle.scope.specs.Calls.{Result, Lent, lent, size_of, clash_beside, fetch_first, fetch_start}
+use Rattle.scope.specs.Calls.{After, Lent, lent, size_of, clash_beside, fetch_first, fetch_start}
 use Rattle.scope.specs.promises.Demand.{store, clear, make_sums, load, fetch, sum, read_sum, Call, write, read, Reply, wrote, loaded, fetched, summed, Setting, after, reply, run, replies, test}
 use Rattle.scope.specs.promises.SumPromises.{SumsAre, walking_since}
 use Rattle.scope.specs.declared.Book.{Book}
 use Rattle.scope.specs.declared.Plan.{Plan}
 use Rattle.finder.specs.declared.clash.Suited.{Suited}
-use Rattle.scope.specs.declared.Outcome.{Outcome}
 use Rattle.book.specs.Scan.{outcome_of}
 use Rattle.pictures.specs.declared.lists.Listed.{Listed}
 
@@ -150,7 +149,7 @@ left_by none old new = new
 left_by (some fault) old new = old
 
 -- A list that is wrong, or whose outputs or replies are too short, changes nothing.
-unfoldable pub run_list : Setting → List ℕ → Buffers → Result Listed Buffers
+unfoldable pub run_list : Setting → List ℕ → Buffers → After Listed Buffers
 unfolding list_test listed_by left_by made_list
 run_list g xs b =
     let wrong : Option Listed = list_test xs (length b.outputs) (length b.rows) in
@@ -181,7 +180,7 @@ pub record BegunAt (book : Book) (r : ℕ) (p : Plan) (W H words n : ℕ) (start
 
 -- What the code has found out once: that of each pattern number up to 16; past the end of a list there is `no_start`
 abbrev pub no_start : Suited
-no_start = record { outcome = Outcome.Done; positions = [] }
+no_start = record { outcome = Ok tt; positions = [] }
 
 pub record Begun (book : Book) (r : ℕ) (p : Plan) (W H words : ℕ) (starts : List Suited) : Type 0 where
   pub found : (n : ℕ) → n < 17 → BegunAt book r p W H words n (slice_index_or starts n no_start)

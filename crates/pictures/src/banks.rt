@@ -4,7 +4,7 @@ ghost use mathlib.Core.List.{foldr};
 ghost use Rattle.scope.specs.Calls.{lent, clear, sum};
 
 use crate::places::{bank_depth, lent_depth};
-use scope::{Counted, Outcome, Plan, Refusal};
+use scope::{Plan, Refusal};
 
 // Puts 0 in every word.
 fn clear_words(words: &mut [u16])
@@ -18,23 +18,23 @@ fn clear_words(words: &mut [u16])
 }
 
 // Clears bank k and its sum, or 11, 12, 13, 15 and the memory and the sums as they were.
-pub fn clear(p: Plan, w: u32, h: u32, mem: &mut [u16], sums: &mut [u64], k: u64) -> Outcome
+pub fn clear(p: Plan, w: u32, h: u32, mem: &mut [u16], sums: &mut [u64], k: u64) -> Result<(), Refusal>
     ensures answer { result ≡ (clear p w h (lent mem.old sums.old) k).answer }
     ensures left { lent mem.new sums.new ≡ (clear p w h (lent mem.old sums.old) k).content }
 {
     let depth = lent_depth(p, w, h, mem.len(), sums.len());
     match depth {
-        Counted::Number(deep) => {
+        Ok(deep) => {
             if p.banks() <= k {
-                return Outcome::Refused(Refusal::Cell);
+                return Err(Refusal::Cell);
             }
             let start = (k * deep) as usize;
             let end = ((k + 1) * deep) as usize;
             clear_words(&mut mem[start..end]);
             sums[k as usize] = 0;
-            Outcome::Done
+            Ok(())
         }
-        Counted::Refused(r) => Outcome::Refused(r),
+        Err(r) => Err(r),
     }
 }
 
@@ -53,16 +53,16 @@ pub(crate) fn sum_words(words: &[u16]) -> u64
 }
 
 // The sum of bank k's words, or 11, 12, 13, 15.
-pub fn sum(p: Plan, w: u32, h: u32, mem: &[u16], k: u64) -> Counted
+pub fn sum(p: Plan, w: u32, h: u32, mem: &[u16], k: u64) -> Result<u64, Refusal>
     ensures { result ≡ sum p w h mem.now k }
 {
     let depth = bank_depth(p, w, h, mem.len(), k);
     match depth {
-        Counted::Number(deep) => {
+        Ok(deep) => {
             let start = (k * deep) as usize;
             let end = ((k + 1) * deep) as usize;
-            Counted::Number(sum_words(&mem[start..end]))
+            Ok(sum_words(&mem[start..end]))
         }
-        Counted::Refused(r) => Counted::Refused(r),
+        Err(r) => Err(r),
     }
 }

@@ -14,13 +14,13 @@ use crate::moving::{all_inside, put_words};
 use crate::places::picture_outcome;
 use book::entry_number;
 use finder::{Suited, book_outcome, suits_answer};
-use scope::{Book, Counted, FetchAnswer, Outcome, Pattern, Plan, Refusal};
+use scope::{Book, FetchAnswer, Pattern, Plan, Refusal};
 
 // What a fetch of the pattern t, number n of `count`, begins with: what the tests of the book and r and of the picture found, then 17,
 // 10, and beside it the positions of the clash.
 pub(crate) fn start_answer(
-    tested: Outcome,
-    picture: Outcome,
+    tested: Result<(), Refusal>,
+    picture: Result<(), Refusal>,
     count: usize,
     t: Pattern,
     r: u32,
@@ -31,13 +31,13 @@ pub(crate) fn start_answer(
     ensures { (result.outcome ≡ outcome_of (start_test (found_by tested) (found_by picture) count t r p n)) × (result.positions ≡ start_positions (found_by tested) (found_by picture) count t r p n) }
 {
     let positions = [0usize; 9];
-    if let Outcome::Refused(_) = tested {
+    if let Err(_) = tested {
         return Suited {
             outcome: tested,
             positions,
         };
     }
-    if let Outcome::Refused(_) = picture {
+    if let Err(_) = picture {
         return Suited {
             outcome: picture,
             positions,
@@ -45,7 +45,7 @@ pub(crate) fn start_answer(
     }
     if count <= n {
         return Suited {
-            outcome: Outcome::Refused(Refusal::NoPattern),
+            outcome: Err(Refusal::NoPattern),
             positions,
         };
     }
@@ -67,20 +67,20 @@ fn is_ring(p: Plan, w: u32, h: u32) -> bool
 }
 
 // The edge: 14 for a pattern moved to (i, j), or 18 for a ring fetch.
-fn edge_outcome(ring: bool, t: Pattern, p: Plan, w: u32, h: u32, i: i16, j: i16) -> Outcome
+fn edge_outcome(ring: bool, t: Pattern, p: Plan, w: u32, h: u32, i: i16, j: i16) -> Result<(), Refusal>
     requires { (is_plan p ≡ true) × (h ≤ 4096) × (t.used ≤ 64) }
     ensures { result ≡ outcome_of (edge_test ring p w h (moved t (at i j))) }
 {
     if ring {
         if !is_ring(p, w, h) {
-            return Outcome::Refused(Refusal::Ring);
+            return Err(Refusal::Ring);
         }
-        return Outcome::Done;
+        return Ok(());
     }
     if !all_inside(t, w, h, i, j) {
-        return Outcome::Refused(Refusal::Outside);
+        return Err(Refusal::Outside);
     }
-    Outcome::Done
+    Ok(())
 }
 
 // Puts the words of a pattern moved to (i, j), wrapped, and tells how many, or 16 and the output as it was.
@@ -94,21 +94,21 @@ fn deliver(
     i: i16,
     j: i16,
     out: &mut [u16],
-) -> Counted
+) -> Result<u64, Refusal>
     requires { (picture_test p w h (length mem.now) ≡ none) × (t.used ≤ 64) × (ring ≡ false → every (inside w h) (moved t (at i j)) ≡ true) }
     ensures { (result ≡ (delivered p w h mem.now (moved t (at i j)) out.old).answer) × (out.new ≡ (delivered p w h mem.now (moved t (at i j)) out.old).content) }
 {
     let used = t.used;
     if out.len() < used {
-        return Counted::Refused(Refusal::Output);
+        return Err(Refusal::Output);
     }
     put_words(ring, t, p, w, h, mem, i, j, out);
-    Counted::Number(used as u64)
+    Ok(used as u64)
 }
 
 // What a fetch of the pattern t goes on with after its first tests: the edge, then 16 and the words.
 pub(crate) fn fetch_rest(
-    start: Outcome,
+    start: Result<(), Refusal>,
     ring: bool,
     t: Pattern,
     p: Plan,
@@ -118,17 +118,12 @@ pub(crate) fn fetch_rest(
     i: i16,
     j: i16,
     out: &mut [u16],
-) -> Counted
+) -> Result<u64, Refusal>
     requires { found_by start ≡ none → (picture_test p w h (length mem.now) ≡ none) × (t.used ≤ 64) }
     ensures { (result ≡ (fetch_rest (found_by start) ring t p w h mem.now (at i j) out.old).answer) × (out.new ≡ (fetch_rest (found_by start) ring t p w h mem.now (at i j) out.old).content) }
 {
-    if let Outcome::Refused(r) = start {
-        return Counted::Refused(r);
-    }
-    let edge = edge_outcome(ring, t, p, w, h, i, j);
-    if let Outcome::Refused(r) = edge {
-        return Counted::Refused(r);
-    }
+    start?;
+    edge_outcome(ring, t, p, w, h, i, j)?;
     deliver(ring, t, p, w, h, mem, i, j, out)
 }
 

@@ -15,7 +15,7 @@ use crate::sums::{make_sums, read_sum};
 use crate::words::{load, store};
 use book::entry_number;
 use finder::{Suited, book_outcome};
-use scope::{Book, FetchAnswer, Outcome, Pattern, Plan};
+use scope::{Book, FetchAnswer, Pattern, Plan};
 
 // What came of a list: it was made, or it was not and nothing changed, because the numbers from this place on are no call's, or
 // because the outputs or the replies are too short.
@@ -114,7 +114,7 @@ fn starts_of(book: Book, r: u32, p: Plan, w: u32, h: u32, words: usize) -> [Suit
     let tested = book_outcome(book, r);
     let picture = picture_outcome(p, w, h, words);
     let none = Suited {
-        outcome: Outcome::Done,
+        outcome: Ok(()),
         positions: [0; 9],
     };
     let mut starts = [none; 17];

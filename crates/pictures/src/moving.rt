@@ -10,7 +10,7 @@ ghost use Rattle.pictures.specs.Fetching.{words_at};
 
 use crate::places::word_place;
 use integers::{raised8, raised16, remainder};
-use scope::{Counted, Pattern, Plan};
+use scope::{Pattern, Plan};
 
 // Whether coordinate c moved by z is from 0 to side - 1.
 fn is_within(z: i16, c: i8, side: u32) -> bool
@@ -60,8 +60,8 @@ fn place_at(p: Plan, w: u32, h: u32, words: usize, i: i16, j: i16) -> usize
 {
     let place = word_place(p, w, h, words, i, j);
     match place {
-        Counted::Number(k) => k as usize,
-        Counted::Refused(_) => 0,
+        Ok(k) => k as usize,
+        Err(_) => 0,
     }
 }
 

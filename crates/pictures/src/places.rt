@@ -5,63 +5,61 @@ ghost use Rattle.scope.specs.Calls.{picture_test};
 ghost use Rattle.book.specs.Scan.{outcome_of};
 ghost use Rattle.pictures.specs.Places.{picture_depth, lent_depth, word_place, bank_depth};
 
-use scope::{Counted, Outcome, Plan, Refusal};
+use scope::{Plan, Refusal};
 
 // The depth of a picture that the memory holds, or 11, 12, 13.
-fn picture_depth(p: Plan, w: u32, h: u32, words: usize) -> Counted
+fn picture_depth(p: Plan, w: u32, h: u32, words: usize) -> Result<u64, Refusal>
     ensures { result ≡ picture_depth p w h words }
 {
     let answer = p.depth(w, h);
-    if let Counted::Number(depth) = answer {
+    if let Ok(depth) = answer {
         if (words as u64) < p.banks() * depth {
-            return Counted::Refused(Refusal::Memory);
+            return Err(Refusal::Memory);
         }
     }
     answer
 }
 
 // The same with so many entries for the sums: 11, 12, 13, also where they are too few.
-pub(crate) fn lent_depth(p: Plan, w: u32, h: u32, words: usize, entries: usize) -> Counted
+pub(crate) fn lent_depth(p: Plan, w: u32, h: u32, words: usize, entries: usize) -> Result<u64, Refusal>
     ensures { result ≡ lent_depth p w h (record { words = words; entries = entries }) }
 {
     let answer = picture_depth(p, w, h, words);
-    if let Counted::Number(_) = answer {
+    if let Ok(_) = answer {
         if (entries as u64) < p.banks() {
-            return Counted::Refused(Refusal::Memory);
+            return Err(Refusal::Memory);
         }
     }
     answer
 }
 
 // Whether there is a picture that the memory holds, or 11, 12, 13.
-pub(crate) fn picture_outcome(p: Plan, w: u32, h: u32, words: usize) -> Outcome
+pub(crate) fn picture_outcome(p: Plan, w: u32, h: u32, words: usize) -> Result<(), Refusal>
     ensures { result ≡ outcome_of (picture_test p w h words) }
 {
     let depth = picture_depth(p, w, h, words);
     match depth {
-        Counted::Number(_) => Outcome::Done,
-        Counted::Refused(r) => Outcome::Refused(r),
+        Ok(_) => Ok(()),
+        Err(r) => Err(r),
     }
 }
 
 // The place of the word of the pixel (i, j), or 11, 12, 13, 14.
-pub(crate) fn word_place(p: Plan, w: u32, h: u32, words: usize, i: i16, j: i16) -> Counted
+pub(crate) fn word_place(p: Plan, w: u32, h: u32, words: usize, i: i16, j: i16) -> Result<u64, Refusal>
     ensures { result ≡ word_place p w h words (at i j) }
 {
-    if let Outcome::Refused(r) = picture_outcome(p, w, h, words) {
-        return Counted::Refused(r);
-    }
+    picture_outcome(p, w, h, words)?;
     p.word(w, h, i, j)
 }
 
 // How many words bank k has, which begins at k times as many, or 11, 12, 13, 15.
-pub(crate) fn bank_depth(p: Plan, w: u32, h: u32, words: usize, k: u64) -> Counted
+pub(crate) fn bank_depth(p: Plan, w: u32, h: u32, words: usize, k: u64) -> Result<u64, Refusal>
     ensures { result ≡ bank_depth p w h words k }
 {
     let answer = picture_depth(p, w, h, words);
-    if let Counted::Number(_) = answer {
+    if let Ok(_) = answer {
         if p.banks() <= k {
-            return Counted::Refused(Refusal::Cell);
+            return Err(Refusal::Cell);
         }
     }
     answer

@@ -1,10 +1,10 @@
 // The reply to a call of a list, in twelve numbers.
 ghost use Rattle.std.specs.Prelude.{◌≡◌, ℕ, suc, ◌≤◌, List, [], ◌∷◌, length, take};
 ghost use Rattle.scope.specs.Banks.{over_start};
-ghost use Rattle.scope.specs.Numbers.{turned_down, with_positions, of_counted, of_loaded, of_outcome, of_fetch};
+ghost use Rattle.scope.specs.Numbers.{turned_down, with_positions, of_result, of_fetch};
 ghost use Rattle.pictures.specs.Lists.{answer_numbers, twelve};
 
-use scope::{Counted, FetchAnswer, Loaded, Outcome, Refusal, Row, row_of};
+use scope::{FetchAnswer, Refusal, Row, row_of};
 
 // A refusal's number, its place and, of 10, its clash.
 fn refusal_row(r: Refusal) -> [u64; 12]
@@ -32,32 +32,32 @@ fn value_row(x: u64) -> [u64; 12]
 }
 
 // That a call was done, or its refusal.
-pub(crate) fn outcome_row(o: Outcome) -> [u64; 12]
-    ensures { result ≡ twelve (answer_numbers (λ x. []) (of_outcome o)) }
+pub(crate) fn outcome_row(o: Result<(), Refusal>) -> [u64; 12]
+    ensures { result ≡ twelve (answer_numbers (λ x. []) (of_result o)) }
 {
     match o {
-        Outcome::Done => [0u64; 12],
-        Outcome::Refused(r) => refusal_row(r),
+        Ok(()) => [0u64; 12],
+        Err(r) => refusal_row(r),
     }
 }
 
 // A word, or the refusal.
-pub(crate) fn loaded_row(l: Loaded) -> [u64; 12]
-    ensures { result ≡ twelve (answer_numbers (λ n. n ∷ []) (of_loaded l)) }
+pub(crate) fn loaded_row(l: Result<u16, Refusal>) -> [u64; 12]
+    ensures { result ≡ twelve (answer_numbers (λ n. n ∷ []) (of_result l)) }
 {
     match l {
-        Loaded::Word(x) => value_row(x as u64),
-        Loaded::Refused(r) => refusal_row(r),
+        Ok(x) => value_row(x as u64),
+        Err(r) => refusal_row(r),
     }
 }
 
 // A number, or the refusal.
-pub(crate) fn counted_row(c: Counted) -> [u64; 12]
-    ensures { result ≡ twelve (answer_numbers (λ n. n ∷ []) (of_counted c)) }
+pub(crate) fn counted_row(c: Result<u64, Refusal>) -> [u64; 12]
+    ensures { result ≡ twelve (answer_numbers (λ n. n ∷ []) (of_result c)) }
 {
     match c {
-        Counted::Number(x) => value_row(x),
-        Counted::Refused(r) => refusal_row(r),
+        Ok(x) => value_row(x),
+        Err(r) => refusal_row(r),
     }
 }
 
@@ -90,8 +90,8 @@ pub(crate) fn fetched_row(a: FetchAnswer, r: u32) -> [u64; 12]
     let counted = a.counted;
     let positions = a.positions;
     match counted {
-        Counted::Number(x) => value_row(x),
-        Counted::Refused(f) => clash_row(f, positions, r),
+        Ok(x) => value_row(x),
+        Err(f) => clash_row(f, positions, r),
     }
 }
 

@@ -6,7 +6,7 @@ ghost use Rattle.pictures.specs.Places.{sums_over};
 
 use crate::banks::sum_words;
 use crate::places::lent_depth;
-use scope::{Counted, Outcome, Plan, Refusal};
+use scope::{Plan, Refusal};
 use std::num::{wrapping_add_u64, wrapping_sub_u64};
 
 // A sum without the old word and with the new one, modulo 2^64.
@@ -31,32 +31,32 @@ fn put_sums(n: usize, deep: usize, mem: &[u16], sums: &mut [u64])
 }
 
 // Makes the sums of all banks afresh from the memory, or 11, 12, 13 and the sums as they were.
-pub fn make_sums(p: Plan, w: u32, h: u32, mem: &[u16], sums: &mut [u64]) -> Outcome
+pub fn make_sums(p: Plan, w: u32, h: u32, mem: &[u16], sums: &mut [u64]) -> Result<(), Refusal>
     ensures answer { result ≡ (make_sums p w h (lent mem.now sums.old)).answer }
     ensures left { lent mem.now sums.new ≡ (make_sums p w h (lent mem.now sums.old)).content }
 {
     let depth = lent_depth(p, w, h, mem.len(), sums.len());
     match depth {
-        Counted::Number(deep) => {
+        Ok(deep) => {
             put_sums(p.banks() as usize, deep as usize, mem, sums);
-            Outcome::Done
+            Ok(())
         }
-        Counted::Refused(r) => Outcome::Refused(r),
+        Err(r) => Err(r),
     }
 }
 
 // The sum that is kept of bank k, or 11, 13, 15.
-pub fn read_sum(p: Plan, sums: &[u64], k: u64) -> Counted
+pub fn read_sum(p: Plan, sums: &[u64], k: u64) -> Result<u64, Refusal>
     ensures { result ≡ read_sum p sums.now k }
 {
     if !p.is_plan() {
-        return Counted::Refused(Refusal::NotPlan);
+        return Err(Refusal::NotPlan);
     }
     if (sums.len() as u64) < p.banks() {
-        return Counted::Refused(Refusal::Memory);
+        return Err(Refusal::Memory);
     }
     if p.banks() <= k {
-        return Counted::Refused(Refusal::Cell);
+        return Err(Refusal::Cell);
     }
-    Counted::Number(sums[k as usize])
+    Ok(sums[k as usize])
 }

@@ -5,7 +5,7 @@ ghost use Rattle.scope.specs.Calls.{lent, store, load};
 
 use crate::places::{lent_depth, word_place};
 use crate::sums::exchange;
-use scope::{Counted, Loaded, Outcome, Placed, Plan};
+use scope::Plan;
 
 // Stores x at the pixel (i, j) and keeps its bank's sum, or 11, 12, 13, 14 and the memory and the sums as they were.
 pub fn store(
@@ -17,34 +17,32 @@ pub fn store(
     i: i16,
     j: i16,
     x: u16,
-) -> Outcome
+) -> Result<(), Refusal>
     ensures answer { result ≡ (store p w h (lent mem.old sums.old) (at i j) x).answer }
     ensures left { lent mem.new sums.new ≡ (store p w h (lent mem.old sums.old) (at i j) x).content }
 {
-    if let Counted::Refused(r) = lent_depth(p, w, h, mem.len(), sums.len()) {
-        return Outcome::Refused(r);
-    }
+    lent_depth(p, w, h, mem.len(), sums.len())?;
     let placed = p.place(w, h, i, j);
     match placed {
-        Placed::At(at) => {
+        Ok(at) => {
             let n = at.bank as usize;
             let k = at.word as usize;
             let old = mem[k];
             mem[k] = x;
             sums[n] = exchange(sums[n], old, x);
-            Outcome::Done
+            Ok(())
         }
-        Placed::Refused(r) => Outcome::Refused(r),
+        Err(r) => Err(r),
     }
 }
 
 // The word at the pixel (i, j), or 11, 12, 13, 14.
-pub fn load(p: Plan, w: u32, h: u32, mem: &[u16], i: i16, j: i16) -> Loaded
+pub fn load(p: Plan, w: u32, h: u32, mem: &[u16], i: i16, j: i16) -> Result<u16, Refusal>
     ensures { result ≡ load p w h mem.now (at i j) }
 {
     let place = word_place(p, w, h, mem.len(), i, j);
     match place {
-        Counted::Number(k) => Loaded::Word(mem[k as usize]),
-        Counted::Refused(r) => Loaded::Refused(r),
+        Ok(k) => Ok(mem[k as usize]),
+        Err(r) => Err(r),
     }
 }

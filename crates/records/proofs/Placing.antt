@@ -1,5 +1,6 @@
 -- One record: what its pixel's address and bank tell of it.
 -- Assumes nothing.
+use Rattle.std.specs.Prelude.{Result, Ok, Err}
 use Prim.Native.Nat.{ℕ, ◌<◌, ◌^◌}
 use native.Mathlib.Omega.{arith}
 use mathlib.Core.Path.{◌≡◌, refl, sym, ◌∙◌, ap}
@@ -20,7 +21,6 @@ use Rattle.scope.specs.promises.Meaning.{IsPlan, IsSide, AllInside}
 use Rattle.scope.specs.declared.Plan.{Plan}
 use Rattle.scope.specs.declared.PixelRecord.{PixelRecord}
 use Rattle.scope.specs.declared.Refusal.{Refusal}
-use Rattle.scope.specs.declared.Counted.{Counted}
 use Rattle.scope.proofs.PlanFacts.{entry_handed}
 use Rattle.checks.proofs.Searches.{none_not_some}
 use Rattle.checks.proofs.Tests.{plan_legal_iff}
@@ -50,10 +50,10 @@ module _ (r : PixelRecord) (f : mag r.column < 2 ^ hbits w16) (g : mag r.row < 2
   abbrev handed : Pixel
   handed = at (to_z w16 (of_z w16 r.column)) (to_z w16 (of_z w16 r.row))
 
-  pub address_handed : {A : Counted} (p : Plan) (W H : ℕ) → A ≡ address p W H handed → A ≡ address p W H (record_pixel r)
+  pub address_handed : {A : Result ℕ Refusal} (p : Plan) (W H : ℕ) → A ≡ address p W H handed → A ≡ address p W H (record_pixel r)
   address_handed p W H e = rw (record_pixel_handed r f g) at e
 
-  pub bank_handed : {B : Counted} (p : Plan) → B ≡ bank p handed → B ≡ bank p (record_pixel r)
+  pub bank_handed : {B : Result ℕ Refusal} (p : Plan) → B ≡ bank p handed → B ≡ bank p (record_pixel r)
   bank_handed p e = rw (record_pixel_handed r f g) at e
 
 module _ (p : Plan) (W H : ℕ) (r : PixelRecord) where
@@ -64,20 +64,20 @@ module _ (p : Plan) (W H : ℕ) (r : PixelRecord) where
   tests = first_of (plan_test p ∷ sides_test W H ∷ outside_test W H (v ∷ []) ∷ [])
 
   -- by what the address's call answered
-  module _ {A : Counted} (told_address : A ≡ address p W H v) where
-    pub no_address : {q : Refusal} → A ≡ Counted.Refused q → is_placeable p W H r ≡ false
+  module _ {A : Result ℕ Refusal} (told_address : A ≡ address p W H v) where
+    pub no_address : {q : Refusal} → A ≡ Err q → is_placeable p W H r ≡ false
     unfolding is_placeable is_number
     no_address e = ap is_number (sym told_address ∙ e)
 
-    pub has_address : {u : ℕ} → A ≡ Counted.Number u → is_placeable p W H r ≡ true
+    pub has_address : {u : ℕ} → A ≡ Ok u → is_placeable p W H r ≡ true
     unfolding is_placeable is_number
     has_address e = ap is_number (sym told_address ∙ e)
 
-    pub kept : {q : Refusal} → A ≡ Counted.Refused q → r ≡ placed_if p W H r
+    pub kept : {q : Refusal} → A ≡ Err q → r ≡ placed_if p W H r
     unfolding placed_if
     kept e = sym (rw (no_address e, placed_if))
 
-    module _ {u : ℕ} (u_is : A ≡ Counted.Number u) where
+    module _ {u : ℕ} (u_is : A ≡ Ok u) where
       address_shows : (tests ≡ none) × (address_of p W H v ≡ u)
       unfolding address
       address_shows = number_shows tests (address_of p W H v) told_address u_is
@@ -95,12 +95,12 @@ module _ (p : Plan) (W H : ℕ) (r : PixelRecord) where
           )
 
       -- and by what the bank's call answered
-      module _ {B : Counted} (told_bank : B ≡ bank p v) where
-        pub no_bank : {q : Refusal} → B ≡ Counted.Refused q → ⊥
+      module _ {B : Result ℕ Refusal} (told_bank : B ≡ bank p v) where
+        pub no_bank : {q : Refusal} → B ≡ Err q → ⊥
         unfolding bank
         no_bank e = none_not_some (sym ((plan_legal_iff p).1 legal.0) ∙ refusal_shows (plan_test p) (bank_of p v) told_bank e)
 
-        module _ {k : ℕ} (k_is : B ≡ Counted.Number k) where
+        module _ {k : ℕ} (k_is : B ≡ Ok k) where
           bank_shows : bank_of p v ≡ k
           unfolding bank
           bank_shows = (number_shows (plan_test p) (bank_of p v) told_bank k_is).1

@@ -1,5 +1,6 @@
 -- A whole list by its records: one that is not placeable leaves the list as it was, and where all are each is placed.
 -- Assumes nothing.
+use Rattle.std.specs.Prelude.{Ok, Err}
 use Prim.Native.Nat.{ℕ, ◌<◌}
 use native.Mathlib.Decide.{ℕ_discrete}
 use native.Mathlib.Omega.{arith}
@@ -18,8 +19,6 @@ use Rattle.scope.specs.promises.PicturePromises.{no_record}
 use Rattle.scope.specs.declared.Plan.{Plan}
 use Rattle.scope.specs.declared.PixelRecord.{PixelRecord}
 use Rattle.scope.specs.declared.Refusal.{Refusal}
-use Rattle.scope.specs.declared.Counted.{Counted}
-use Rattle.scope.specs.declared.Outcome.{Outcome}
 use Rattle.checks.proofs.Searches.{true-not-false, none_not_some}
 use Rattle.checks.proofs.Lists.{mem_get_d, get_d_mem, get_d_map, mem-map, map-mem}
 use Rattle.checks.proofs.FilledArrays.{gathered}
@@ -30,12 +29,12 @@ use Rattle.checks.proofs.Legal.{one_inside}
 use Rattle.records.specs.Filling.{is_number, is_placeable, placed_if, fill_answer}
 
 -- a call's answer is a number exactly where its tests find nothing
-number_passed : (t : Option Refusal) (n : ℕ) → is_number (answered t Counted.Refused (Counted.Number n)) ≡ true → t ≡ none
+number_passed : (t : Option Refusal) (n : ℕ) → is_number (answered t Err (Ok n)) ≡ true → t ≡ none
 unfolding answered is_number
 number_passed none n e = refl
 number_passed (some r) n e = absurd (true-not-false (sym e))
 
-passed_number : (t : Option Refusal) (n : ℕ) → t ≡ none → is_number (answered t Counted.Refused (Counted.Number n)) ≡ true
+passed_number : (t : Option Refusal) (n : ℕ) → t ≡ none → is_number (answered t Err (Ok n)) ≡ true
 unfolding answered is_number
 passed_number none n e = refl
 passed_number (some r) n e = absurd (none_not_some (sym e))
@@ -122,10 +121,10 @@ module _ (p : Plan) (W H : ℕ) where
         let (q, refused) = some_refusal (plan_test p) (sides_test W H) Refusal.Outside in
         let same : chain outside ≡ chain (some Refusal.Outside) = last_alike (plan_test p) (sides_test W H) outside (some Refusal.Outside) found in (
           sym
-              (changed_answer (chain outside) Outcome.Refused rs Outcome.Done (map (placed p W H) rs)
-              ∙ ap (λ (t : Option Refusal). answered t Outcome.Refused Outcome.Done) same),
+              (changed_answer (chain outside) Err rs (Ok tt) (map (placed p W H) rs)
+              ∙ ap (λ (t : Option Refusal). answered t Err (Ok tt)) same),
           sym
-              (changed_content (chain outside) Outcome.Refused rs Outcome.Done (map (placed p W H) rs)
+              (changed_content (chain outside) Err rs (Ok tt) (map (placed p W H) rs)
               ∙ answered_some (chain outside) (λ r. rs) (map (placed p W H) rs) q (same ∙ refused)),
         )
       where
@@ -172,10 +171,10 @@ module _ (p : Plan) (W H : ℕ) where
       unfolding fill_records fill_answer whenever
       all_filled = (
         sym
-            (changed_answer (chain outside) Outcome.Refused rs Outcome.Done (map (placed p W H) rs)
-            ∙ ap (λ (t : Option Refusal). answered (chain t) Outcome.Refused Outcome.Done) none_outside),
+            (changed_answer (chain outside) Err rs (Ok tt) (map (placed p W H) rs)
+            ∙ ap (λ (t : Option Refusal). answered (chain t) Err (Ok tt)) none_outside),
         sym
-            (changed_content (chain outside) Outcome.Refused rs Outcome.Done (map (placed p W H) rs)
+            (changed_content (chain outside) Err rs (Ok tt) (map (placed p W H) rs)
             ∙ content_is (ℕ_discrete (length rs) 0)
             ∙ placed_each),
       )

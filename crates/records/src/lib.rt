@@ -5,15 +5,15 @@ ghost use Rattle.std.specs.Prelude.{◌≡◌};
 ghost use Rattle.scope.specs.Calls.{fill_records};
 ghost use Rattle.records.specs.Filling.{is_placeable, placed_if, fill_answer};
 
-use scope::{Counted, Outcome, PixelRecord, Plan, Refusal};
+use scope::{PixelRecord, Plan, Refusal};
 
 // Whether p is a plan, w and h are sides and the record's pixel is inside.
 fn is_placeable(p: Plan, w: u32, h: u32, r: PixelRecord) -> bool
     ensures { result ≡ is_placeable p w h r }
 {
     match p.address(w, h, r.column, r.row) {
-        Counted::Number(_) => true,
-        Counted::Refused(_) => false,
+        Ok(_) => true,
+        Err(_) => false,
     }
 }
 
@@ -23,10 +23,10 @@ fn placed(p: Plan, w: u32, h: u32, r: PixelRecord) -> PixelRecord
 {
     let i = r.column;
     let j = r.row;
-    let Counted::Number(address) = p.address(w, h, i, j) else {
+    let Ok(address) = p.address(w, h, i, j) else {
         return r;
     };
-    let Counted::Number(bank) = p.bank(i, j) else {
+    let Ok(bank) = p.bank(i, j) else {
         return r;
     };
     PixelRecord {
@@ -38,21 +38,19 @@ fn placed(p: Plan, w: u32, h: u32, r: PixelRecord) -> PixelRecord
 }
 
 // The answer for a list whose pixels are all inside, or not: 11, 12, 14.
-fn fill_answer(p: Plan, w: u32, h: u32, inside: bool) -> Outcome
+fn fill_answer(p: Plan, w: u32, h: u32, inside: bool) -> Result<(), Refusal>
     ensures { result ≡ fill_answer p w h inside }
 {
-    if let Counted::Refused(r) = p.depth(w, h) {
-        return Outcome::Refused(r);
-    }
+    p.depth(w, h)?;
     if inside {
-        Outcome::Done
+        Ok(())
     } else {
-        Outcome::Refused(Refusal::Outside)
+        Err(Refusal::Outside)
     }
 }
 
 // Fills in the bank and the address of every record, or changes none and refuses by 11, 12, 14.
-pub fn fill_records(p: Plan, w: u32, h: u32, list: &mut [PixelRecord]) -> Outcome
+pub fn fill_records(p: Plan, w: u32, h: u32, list: &mut [PixelRecord]) -> Result<(), Refusal>
     ensures { (result ≡ (fill_records p w h list.old).answer) × (list.new ≡ (fill_records p w h list.old).content) }
 {
     let mut i = 0;

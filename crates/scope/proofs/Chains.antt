@@ -1,5 +1,7 @@
 -- Chains of tests, and what a call answers by them: where they find nothing its value, and where not the first refusal.
 -- Assumes nothing.
+use Rattle.std.specs.Prelude.{Result, Ok, Err, IsErr, IsErrAnd}
+use Rattle.std.proofs.lemmas.Result.{err_from_is_err_and}
 use Prim.Native.Nat.{ℕ}
 use native.Mathlib.Omega.{arith}
 use mathlib.Core.Path.{◌≡◌, refl, sym, ◌∙◌, ap}
@@ -8,11 +10,10 @@ use mathlib.Core.Logic.{◌↔◌}
 use mathlib.Core.Option.{Option, none, some, none-ne-some}
 use mathlib.Core.List.{List, [], ◌∷◌, ◌++◌}
 use Rattle.scope.specs.Search.{whenever, first_of}
-use Rattle.scope.specs.Numbers.{Answer, value, refusal, turned_down, of_outcome}
+use Rattle.scope.specs.Numbers.{Answer, value, refusal, turned_down, of_result}
 use Rattle.scope.specs.Calls.{answered}
 use Rattle.scope.specs.Cycles.{LongClash}
 use Rattle.scope.specs.declared.Refusal.{Refusal}
-use Rattle.scope.specs.declared.Outcome.{Outcome}
 
 -- A test finds its refusal exactly where its condition holds.
 module _ {A : Type 0} where
@@ -109,10 +110,21 @@ module _ {X A : Type 0} (of : X → Answer A) (t : Option Refusal) (refused : Re
       by_tests (some r) h = absurd (value_not_refusal (sym e ∙ ap of (answered_some t refused x r h) ∙ reads r))
 
 -- What an outcome tells of the tests behind it.
-module _ {outcome : Outcome} (t : Option Refusal) (is : outcome ≡ answered t Outcome.Refused Outcome.Done) where
-  pub done_found_nothing : outcome ≡ Outcome.Done → t ≡ none
-  done_found_nothing e = (answered_value of_outcome t Outcome.Refused Outcome.Done tt (λ r. refl) (ap of_outcome (sym is ∙ e))).0
+module _ {outcome : Result Unit Refusal} (t : Option Refusal) (is : outcome ≡ answered t Err (Ok tt)) where
+  pub done_found_nothing : outcome ≡ Ok tt → t ≡ none
+  done_found_nothing e = (answered_value of_result t Err (Ok tt) tt (λ r. refl) (ap of_result (sym is ∙ e))).0
 
-  pub refused_found : {r : Refusal} → outcome ≡ Outcome.Refused r → t ≡ some r
+  pub refused_found : {r : Refusal} → outcome ≡ Err r → t ≡ some r
   refused_found {r} e =
-      answered_refused t Outcome.Refused Outcome.Done r (λ s h. cc) (λ h. value_not_refusal (ap of_outcome h)) (sym is ∙ e)
+      answered_refused t Err (Ok tt) r (λ s h. same_refusal s h) (λ h. value_not_refusal (ap of_result h)) (sym is ∙ e)
+    where
+      refusal_or : Refusal → Result Unit Refusal → Refusal
+      refusal_or f (Ok x) = f
+      refusal_or f (Err s) = s
+
+      same_refusal : (s : Refusal) → ◌≡◌ {A = Result Unit Refusal} (Err s) (Err r) → s ≡ r
+      same_refusal s h = ap (refusal_or s) h
+
+-- What `?` answers where a callee refused: the callee's refusal.
+pub handed_on : {A : Type 0} (x : Result A Refusal) {r : Refusal} → IsErr x × IsErrAnd x (λ f. f ≡ r) → x ≡ Err r
+handed_on x h = let p = err_from_is_err_and x h.1 in p.1 ∙ ap Err p.2

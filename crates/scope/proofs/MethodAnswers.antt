@@ -1,5 +1,6 @@
 -- What a plan's methods answer: by 11 and 12, the first tests of a call on a picture, and by 14 of one pixel.
 -- Assumes nothing.
+use Rattle.std.specs.Prelude.{Result, Ok, Err}
 use Prim.Native.Nat.{ℕ}
 use mathlib.Core.Path.{◌≡◌, refl, sym, ◌∙◌, ap}
 use mathlib.Core.Bool.{Bool, true, false, not, ◌&&◌}
@@ -13,7 +14,6 @@ use Rattle.scope.specs.Numbers.{is_side, plan_test, sides_test, outside_test}
 use Rattle.scope.specs.Calls.{answered, address_test}
 use Rattle.scope.specs.declared.Plan.{Plan}
 use Rattle.scope.specs.declared.Refusal.{Refusal}
-use Rattle.scope.specs.declared.Outcome.{Outcome}
 use Rattle.scope.specs.declared.Refusal.TheVariants.{NotPlan, Sides, Outside}
 use Rattle.scope.proofs.Chains.{whenever_none, none_whenever, some_whenever, chain_none_iff, chain_refuses, chain_goes_on, chain_of_one}
 use Rattle.scope.proofs.Chains.{tests_as_one, gives_value, gives_refusal, done_found_nothing, refused_found}
@@ -120,24 +120,24 @@ module _ (p : Plan) (W H : ℕ) (v : Pixel) where
       let (plan, sides) = both_passed p W H picture in
       (plan, sides, demanded (inside W H v) Outside (sym one_left ∙ pixel))
 
-  abbrev pub pixel_outcome : Outcome
-  pixel_outcome = answered (address_test p W H v) Outcome.Refused Outcome.Done
+  abbrev pub pixel_outcome : Result Unit Refusal
+  pixel_outcome = answered (address_test p W H v) Err (Ok tt)
 
-  pub pixel_done : {o : Outcome} → o ≡ pixel_outcome → o ≡ Outcome.Done
+  pub pixel_done : {o : Result Unit Refusal} → o ≡ pixel_outcome → o ≡ Ok tt
       → (is_plan p ≡ true) × (is_side W && is_side H ≡ true) × (inside W H v ≡ true)
   pixel_done is e = pixel_passed (done_found_nothing (address_test p W H v) is e)
 
 -- What a call by the three, which was handed u for v, answers: the refusal that they found, or its value.
 module _
-    {A X : Type 0} (p : Plan) (W H : ℕ) {v u : Pixel} (same : u ≡ v) {o : Outcome} (is : o ≡ pixel_outcome p W H u)
+    {A X : Type 0} (p : Plan) (W H : ℕ) {v u : Pixel} (same : u ≡ v) {o : Result Unit Refusal} (is : o ≡ pixel_outcome p W H u)
     (refused : Refusal → A) (given : X → A) (f : Pixel → X)
   where
     abbrev told : A
     told = answered (address_test p W H v) refused (given (f v))
 
-    pub refusal_told : {r : Refusal} → o ≡ Outcome.Refused r → refused r ≡ told
+    pub refusal_told : {r : Refusal} → o ≡ Err r → refused r ≡ told
     refusal_told e = gives_refusal (rw same at (refused_found (address_test p W H u) is e)) refused (given (f v))
 
-    pub value_told : {x : X} → o ≡ Outcome.Done → x ≡ f u → given x ≡ told
+    pub value_told : {x : X} → o ≡ Ok tt → x ≡ f u → given x ≡ told
     value_told e x-is =
         gives_value (rw same at (done_found_nothing (address_test p W H u) is e)) refused (ap given (x-is ∙ ap f same))

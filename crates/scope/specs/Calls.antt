@@ -3,7 +3,7 @@
 -- Document 02, Card 3: 19 is tested among the checks of the book, "wherever a book is taken". Card 4: "20, r outside 1 to 8, just
 -- after 6". Card 6: 13 is tested for the sums too, by the calls that are lent them.
 -- Assumes nothing.
-use Rattle.std.specs.Prelude.{ℕ, ◌+◌, ◌-◌, Bool, true, false, List, [], ◌∷◌, map, length, get_or}
+use Rattle.std.specs.Prelude.{ℕ, ◌+◌, ◌-◌, Bool, true, false, List, [], ◌∷◌, map, length, get_or, Result, Ok, Err, ℤ}
 use Rattle.std.proofs.Math.Option.{Option, none, some}
 use Rattle.scope.specs.Search.{first_of}
 use Rattle.scope.specs.Plans.{Pixel, plus, pixels, patterns, pattern_at, banks, normal_form}
@@ -18,11 +18,6 @@ use Rattle.scope.specs.declared.Pattern.{Pattern}
 use Rattle.scope.specs.declared.PixelRecord.{PixelRecord}
 use Rattle.scope.specs.declared.Refusal.{Refusal}
 use Rattle.scope.specs.declared.Verdict.{Verdict}
-use Rattle.scope.specs.declared.Planned.{Planned}
-use Rattle.scope.specs.declared.Counted.{Counted}
-use Rattle.scope.specs.declared.Loaded.{Loaded}
-use Rattle.scope.specs.declared.Located.{Located}
-use Rattle.scope.specs.declared.Outcome.{Outcome}
 use Rattle.scope.specs.declared.Reading.{Reading}
 use Rattle.scope.specs.declared.CheckAnswer.{CheckAnswer}
 use Rattle.scope.specs.declared.FetchAnswer.{FetchAnswer}
@@ -33,11 +28,11 @@ answered none refused x = x
 answered (some r) refused x = refused r
 
 -- A call's answer with the final content of what it was lent, which on a refusal is the old content.
-pub record Result (A B : Type 0) : Type 0 where
+pub record After (A B : Type 0) : Type 0 where
   pub answer : A
   pub content : B
 
-unfoldable pub changed : {A B : Type 0} → Option Refusal → (Refusal → A) → B → A → B → Result A B
+unfoldable pub changed : {A B : Type 0} → Option Refusal → (Refusal → A) → B → A → B → After A B
 changed none refused old x new = record { answer = x; content = new }
 changed (some r) refused old x new = record { answer = refused r; content = old }
 
@@ -45,8 +40,8 @@ changed (some r) refused old x new = record { answer = refused r; content = old 
 unfoldable pub read_book : List ℕ → Reading
 unfolding answered bytes_test book_in book_of
 read_book s =
-    answered (bytes_test s) (λ r. record { book = book_of []; outcome = Outcome.Refused r })
-    (record { book = book_in s; outcome = Outcome.Done })
+    answered (bytes_test s) (λ r. record { book = book_of []; outcome = Err r })
+    (record { book = book_in s; outcome = Ok tt })
 
 -- A pattern's part of the bytes: 1 to 5, 19, 17. "on a refusal the part is empty, and a second call with the same input gives
 -- the number and place"
@@ -58,9 +53,9 @@ unfoldable pub pattern_part : List ℕ → ℕ → List ℕ
 unfolding answered part_test part_in
 pattern_part s n = answered (part_test s n) (λ r. []) (part_in s n)
 
-unfoldable pub part_outcome : List ℕ → ℕ → Outcome
+unfoldable pub part_outcome : List ℕ → ℕ → Result Unit Refusal
 unfolding answered part_test
-part_outcome s n = answered (part_test s n) Outcome.Refused Outcome.Done
+part_outcome s n = answered (part_test s n) Err (Ok tt)
 
 -- "the part of the book where they stand": where it begins, the first pixel's place; an empty part is at the start
 unfoldable pub part_place : List ℕ → ℕ → ℕ
@@ -68,36 +63,36 @@ unfolding answered part_test start
 part_place s n = answered (part_test s n) (λ r. 0) (start s n + 1)
 
 -- "A call given a book record tests 2, 3, 4 in book order", and 19: that test by itself
-unfoldable pub record_outcome : Book → Outcome
+unfoldable pub record_outcome : Book → Result Unit Refusal
 unfolding answered record_test
-record_outcome book = answered (record_test book) Outcome.Refused Outcome.Done
+record_outcome book = answered (record_test book) Err (Ok tt)
 
 -- Write a record, and tell how many bytes: 2, 3, 4, 19, "the writer then 16".
-unfoldable pub write_book : Book → List ℕ → Result Counted (List ℕ)
+unfoldable pub write_book : Book → List ℕ → After (Result ℕ Refusal) (List ℕ)
 unfolding changed first_of record_test output_test book_bytes over_start
 write_book book out =
-    changed (first_of (record_test book ∷ output_test (length (book_bytes book)) (length out) ∷ [])) Counted.Refused out
-    (Counted.Number (length (book_bytes book)))
+    changed (first_of (record_test book ∷ output_test (length (book_bytes book)) (length out) ∷ [])) Err out
+    (Ok (length (book_bytes book)))
     (over_start (book_bytes book) out)
 
 -- The normal form of two vectors: "the call for it refuses by 8 and 9".
-unfoldable pub normal : Pixel → Pixel → Planned
+unfoldable pub normal : Pixel → Pixel → Result Plan Refusal
 unfolding answered first_of dependent_test large_test normal_form
 normal x y =
-    answered (first_of (dependent_test x y ∷ large_test x y ∷ [])) Planned.Refused (Planned.Plan (normal_form x y))
+    answered (first_of (dependent_test x y ∷ large_test x y ∷ [])) Err (Ok (normal_form x y))
 
 -- Find for r: 2, 3, 4, 19, 6, 20, "with 7 last".
 unfoldable pub find_test : Book → ℕ → ℕ → Option Refusal
 unfolding first_of record_test limit_test cycles_test
 find_test book r limit = first_of (record_test book ∷ limit_test limit ∷ cycles_test r ∷ [])
 
-unfoldable pub found : Option Plan → Planned
-found none = Planned.Refused Refusal.NoPlan
-found (some p) = Planned.Plan p
+unfoldable pub found : Option Plan → Result Plan Refusal
+found none = Err Refusal.NoPlan
+found (some p) = Ok p
 
-unfoldable pub find : Book → ℕ → ℕ → Planned
+unfoldable pub find : Book → ℕ → ℕ → Result Plan Refusal
 unfolding answered find_test found least_of suits_all_for patterns
-find book r limit = answered (find_test book r limit) Planned.Refused (found (least_plan_for r (patterns book) limit))
+find book r limit = answered (find_test book r limit) Err (found (least_plan_for r (patterns book) limit))
 
 -- The tests of a book and r: 2, 3, 4, 19, 20.
 unfoldable pub book_test : Book → ℕ → Option Refusal
@@ -105,9 +100,9 @@ unfolding first_of record_test cycles_test
 book_test book r = first_of (record_test book ∷ cycles_test r ∷ [])
 
 -- "the least for that r" of a book: 2, 3, 4, 19, 20.
-unfoldable pub fewest : Book → ℕ → Counted
+unfoldable pub fewest : Book → ℕ → Result ℕ Refusal
 unfolding answered book_test least_count_for patterns
-fewest book r = answered (book_test book r) Counted.Refused (Counted.Number (least_count_for r (patterns book)))
+fewest book r = answered (book_test book r) Err (Ok (least_count_for r (patterns book)))
 
 -- "10 also carries its clash": its positions, where the tests before 10 found nothing
 unfoldable pub clash_beside : Option Refusal → Option LongClash → List ℕ
@@ -137,29 +132,29 @@ check book r x y =
     }
 
 -- The bank of a pixel: 11.
-unfoldable pub bank : Plan → Pixel → Counted
+unfoldable pub bank : Plan → Pixel → Result ℕ Refusal
 unfolding answered plan_test bank_of
-bank p v = answered (plan_test p) Counted.Refused (Counted.Number (bank_of p v))
+bank p v = answered (plan_test p) Err (Ok (bank_of p v))
 
 -- The depth: 11, 12.
-unfoldable pub depth : Plan → ℕ → ℕ → Counted
+unfoldable pub depth : Plan → ℕ → ℕ → Result ℕ Refusal
 unfolding answered first_of plan_test sides_test depth_of
-depth p W H = answered (first_of (plan_test p ∷ sides_test W H ∷ [])) Counted.Refused (Counted.Number (depth_of p W H))
+depth p W H = answered (first_of (plan_test p ∷ sides_test W H ∷ [])) Err (Ok (depth_of p W H))
 
 -- The address of a pixel: 11, 12, 14.
 abbrev pub address_test : Plan → ℕ → ℕ → Pixel → Option Refusal
 address_test p W H v = first_of (plan_test p ∷ sides_test W H ∷ outside_test W H (v ∷ []) ∷ [])
 
-unfoldable pub address : Plan → ℕ → ℕ → Pixel → Counted
+unfoldable pub address : Plan → ℕ → ℕ → Pixel → Result ℕ Refusal
 unfolding answered first_of plan_test sides_test outside_test address_of
-address p W H v = answered (address_test p W H v) Counted.Refused (Counted.Number (address_of p W H v))
+address p W H v = answered (address_test p W H v) Err (Ok (address_of p W H v))
 
 -- The reverse map, of bank k and address i: 11, 12, 15.
-unfoldable pub locate : Plan → ℕ → ℕ → ℕ → ℕ → Located
+unfoldable pub locate : Plan → ℕ → ℕ → ℕ → ℕ → Result (ℤ × ℤ) Refusal
 unfolding answered first_of plan_test sides_test cell_test pixel_of
 locate p W H k i =
-    answered (first_of (plan_test p ∷ sides_test W H ∷ cell_test p W H k i ∷ [])) Located.Refused
-    (Located.Pixel (pixel_of p W H k i).column (pixel_of p W H k i).row)
+    answered (first_of (plan_test p ∷ sides_test W H ∷ cell_test p W H k i ∷ [])) Err
+    (Ok ((pixel_of p W H k i).column, (pixel_of p W H k i).row))
 
 -- The tests that every call on a picture begins with: 11, 12, 13. `words` is the memory's length.
 unfoldable pub picture_test : Plan → ℕ → ℕ → ℕ → Option Refusal
@@ -196,15 +191,15 @@ unfoldable pub store_test : Plan → ℕ → ℕ → Size → Pixel → Option R
 unfolding first_of lent_test outside_test
 store_test p W H s v = first_of (lent_test p W H s ∷ outside_test W H (v ∷ []) ∷ [])
 
-unfoldable pub store : Plan → ℕ → ℕ → Lent → Pixel → ℕ → Result Outcome Lent
+unfoldable pub store : Plan → ℕ → ℕ → Lent → Pixel → ℕ → After (Result Unit Refusal) Lent
 unfolding changed store_test after_store sums_after_store
 store p W H l v x =
-    changed (store_test p W H (size_of l) v) Outcome.Refused l Outcome.Done
+    changed (store_test p W H (size_of l) v) Err l (Ok tt)
     (lent (after_store p W H l.memory v x) (sums_after_store p W H l.memory l.sums v x))
 
-unfoldable pub load : Plan → ℕ → ℕ → List ℕ → Pixel → Loaded
+unfoldable pub load : Plan → ℕ → ℕ → List ℕ → Pixel → Result ℕ Refusal
 unfolding answered word_test word_in
-load p W H mem v = answered (word_test p W H (length mem) v) Loaded.Refused (Loaded.Word (word_in p W H mem v))
+load p W H mem v = answered (word_test p W H (length mem) v) Err (Ok (word_in p W H mem v))
 
 -- The sum of bank k, by a walk: 11, 12, 13, 15. Clear bank k: the same, with 13 for the sums too.
 unfoldable pub whole_bank_test : Plan → ℕ → ℕ → ℕ → ℕ → Option Refusal
@@ -215,31 +210,31 @@ unfoldable pub clear_test : Plan → ℕ → ℕ → Size → ℕ → Option Ref
 unfolding first_of lent_test bank_test
 clear_test p W H s k = first_of (lent_test p W H s ∷ bank_test p k ∷ [])
 
-unfoldable pub clear : Plan → ℕ → ℕ → Lent → ℕ → Result Outcome Lent
+unfoldable pub clear : Plan → ℕ → ℕ → Lent → ℕ → After (Result Unit Refusal) Lent
 unfolding changed clear_test after_clear sums_after_clear
 clear p W H l k =
-    changed (clear_test p W H (size_of l) k) Outcome.Refused l Outcome.Done
+    changed (clear_test p W H (size_of l) k) Err l (Ok tt)
     (lent (after_clear p W H l.memory k) (sums_after_clear l.sums k))
 
-unfoldable pub sum : Plan → ℕ → ℕ → List ℕ → ℕ → Counted
+unfoldable pub sum : Plan → ℕ → ℕ → List ℕ → ℕ → Result ℕ Refusal
 unfolding answered whole_bank_test bank_sum
 sum p W H mem k =
-    answered (whole_bank_test p W H (length mem) k) Counted.Refused (Counted.Number (bank_sum p W H mem k))
+    answered (whole_bank_test p W H (length mem) k) Err (Ok (bank_sum p W H mem k))
 
 -- "A call that makes them afresh from the memory is there for start-up": 11, 12, 13.
-unfoldable pub make_sums : Plan → ℕ → ℕ → Lent → Result Outcome Lent
+unfoldable pub make_sums : Plan → ℕ → ℕ → Lent → After (Result Unit Refusal) Lent
 unfolding changed lent_test fresh_sums
 make_sums p W H l =
-    changed (lent_test p W H (size_of l)) Outcome.Refused l Outcome.Done (lent l.memory (fresh_sums p W H l.memory l.sums))
+    changed (lent_test p W H (size_of l)) Err l (Ok tt) (lent l.memory (fresh_sums p W H l.memory l.sums))
 
 -- "reading one is a call of its own, a look-up that tests 11, 13 for the sums and 15 for the bank"
 unfoldable pub read_sum_test : Plan → ℕ → ℕ → Option Refusal
 unfolding first_of plan_test sums_test bank_test
 read_sum_test p entries k = first_of (plan_test p ∷ sums_test p entries ∷ bank_test p k ∷ [])
 
-unfoldable pub read_sum : Plan → List ℕ → ℕ → Counted
+unfoldable pub read_sum : Plan → List ℕ → ℕ → Result ℕ Refusal
 unfolding answered read_sum_test
-read_sum p sums k = answered (read_sum_test p (length sums) k) Counted.Refused (Counted.Number (get_or sums k 0))
+read_sum p sums k = answered (read_sum_test p (length sums) k) Err (Ok (get_or sums k 0))
 
 -- "a pattern with (0, 0) moved to a signed 16-bit position", to position o, "in the book's pixel order"
 unfoldable pub moved : Pattern → Pixel → List Pixel
@@ -279,11 +274,11 @@ rest_test start ring t p W H o room =
     first_of (start ∷ edge_test ring p W H (moved t o) ∷ output_test t.used room ∷ [])
 
 unfoldable pub fetch_rest :
-    Option Refusal → (ring : Bool) → Pattern → Plan → ℕ → ℕ → List ℕ → Pixel → List ℕ → Result Counted (List ℕ)
+    Option Refusal → (ring : Bool) → Pattern → Plan → ℕ → ℕ → List ℕ → Pixel → List ℕ → After (Result ℕ Refusal) (List ℕ)
 unfolding changed rest_test over_start word_in pixels_read moved
 fetch_rest start ring t p W H mem o out =
-    changed (rest_test start ring t p W H o (length out)) Counted.Refused out
-    (Counted.Number (length (pixels_read ring W H (moved t o))))
+    changed (rest_test start ring t p W H o (length out)) Err out
+    (Ok (length (pixels_read ring W H (moved t o))))
     (over_start (map (word_in p W H mem) (pixels_read ring W H (moved t o))) out)
 
 -- Fetch for r, and tell how many words: 2, 3, 4, 19, 20, 11, 12, 13, 17, 10, 14, 16. Ring fetch: 18 in the place of 14. "A fetch
@@ -293,7 +288,7 @@ unfolding rest_test fetch_start pattern_at
 fetch_test ring book r p W H words n o room = rest_test (fetch_start book r p W H words n) ring (pattern_at book n) p W H o room
 
 -- a counted answer beside the clash of pattern n, where `before` is what the tests before 10 found
-unfoldable pub beside_clash : Option Refusal → ℕ → Plan → Book → ℕ → Result Counted (List ℕ) → Result FetchAnswer (List ℕ)
+unfoldable pub beside_clash : Option Refusal → ℕ → Plan → Book → ℕ → After (Result ℕ Refusal) (List ℕ) → After FetchAnswer (List ℕ)
 unfolding clash_beside clash_in_for pixels pattern_at
 beside_clash before r p book n x =
     record {
@@ -302,17 +297,17 @@ beside_clash before r p book n x =
     }
 
 unfoldable pub either_fetch :
-    (ring : Bool) → Book → ℕ → Plan → ℕ → ℕ → List ℕ → ℕ → Pixel → List ℕ → Result FetchAnswer (List ℕ)
+    (ring : Bool) → Book → ℕ → Plan → ℕ → ℕ → List ℕ → ℕ → Pixel → List ℕ → After FetchAnswer (List ℕ)
 unfolding beside_clash fetch_first fetch_rest fetch_start pattern_at
 either_fetch ring book r p W H mem n o out =
     beside_clash (fetch_first book r p W H (length mem) n) r p book n
     (fetch_rest (fetch_start book r p W H (length mem) n) ring (pattern_at book n) p W H mem o out)
 
-unfoldable pub fetch : Book → ℕ → Plan → ℕ → ℕ → List ℕ → ℕ → Pixel → List ℕ → Result FetchAnswer (List ℕ)
+unfoldable pub fetch : Book → ℕ → Plan → ℕ → ℕ → List ℕ → ℕ → Pixel → List ℕ → After FetchAnswer (List ℕ)
 unfolding either_fetch
 fetch = either_fetch false
 
-unfoldable pub ring_fetch : Book → ℕ → Plan → ℕ → ℕ → List ℕ → ℕ → Pixel → List ℕ → Result FetchAnswer (List ℕ)
+unfoldable pub ring_fetch : Book → ℕ → Plan → ℕ → ℕ → List ℕ → ℕ → Pixel → List ℕ → After FetchAnswer (List ℕ)
 unfolding either_fetch
 ring_fetch = either_fetch true
 
@@ -327,12 +322,12 @@ unfolding first_of cycles_first suits_test output_test pattern_at
 write_cycles_test book r p n room =
     first_of (cycles_first book r p n ∷ suits_test r p n (pattern_at book n) ∷ output_test (pattern_at book n).used room ∷ [])
 
-unfoldable pub write_cycles : Book → ℕ → Plan → ℕ → List ℕ → Result FetchAnswer (List ℕ)
+unfoldable pub write_cycles : Book → ℕ → Plan → ℕ → List ℕ → After FetchAnswer (List ℕ)
 unfolding beside_clash cycles_first changed write_cycles_test over_start cycles pixels pattern_at
 write_cycles book r p n out =
     beside_clash (cycles_first book r p n) r p book n
-    (changed (write_cycles_test book r p n (length out)) Counted.Refused out
-    (Counted.Number (length (cycles p (pixels (pattern_at book n)))))
+    (changed (write_cycles_test book r p n (length out)) Err out
+    (Ok (length (cycles p (pixels (pattern_at book n)))))
     (over_start (cycles p (pixels (pattern_at book n))) out))
 
 -- Fill a record list: 11, 12, 14. "every record's bank and address are filled in; if any pixel is outside, no record changes"
@@ -349,9 +344,9 @@ placed p W H r =
       address = address_of p W H (record_pixel r);
     }
 
-unfoldable pub fill_records : Plan → ℕ → ℕ → List PixelRecord → Result Outcome (List PixelRecord)
+unfoldable pub fill_records : Plan → ℕ → ℕ → List PixelRecord → After (Result Unit Refusal) (List PixelRecord)
 unfolding changed first_of plan_test sides_test outside_test record_pixel placed
 fill_records p W H rs =
-    changed (first_of (plan_test p ∷ sides_test W H ∷ outside_test W H (map record_pixel rs) ∷ [])) Outcome.Refused rs
-    Outcome.Done
+    changed (first_of (plan_test p ∷ sides_test W H ∷ outside_test W H (map record_pixel rs) ∷ [])) Err rs
+    (Ok tt)
     (map (placed p W H) rs)

@@ -1,7 +1,7 @@
 -- Document 01, "Numbers for what is turned down": the number and the place of every refusal, what an answer says in
 -- this paper's numbers and values, and the table's conditions. Calls.antt has the order in which a call tests them.
 -- Assumes nothing.
-use Rattle.std.specs.Prelude.{ℕ, zero, suc, ◌+◌, ◌*◌, ◌/◌, ◌%◌, Bool, false, not, ◌&&◌, ◌||◌, List, [], ◌∷◌, leb, ltb, eqb, ℤ, pos, negsuc, length, take, replicate}
+use Rattle.std.specs.Prelude.{ℕ, zero, suc, ◌+◌, ◌*◌, ◌/◌, ◌%◌, Bool, false, not, ◌&&◌, ◌||◌, List, [], ◌∷◌, leb, ltb, eqb, ℤ, pos, negsuc, length, take, replicate, Result, Ok, Err}
 use Rattle.std.proofs.Math.Option.{Option, none, some}
 use Rattle.scope.specs.Search.{first, whenever, first_of, every, some_below}
 use Rattle.scope.specs.Plans.{Pixel, same_pixel, lower, pixel_at, pattern_at, pixels, banks, is_plan, determinant_size}
@@ -15,11 +15,6 @@ use Rattle.scope.specs.declared.Refusal.{Refusal}
 use Rattle.scope.specs.declared.Refusal.TheVariants.{Ends, Count, Coordinate, Repeat, Extra, Limit, NoPlan, Dependent, Large, Unsuited, NotPlan, Sides, Memory, Outside, Cell, Output, NoPattern, Ring, Lower, Cycles}
 use Rattle.scope.specs.declared.Checked.{Checked}
 use Rattle.scope.specs.declared.Verdict.{Verdict}
-use Rattle.scope.specs.declared.Planned.{Planned}
-use Rattle.scope.specs.declared.Counted.{Counted}
-use Rattle.scope.specs.declared.Loaded.{Loaded}
-use Rattle.scope.specs.declared.Located.{Located}
-use Rattle.scope.specs.declared.Outcome.{Outcome}
 use Rattle.scope.specs.declared.CheckAnswer.{CheckAnswer}
 use Rattle.scope.specs.declared.FetchAnswer.{FetchAnswer}
 
@@ -65,26 +60,14 @@ pub data Answer (A : Type 0) : Type 0 where
 abbrev pub turned_down : {A : Type 0} → Refusal → Answer A
 turned_down r = refusal (number_of r) (place_of r) (clash_of r)
 
--- what each case of an answer enum is in these terms
-abbrev pub of_planned : Planned → Answer Plan
-of_planned (Planned.Plan p) = value p
-of_planned (Planned.Refused r) = turned_down r
+-- what each case of a call's answer is in these terms
+abbrev pub of_result : {A : Type 0} → Result A Refusal → Answer A
+of_result (Ok x) = value x
+of_result (Err r) = turned_down r
 
-abbrev pub of_counted : Counted → Answer ℕ
-of_counted (Counted.Number n) = value n
-of_counted (Counted.Refused r) = turned_down r
-
-abbrev pub of_loaded : Loaded → Answer ℕ
-of_loaded (Loaded.Word x) = value x
-of_loaded (Loaded.Refused r) = turned_down r
-
-abbrev pub of_located : Located → Answer Pixel
-of_located (Located.Pixel i j) = value (record { column = i; row = j })
-of_located (Located.Refused r) = turned_down r
-
-abbrev pub of_outcome : Outcome → Answer Unit
-of_outcome Outcome.Done = value tt
-of_outcome (Outcome.Refused r) = turned_down r
+abbrev pub of_located : Result (ℤ × ℤ) Refusal → Answer Pixel
+of_located (Ok v) = value (record { column = v.0; row = v.1 })
+of_located (Err r) = turned_down r
 
 -- a verdict's clash is number 10
 abbrev pub of_verdict : Verdict → Answer Checked
@@ -109,7 +92,7 @@ abbrev pub of_check : ℕ → CheckAnswer → Answer Checked
 of_check r a = with_positions (take (suc r) a.positions) (of_verdict a.verdict)
 
 abbrev pub of_fetch : ℕ → FetchAnswer → Answer ℕ
-of_fetch r a = with_positions (take (suc r) a.positions) (of_counted a.counted)
+of_fetch r a = with_positions (take (suc r) a.positions) (of_result a.counted)
 
 -- The conditions. 2: "pattern count not 1-16 or pixel count not 1-64"
 unfoldable pub count_test : ℕ → ℕ → ℕ → Option Refusal

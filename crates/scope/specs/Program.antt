@@ -1,6 +1,6 @@
 -- Document 01, "Figures to agree with", the last lines: what the program writes for the bytes that it reads.
 -- Assumes nothing.
-use Rattle.std.specs.Prelude.{ℕ, zero, suc, ◌+◌, ◌/◌, ◌%◌, List, [], ◌∷◌, ◌++◌}
+use Rattle.std.specs.Prelude.{ℕ, zero, suc, ◌+◌, ◌/◌, ◌%◌, List, [], ◌∷◌, ◌++◌, Result, Ok, Err}
 use Prim.Native.Char.{code}
 use Prim.Native.String.{String}
 use Rattle.scope.specs.Plans.{banks}
@@ -8,8 +8,6 @@ use Rattle.scope.specs.Numbers.{number_of}
 use Rattle.scope.specs.Calls.{read_book, find}
 use Rattle.scope.specs.declared.Plan.{Plan}
 use Rattle.scope.specs.declared.Refusal.{Refusal}
-use Rattle.scope.specs.declared.Planned.{Planned}
-use Rattle.scope.specs.declared.Outcome.{Outcome}
 
 -- the decimal digits of n in ASCII, in front of `rest`; n has at most as many digits as the steps given
 unfoldable pub digits : ℕ → ℕ → List ℕ → List ℕ
@@ -36,16 +34,16 @@ unfoldable pub refused_line : Refusal → List ℕ
 unfolding ascii decimal
 refused_line r = ascii "refused " ++ decimal (number_of r) ++ ascii "\n"
 
-unfoldable pub plan_text : Planned → List ℕ
+unfoldable pub plan_text : Result Plan Refusal → List ℕ
 unfolding plan_lines refused_line
-plan_text (Planned.Plan p) = plan_lines p
-plan_text (Planned.Refused r) = refused_line r
+plan_text (Ok p) = plan_lines p
+plan_text (Err r) = refused_line r
 
 -- "The program reads a book from standard input and uses limit 1024." It uses r = 1: its text is that of document 01
 unfoldable pub program_text : List ℕ → List ℕ
 unfolding read_book find plan_text refused_line
 program_text s =
     elim (read_book s).outcome [
-      | Outcome.Done ↦ plan_text (find (read_book s).book 1 1024)
-      | Outcome.Refused r ↦ refused_line r
+      | Ok u ↦ plan_text (find (read_book s).book 1 1024)
+      | Err r ↦ refused_line r
     ]

@@ -6,7 +6,7 @@ ghost use Rattle.scope.specs.Banks.{bank_of, inside, across, depth_of, address_o
 ghost use Rattle.scope.specs.Numbers.{is_side};
 ghost use Rattle.scope.specs.Calls.{locate};
 
-use crate::{Located, Place, Plan, Refusal};
+use crate::{Place, Plan, Refusal};
 use integers::{quotient, raised16, remainder};
 
 // Whether a picture can have these sides.
@@ -118,7 +118,7 @@ pub(crate) fn place_numbers(p: Plan, w: u32, h: u32, i: i16, j: i16) -> Place
 
 // The pixel of bank k and address i in a picture of width w and height h, or 15. Before the last test its column and row
 // are below the sides rounded up to whole blocks.
-pub(crate) fn reverse_map(p: Plan, w: u32, h: u32, k: u64, i: u64) -> Located
+pub(crate) fn reverse_map(p: Plan, w: u32, h: u32, k: u64, i: u64) -> Result<(i16, i16), Refusal>
     requires { (is_plan p ≡ true) × (is_side w && is_side h ≡ true) }
     ensures { result ≡ locate p w h k i }
 {
@@ -126,10 +126,10 @@ pub(crate) fn reverse_map(p: Plan, w: u32, h: u32, k: u64, i: u64) -> Located
     let b = p.b;
     let d = p.d;
     if p.banks() <= k {
-        return Located::Refused(Refusal::Cell);
+        return Err(Refusal::Cell);
     }
     if depth_number(p, w, h) <= i {
-        return Located::Refused(Refusal::Cell);
+        return Err(Refusal::Cell);
     }
     let across = rounded_up(w, a);
     let bank = k as u32;
@@ -138,7 +138,7 @@ pub(crate) fn reverse_map(p: Plan, w: u32, h: u32, k: u64, i: u64) -> Located
     let column = (address % across * a + (bank % a + b * q) % a) as i16;
     let row = (q * d + bank / a) as i16;
     if !is_inside(w, h, column, row) {
-        return Located::Refused(Refusal::Cell);
+        return Err(Refusal::Cell);
     }
-    Located::Pixel(column, row)
+    Ok((column, row))
 }

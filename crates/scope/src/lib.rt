@@ -90,53 +90,11 @@ pub enum Verdict {
     Refused(Refusal),
 }
 
-// The answer of the finder and of the normal form.
-#[derive(Clone, Copy)]
-pub enum Planned {
-    Plan(Plan),
-    Refused(Refusal),
-}
-
-// The answer of the bank, the depth, the address and both calls for a sum, and of the writer and the fetches, which count what they put.
-#[derive(Clone, Copy)]
-pub enum Counted {
-    Number(u64),
-    Refused(Refusal),
-}
-
-// The answer of a load.
-#[derive(Clone, Copy)]
-pub enum Loaded {
-    Word(u16),
-    Refused(Refusal),
-}
-
-// The answer of the reverse map: column and row.
-#[derive(Clone, Copy)]
-pub enum Located {
-    Pixel(i16, i16),
-    Refused(Refusal),
-}
-
 // A pixel's bank, and its word in the memory.
 #[derive(Clone, Copy)]
 pub struct Place {
     pub bank: u64,
     pub word: u64,
-}
-
-// The answer where a plan is asked for both.
-#[derive(Clone, Copy)]
-pub enum Placed {
-    At(Place),
-    Refused(Refusal),
-}
-
-// The answer of a call that has nothing to tell but that it was done.
-#[derive(Clone, Copy)]
-pub enum Outcome {
-    Done,
-    Refused(Refusal),
 }
 
 // The check's verdict for r, and beside it the r + 1 positions of its clash in nine places, then 0; without a clash all are 0.
@@ -149,7 +107,7 @@ pub struct CheckAnswer {
 // What a fetch or the cycles count, and beside it the positions of the clash in the same way.
 #[derive(Clone, Copy)]
 pub struct FetchAnswer {
-    pub counted: Counted,
+    pub counted: Result<u64, Refusal>,
     pub positions: [usize; 9],
 }
 
@@ -157,5 +115,5 @@ pub struct FetchAnswer {
 #[derive(Clone, Copy)]
 pub struct Reading {
     pub book: Book,
-    pub outcome: Outcome,
+    pub outcome: Result<(), Refusal>,
 }

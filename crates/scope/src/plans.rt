@@ -10,7 +10,7 @@ ghost use Rattle.scope.specs.code.Words.{place, word};
 use crate::formulas::{
     address_number, are_sides, bank_number, depth_number, is_inside, place_numbers, reverse_map,
 };
-use crate::{Counted, Located, Outcome, Placed, Plan, Refusal};
+use crate::{Place, Plan, Refusal};
 
 impl Plan {
     // Whether it is a plan as defined.
@@ -34,89 +34,75 @@ impl Plan {
     }
 
     // The first tests of a call on a picture of width w and height h: 11, 12.
-    fn picture_outcome(self, w: u32, h: u32) -> Outcome
-        ensures { result ≡ answered (first_of (plan_test self ∷ sides_test w h ∷ [])) Outcome.Refused Outcome.Done }
+    fn picture_outcome(self, w: u32, h: u32) -> Result<(), Refusal>
+        ensures { result ≡ answered (first_of (plan_test self ∷ sides_test w h ∷ [])) Err (Ok tt) }
     {
         if !self.is_plan() {
-            return Outcome::Refused(Refusal::NotPlan);
+            return Err(Refusal::NotPlan);
         }
         if !are_sides(w, h) {
-            return Outcome::Refused(Refusal::Sides);
+            return Err(Refusal::Sides);
         }
-        Outcome::Done
+        Ok(())
     }
 
     // The bank of a pixel, or 11.
-    pub fn bank(self, i: i16, j: i16) -> Counted
+    pub fn bank(self, i: i16, j: i16) -> Result<u64, Refusal>
         ensures { result ≡ bank self (at i j) }
     {
         if !self.is_plan() {
-            return Counted::Refused(Refusal::NotPlan);
+            return Err(Refusal::NotPlan);
         }
-        Counted::Number(bank_number(self, i, j))
+        Ok(bank_number(self, i, j))
     }
 
     // The depth for a picture of width w and height h, or 11, 12.
-    pub fn depth(self, w: u32, h: u32) -> Counted
+    pub fn depth(self, w: u32, h: u32) -> Result<u64, Refusal>
         ensures { result ≡ depth self w h }
     {
-        if let Outcome::Refused(r) = self.picture_outcome(w, h) {
-            return Counted::Refused(r);
-        }
-        Counted::Number(depth_number(self, w, h))
+        self.picture_outcome(w, h)?;
+        Ok(depth_number(self, w, h))
     }
 
     // The tests of a pixel of a picture of width w and height h: 11, 12, 14.
-    fn pixel_outcome(self, w: u32, h: u32, i: i16, j: i16) -> Outcome
-        ensures { result ≡ answered (address_test self w h (at i j)) Outcome.Refused Outcome.Done }
+    fn pixel_outcome(self, w: u32, h: u32, i: i16, j: i16) -> Result<(), Refusal>
+        ensures { result ≡ answered (address_test self w h (at i j)) Err (Ok tt) }
     {
-        if let Outcome::Refused(r) = self.picture_outcome(w, h) {
-            return Outcome::Refused(r);
-        }
+        self.picture_outcome(w, h)?;
         if !is_inside(w, h, i, j) {
-            return Outcome::Refused(Refusal::Outside);
+            return Err(Refusal::Outside);
         }
-        Outcome::Done
+        Ok(())
     }
 
     // The address of a pixel in a picture of width w and height h, or 11, 12, 14.
-    pub fn address(self, w: u32, h: u32, i: i16, j: i16) -> Counted
+    pub fn address(self, w: u32, h: u32, i: i16, j: i16) -> Result<u64, Refusal>
         ensures { result ≡ address self w h (at i j) }
     {
-        if let Outcome::Refused(r) = self.pixel_outcome(w, h, i, j) {
-            return Counted::Refused(r);
-        }
-        Counted::Number(address_number(self, w, h, i, j))
+        self.pixel_outcome(w, h, i, j)?;
+        Ok(address_number(self, w, h, i, j))
     }
 
     // The bank of a pixel and its word in the memory of a picture of width w and height h, or 11, 12, 14.
-    pub fn place(self, w: u32, h: u32, i: i16, j: i16) -> Placed
+    pub fn place(self, w: u32, h: u32, i: i16, j: i16) -> Result<Place, Refusal>
         ensures { result ≡ place self w h (at i j) }
     {
-        if let Outcome::Refused(r) = self.pixel_outcome(w, h, i, j) {
-            return Placed::Refused(r);
-        }
-        Placed::At(place_numbers(self, w, h, i, j))
+        self.pixel_outcome(w, h, i, j)?;
+        Ok(place_numbers(self, w, h, i, j))
     }
 
     // The word alone, or 11, 12, 14.
-    pub fn word(self, w: u32, h: u32, i: i16, j: i16) -> Counted
+    pub fn word(self, w: u32, h: u32, i: i16, j: i16) -> Result<u64, Refusal>
         ensures { result ≡ word self w h (at i j) }
     {
-        let placed = self.place(w, h, i, j);
-        match placed {
-            Placed::At(at) => Counted::Number(at.word),
-            Placed::Refused(r) => Counted::Refused(r),
-        }
+        Ok(self.place(w, h, i, j)?.word)
     }
 
     // The pixel of bank k and address i, or 11, 12, 15.
-    pub fn locate(self, w: u32, h: u32, k: u64, i: u64) -> Located
+    pub fn locate(self, w: u32, h: u32, k: u64, i: u64) -> Result<(i16, i16), Refusal>
         ensures { result ≡ locate self w h k i }
     {
-        if let Outcome::Refused(r) = self.picture_outcome(w, h) {
-            return Located::Refused(r);
-        }
+        self.picture_outcome(w, h)?;
         reverse_map(self, w, h, k, i)
     }
 }

@@ -6,7 +6,7 @@ ghost use Rattle.scope.specs.Program.{decimal, plan_lines, refused_line, plan_te
 ghost use Rattle.text.specs.Texts.{text_of};
 
 use crate::Text;
-use scope::{Plan, Planned, Refusal, number_of};
+use scope::{Plan, Refusal, number_of};
 
 // Puts the bytes s.
 fn put_bytes(s: &[u8], out: &mut [u8]) -> usize
@@ -85,11 +85,11 @@ pub fn refused_text(r: Refusal) -> Text
 }
 
 // What the program writes for the finder's answer.
-pub fn planned_text(p: Planned) -> Text
+pub fn planned_text(p: Result<Plan, Refusal>) -> Text
     ensures { result ≡ text_of (plan_text p) }
 {
     match p {
-        Planned::Plan(q) => plan_text(q),
-        Planned::Refused(r) => refused_text(r),
+        Ok(q) => plan_text(q),
+        Err(r) => refused_text(r),
     }
 }

@@ -7,7 +7,6 @@ use crate::Text;
 use crate::lines::{planned_text, refused_text};
 use book::read_book;
 use finder::find;
-use scope::Outcome;
 
 // The text for a book's bytes. Of an input that is longer than any book its first 2,066 bytes are enough.
 pub fn program_text(s: &[u8]) -> Text
@@ -16,7 +15,7 @@ pub fn program_text(s: &[u8]) -> Text
 {
     let reading = read_book(s);
     let outcome = reading.outcome;
-    if let Outcome::Refused(r) = outcome {
+    if let Err(r) = outcome {
         return refused_text(r);
     }
     let book = reading.book;

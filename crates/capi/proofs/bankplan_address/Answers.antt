@@ -1,7 +1,7 @@
 -- `capi::bankplan_address` meets its contract.
 -- Assumes nothing.
 use mathlib.Core.Path.{◌∙◌, ap}
-use Rattle.scope.specs.Numbers.{of_counted}
+use Rattle.scope.specs.Numbers.{of_result}
 use Rattle.scope.specs.Calls.{address}
 use Rattle.scope.proofs.PlanFacts.{pixel_handed}
 use Rattle.capi.proofs.Passed.{told_of}
@@ -10,4 +10,4 @@ use Rattle.capi.proofs.bankplan_address.Goals as goal
 pub returns : goal.returns
 returns c =
     let f = c.ranges in
-    told_of of_counted ((rw c.plan_of.ensures at c.address.ensures) ∙ ap (address _ _ _) (pixel_handed f.i f.j)) c.tell_counted.ensures
+    told_of of_result ((rw c.plan_of.ensures at c.address.ensures) ∙ ap (address _ _ _) (pixel_handed f.i f.j)) c.tell_counted.ensures

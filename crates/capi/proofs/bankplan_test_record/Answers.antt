@@ -1,9 +1,9 @@
 -- `capi::bankplan_test_record` meets its contract.
 -- Assumes nothing.
-use Rattle.scope.specs.Numbers.{of_outcome}
+use Rattle.scope.specs.Numbers.{of_result}
 use Rattle.capi.proofs.Passed.{told_of}
 use Rattle.capi.proofs.bankplan_test_record.Goals as goal
 
 pub returns : goal.returns
 returns c =
-    told_of of_outcome (rw c.book_of.ensures at c.record_outcome.ensures) c.tell_outcome.ensures
+    told_of of_result (rw c.book_of.ensures at c.record_outcome.ensures) c.tell_outcome.ensures

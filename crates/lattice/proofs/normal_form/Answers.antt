@@ -1,5 +1,6 @@
 -- `lattice::normal_form` meets its contract: the refusals of the definition in its order, then its a, b and d.
 -- Assumes nothing.
+use Rattle.std.specs.Prelude.{Ok, Err}
 use Prim.Native.Nat.{ℕ, ◌/◌, ◌≤◌, ◌<◌}
 use native.Mathlib.Omega.{arith}
 use native.Mathlib.Nat.{div-le_self, mul-le-mul_right}
@@ -18,7 +19,6 @@ use Rattle.scope.specs.Numbers.{dependent_test, large_test}
 use Rattle.scope.specs.Calls.{normal}
 use Rattle.scope.specs.promises.Meaning.{IsPlan, Independent}
 use Rattle.scope.specs.declared.Plan.{Plan}
-use Rattle.scope.specs.declared.Planned.{Planned}
 use Rattle.scope.specs.declared.Refusal.{Refusal}
 use Rattle.scope.proofs.PlanFacts.{pixel_handed}
 use Rattle.checks.proofs.Chains.{chain_refuses, chain_goes_on, answered_none, answered_some}
@@ -45,24 +45,24 @@ module _ (x y : Pixel) where
   unfolding determinant_size
   is-independent h e = h (ap nat_abs e)
 
-  dependent-answer : determinant_size x y ≡ 0 → normal x y ≡ Planned.Refused Refusal.Dependent
+  dependent-answer : determinant_size x y ≡ 0 → normal x y ≡ Err Refusal.Dependent
   unfolding normal determinant_size
   dependent-answer e =
-      answered_some _ Planned.Refused _ Refusal.Dependent
+      answered_some _ Err _ Refusal.Dependent
       (chain_refuses (dependent_test x y) (large_test x y ∷ []) Refusal.Dependent
       ((independent_decides x y).refuses (λ h. h (size_zero (determinant x y) e))))
 
-  large-answer : Independent x y → 1024 < determinant_size x y → normal x y ≡ Planned.Refused Refusal.Large
+  large-answer : Independent x y → 1024 < determinant_size x y → normal x y ≡ Err Refusal.Large
   unfolding normal
   large-answer independent more =
-      answered_some _ Planned.Refused _ Refusal.Large
+      answered_some _ Err _ Refusal.Large
       (chain_goes_on (dependent_test x y) (large_test x y ∷ []) ((independent_decides x y).passes independent)
       ∙ chain_refuses (large_test x y) [] Refusal.Large ((size_decides x y).refuses (λ most. omega arith)))
 
-  form-answer : Independent x y → determinant_size x y ≤ 1024 → normal x y ≡ Planned.Plan (normal_form x y)
+  form-answer : Independent x y → determinant_size x y ≤ 1024 → normal x y ≡ Ok (normal_form x y)
   unfolding normal
   form-answer independent most =
-      answered_none _ Planned.Refused _
+      answered_none _ Err _
       ((test_before (independent_iff x y) (last_test (size_within_iff x y))).iff.1 (independent, most))
 
 -- the normal form is the plan of its a, b and d
@@ -194,7 +194,7 @@ pub returns : goal.returns
 unfolding plan
 returns c =
     let m = g c.before in
-    ap Planned.Plan (form-is (x (sized m)) (y (sized m)) (a-is m) (b-is c) (d-is m))
+    ap Ok (form-is (x (sized m)) (y (sized m)) (a-is m) (b-is c) (d-is m))
     ∙ sym (form-answer (x (sized m)) (y (sized m)) (independent (passed m)) (most m))
 
 pub upright_column-x-requires : goal.upright_column-x-requires

@@ -1,5 +1,6 @@
 -- `records::fill_answer` meets its contract: 11 and 12 come with the depth, then 14.
 -- Assumes nothing.
+use Rattle.std.specs.Prelude.{Result, Ok, Err}
 use Prim.Native.Nat.{ℕ}
 use mathlib.Core.Path.{◌≡◌, sym, ◌∙◌, ap}
 use mathlib.Core.Bool.{Bool, true, false, not}
@@ -11,8 +12,6 @@ use Rattle.scope.specs.Numbers.{plan_test, sides_test}
 use Rattle.scope.specs.Calls.{depth}
 use Rattle.scope.specs.declared.Plan.{Plan}
 use Rattle.scope.specs.declared.Refusal.{Refusal}
-use Rattle.scope.specs.declared.Counted.{Counted}
-use Rattle.scope.specs.declared.Outcome.{Outcome}
 use Rattle.checks.proofs.Chains.{chain_refuses, chain_goes_on, chain_of_one, tests_as_one, answered_none, answered_some}
 use Rattle.checks.proofs.CountedAnswers.{number_shows, refusal_shows}
 use Rattle.records.specs.Filling.{fill_answer}
@@ -32,21 +31,21 @@ module _ (p : Plan) (W H : ℕ) (inside : Bool) where
   depth-first : tests ≡ first_of (depthTest ∷ last ∷ [])
   depth-first = tests_as_one [] (plan_test p ∷ sides_test W H ∷ []) (last ∷ [])
 
-  refused : (r : Refusal) → tests ≡ some r → Outcome.Refused r ≡ fill_answer p W H inside
+  refused : (r : Refusal) → tests ≡ some r → Err r ≡ fill_answer p W H inside
   unfolding fill_answer
-  refused r e = sym (answered_some tests Outcome.Refused Outcome.Done r e)
+  refused r e = sym (answered_some tests Err (Ok tt) r e)
 
-  done : tests ≡ none → Outcome.Done ≡ fill_answer p W H inside
+  done : tests ≡ none → (Ok tt) ≡ fill_answer p W H inside
   unfolding fill_answer
-  done e = sym (answered_none tests Outcome.Refused Outcome.Done e)
+  done e = sym (answered_none tests Err (Ok tt) e)
 
   -- by what the depth's call answered
-  module _ {D : Counted} (D-is : D ≡ depth p W H) where
-    no-depth : (r : Refusal) → D ≡ Counted.Refused r → Outcome.Refused r ≡ fill_answer p W H inside
+  module _ {D : Result ℕ Refusal} (D-is : D ≡ depth p W H) where
+    no-depth : (r : Refusal) → D ≡ Err r → Err r ≡ fill_answer p W H inside
     unfolding depth
     no-depth r e = refused r (depth-first ∙ chain_refuses depthTest (last ∷ []) r (refusal_shows depthTest (depth_of p W H) D-is e))
 
-    module _ {n : ℕ} (n-is : D ≡ Counted.Number n) where
+    module _ {n : ℕ} (n-is : D ≡ Ok n) where
       past-depth : tests ≡ last
       unfolding depth
       past-depth =
@@ -54,11 +53,11 @@ module _ (p : Plan) (W H : ℕ) (inside : Bool) where
           ∙ chain_goes_on depthTest (last ∷ []) (number_shows depthTest (depth_of p W H) D-is n-is).0
           ∙ chain_of_one last
 
-      all-inside : inside ≡ true → Outcome.Done ≡ fill_answer p W H inside
+      all-inside : inside ≡ true → (Ok tt) ≡ fill_answer p W H inside
       unfolding whenever
       all-inside e = done (past-depth ∙ ap (λ (b : Bool). whenever (not b) Refusal.Outside) e)
 
-      one_outside : inside ≡ false → Outcome.Refused Refusal.Outside ≡ fill_answer p W H inside
+      one_outside : inside ≡ false → Err Refusal.Outside ≡ fill_answer p W H inside
       unfolding whenever
       one_outside e = refused Refusal.Outside (past-depth ∙ ap (λ (b : Bool). whenever (not b) Refusal.Outside) e)
 

@@ -6,7 +6,7 @@ use mathlib.Core.List.{List, [], ◌∷◌, ◌++◌, flat_map, Memᴰ}
 use Rattle.scope.specs.Plans.{Pixel, at, pixel_at, pattern_at, pixels, patterns, banks}
 use Rattle.scope.specs.Banks.{over_start}
 use Rattle.scope.specs.Books.{byte, signed, unsigned, book_of, pixel_bytes, pattern_bytes, book_bytes}
-use Rattle.scope.specs.Numbers.{value, refusal, of_planned, of_counted, of_outcome, record_test}
+use Rattle.scope.specs.Numbers.{value, refusal, of_result, record_test}
 use Rattle.scope.specs.Calls.{read_book, pattern_part, part_outcome, part_place, write_book, find, fewest, check, moved, fetch, ring_fetch, write_cycles}
 use Rattle.scope.specs.Program.{ascii, decimal, program_text}
 use Rattle.scope.specs.promises.Meaning.{InRange, Lower, IsPattern, IsBook}
@@ -28,28 +28,28 @@ Bytes s = (i : ℕ) → byte s i < 256
 abbrev pub BytesMean : Type 0
 BytesMean =
     (s : List ℕ) → Bytes s
-    → (of_outcome (read_book s).outcome ≡ value tt) ↔ ((book : Book) × IsBook book × (book_bytes book ≡ s))
+    → (of_result (read_book s).outcome ≡ value tt) ↔ ((book : Book) × IsBook book × (book_bytes book ≡ s))
 
 -- the bytes of the record were written, and reading them gives the record with its unused entries 0
 pub record ReadsBack (book : Book) (out : List ℕ) (n : ℕ) : Type 0 where
   pub bytes : take n (write_book book out).content ≡ book_bytes book
-  pub read : of_outcome (read_book (take n (write_book book out).content)).outcome ≡ value tt
+  pub read : of_result (read_book (take n (write_book book out).content)).outcome ≡ value tt
   pub record_is : (read_book (take n (write_book book out).content)).book ≡ book_of (patterns book)
   pub rest : drop n (write_book book out).content ≡ drop n out
   pub as_long : length (write_book book out).content ≡ length out
 
 abbrev pub ReadAfterWrite : Type 0
-ReadAfterWrite = (book : Book) (out : List ℕ) (n : ℕ) → of_counted (write_book book out).answer ≡ value n → ReadsBack book out n
+ReadAfterWrite = (book : Book) (out : List ℕ) (n : ℕ) → of_result (write_book book out).answer ≡ value n → ReadsBack book out n
 
 -- what was read is the legal record of these bytes, and writing it gives them
 pub record WritesBack (s : List ℕ) : Type 0 where
   pub legal_book : IsBook (read_book s).book
   pub same : book_bytes (read_book s).book ≡ s
-  pub count : (out : List ℕ) → length s ≤ length out → of_counted (write_book (read_book s).book out).answer ≡ value (length s)
+  pub count : (out : List ℕ) → length s ≤ length out → of_result (write_book (read_book s).book out).answer ≡ value (length s)
   pub bytes : (out : List ℕ) → length s ≤ length out → (write_book (read_book s).book out).content ≡ over_start s out
 
 abbrev pub WriteAfterRead : Type 0
-WriteAfterRead = (s : List ℕ) → Bytes s → of_outcome (read_book s).outcome ≡ value tt → WritesBack s
+WriteAfterRead = (s : List ℕ) → Bytes s → of_result (read_book s).outcome ≡ value tt → WritesBack s
 
 -- Document 02, Card 3: "Pixels in a pattern now ascend by row, then column." A pattern is legal exactly if it is sorted: each
 -- pixel is lower than all that follow it, so it is there once
@@ -71,7 +71,7 @@ pub record PixelsAscend : Type 0 where
   -- "Two books with the same patterns under the same numbers are then the same bytes", as records and as bytes that were read
   pub same_bytes : (book other : Book) → IsBook book → IsBook other → SameSets book other → book_bytes book ≡ book_bytes other
   pub same_read :
-      (s t : List ℕ) → Bytes s → Bytes t → of_outcome (read_book s).outcome ≡ value tt → of_outcome (read_book t).outcome ≡ value tt
+      (s t : List ℕ) → Bytes s → Bytes t → of_result (read_book s).outcome ≡ value tt → of_result (read_book t).outcome ≡ value tt
       → SameSets (read_book s).book (read_book t).book → s ≡ t
   -- "Fetched words follow the new order": so do the pixels of a moved pattern, whose words a fetch gives (PictureCalls.fetches)
   pub fetched :
@@ -81,18 +81,18 @@ pub record PixelsAscend : Type 0 where
 -- a pattern's part of the bytes is taken exactly if the book is and has that pattern, and is the bytes of its pixels
 pub record PartsAre : Type 0 where
   pub taken :
-      (s : List ℕ) (n : ℕ) → (of_outcome (part_outcome s n) ≡ value tt)
-      ↔ ((of_outcome (read_book s).outcome ≡ value tt) × (n < (read_book s).book.count))
+      (s : List ℕ) (n : ℕ) → (of_result (part_outcome s n) ≡ value tt)
+      ↔ ((of_result (read_book s).outcome ≡ value tt) × (n < (read_book s).book.count))
   pub bytes :
-      (s : List ℕ) → Bytes s → (n : ℕ) → of_outcome (part_outcome s n) ≡ value tt
+      (s : List ℕ) → Bytes s → (n : ℕ) → of_result (part_outcome s n) ≡ value tt
       → pattern_part s n ≡ flat_map pixel_bytes (pixels (pattern_at (read_book s).book n))
-  pub empty : (s : List ℕ) (n m i : ℕ) (c : Option LongClash) → of_outcome (part_outcome s n) ≡ refusal m i c → pattern_part s n ≡ []
+  pub empty : (s : List ℕ) (n m i : ℕ) (c : Option LongClash) → of_result (part_outcome s n) ≡ refusal m i c → pattern_part s n ≡ []
   -- "the part of the book where they stand": after the pattern count, the patterns before it and its own pixel count
   pub place :
-      (s : List ℕ) (n : ℕ) → of_outcome (part_outcome s n) ≡ value tt
+      (s : List ℕ) (n : ℕ) → of_result (part_outcome s n) ≡ value tt
       → part_place s n ≡ 1 + length (flat_map pattern_bytes (take n (patterns (read_book s).book))) + 1
   -- an empty part is at the start
-  pub place_empty : (s : List ℕ) (n m i : ℕ) (c : Option LongClash) → of_outcome (part_outcome s n) ≡ refusal m i c → part_place s n ≡ 0
+  pub place_empty : (s : List ℕ) (n m i : ℕ) (c : Option LongClash) → of_result (part_outcome s n) ≡ refusal m i c → part_place s n ≡ 0
 
 -- two records agree where it counts
 pub record SameUsed (book other : Book) : Type 0 where
@@ -147,9 +147,9 @@ pub record DecimalMeans : Type 0 where
 -- "The program reads a book from standard input and uses limit 1024": a plan's two lines, or the reader's refusal
 pub record ProgramWrites : Type 0 where
   pub plan_lines_lem :
-      (s : List ℕ) (p : Plan) → of_outcome (read_book s).outcome ≡ value tt
-      → of_planned (find (read_book s).book 1 1024) ≡ value p
+      (s : List ℕ) (p : Plan) → of_result (read_book s).outcome ≡ value tt
+      → of_result (find (read_book s).book 1 1024) ≡ value p
       → program_text s ≡ ascii "banks " ++ decimal (banks p) ++ ascii "\nplan " ++ decimal p.a ++ ascii " " ++ decimal p.b ++ ascii " " ++ decimal p.d ++ ascii "\n"
   pub refused_line_lem :
-      (s : List ℕ) (n i : ℕ) (c : Option LongClash) → of_outcome (read_book s).outcome ≡ refusal n i c
+      (s : List ℕ) (n i : ℕ) (c : Option LongClash) → of_result (read_book s).outcome ≡ refusal n i c
       → program_text s ≡ ascii "refused " ++ decimal n ++ ascii "\n"

@@ -5,21 +5,20 @@
 -- that make them afresh, walk a bank or read a sum may stand between; what holds of the sums is in SumPromises.antt.
 -- The calls are those of Calls.antt, which the contracts cite.
 -- Assumes nothing.
-use Rattle.std.specs.Prelude.{ℕ, ◌*◌, ◌≤◌, ◌<◌, ◌≡◌, Bool, true, false, cond, eqb, length, get_or, take, drop, replicate}
+use Rattle.std.specs.Prelude.{ℕ, ◌*◌, ◌≤◌, ◌<◌, ◌≡◌, Bool, true, false, cond, eqb, length, get_or, take, drop, replicate, Result}
 use Rattle.std.proofs.Math.Option.{Option, none, some}
 use mathlib.Core.List.{List, [], ◌∷◌, ◌++◌, map, Memᴰ}
 use Rattle.scope.specs.Plans.{Pixel, same_pixel, pattern_at, pixels, banks}
 use Rattle.scope.specs.Banks.{bank_of, depth_of, word_of, word_in, bank_sum, over_start}
-use Rattle.scope.specs.Numbers.{Answer, value, turned_down, with_positions, of_planned, of_counted, of_loaded, of_outcome, of_fetch}
+use Rattle.scope.specs.Numbers.{Answer, value, turned_down, with_positions, of_result, of_fetch}
 use Rattle.scope.specs.Cycles.{cycles, clash_in_for}
 use Rattle.scope.specs.Search.{state_after, replies_of}
 use Rattle.scope.specs.Calls as Calls
-use Rattle.scope.specs.Calls.{Result, Lent, Size, size_of, answered, lent_test, store_test, word_test, clear_test, whole_bank_test, read_sum_test, fetch_test, moved, pixels_read, find}
+use Rattle.scope.specs.Calls.{After, Lent, Size, size_of, answered, lent_test, store_test, word_test, clear_test, whole_bank_test, read_sum_test, fetch_test, moved, pixels_read, find}
 use Rattle.scope.specs.promises.Meaning.{IsSide, Inside, AllInside, RingAllowed}
 use Rattle.scope.specs.declared.Plan.{Plan}
 use Rattle.scope.specs.declared.Book.{Book}
 use Rattle.scope.specs.declared.Refusal.{Refusal}
-use Rattle.scope.specs.declared.Outcome.{Outcome}
 
 -- the calls that write the memory or the sums, and those that only read them; a fetch is a ring fetch where `ring` is true, else a plain
 -- one; `sum` walks its bank, and `read_sum` looks its sum up
@@ -53,7 +52,7 @@ pub data Reply : Type 0 where
   fetched : Answer ℕ → List ℕ → Reply
   summed : Answer ℕ → Reply
 
-unfoldable pub write_result : Setting → Lent → Write → Result Outcome Lent
+unfoldable pub write_result : Setting → Lent → Write → After (Result Unit Refusal) Lent
 unfolding Calls.store Calls.clear Calls.make_sums
 write_result g l (store v x) = Calls.store g.plan g.W g.H l v x
 write_result g l (clear k) = Calls.clear g.plan g.W g.H l k
@@ -62,16 +61,16 @@ write_result g l make_sums = Calls.make_sums g.plan g.W g.H l
 -- `either_fetch false` is the plain fetch of Calls.antt, `either_fetch true` its ring fetch
 unfoldable pub read_reply : Setting → Lent → Read → Reply
 unfolding Calls.load Calls.either_fetch Calls.sum Calls.read_sum
-read_reply g l (load v) = loaded (of_loaded (Calls.load g.plan g.W g.H l.memory v))
+read_reply g l (load v) = loaded (of_result (Calls.load g.plan g.W g.H l.memory v))
 read_reply g l (fetch ring n o out) =
     fetched (of_fetch g.r (Calls.either_fetch ring g.book g.r g.plan g.W g.H l.memory n o out).answer)
     (Calls.either_fetch ring g.book g.r g.plan g.W g.H l.memory n o out).content
-read_reply g l (sum k) = summed (of_counted (Calls.sum g.plan g.W g.H l.memory k))
-read_reply g l (read_sum k) = summed (of_counted (Calls.read_sum g.plan l.sums k))
+read_reply g l (sum k) = summed (of_result (Calls.sum g.plan g.W g.H l.memory k))
+read_reply g l (read_sum k) = summed (of_result (Calls.read_sum g.plan l.sums k))
 
 unfoldable pub reply : Setting → Lent → Call → Reply
 unfolding write_result read_reply
-reply g l (write w) = wrote (of_outcome (write_result g l w).answer)
+reply g l (write w) = wrote (of_result (write_result g l w).answer)
 reply g l (read r) = read_reply g l r
 
 -- "Each call gets the memory as the one before left it", and the sums
@@ -265,7 +264,7 @@ pub record ListHolds (g : Setting) (l : Lent) (calls : List Call) : Type 0 where
 abbrev pub Demand3 : Type 0
 Demand3 =
     (g : Setting) (limit : ℕ) (l : Lent) (calls : List Call)
-    → of_planned (find g.book g.r limit) ≡ value g.plan
+    → of_result (find g.book g.r limit) ≡ value g.plan
     → picture_words g ≤ length l.memory
     → take (picture_words g) l.memory ≡ replicate (picture_words g) 0
     → ListHolds g l calls

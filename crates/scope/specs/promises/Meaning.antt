@@ -10,7 +10,7 @@ use Rattle.scope.specs.Plans.{Pixel, at, lower, minus, pixel_at, pattern_at, pix
 use Rattle.scope.specs.Banks.{bank_of, address_of, depth_of, pixel_of, inside}
 use Rattle.scope.specs.Books.{book_bytes}
 use Rattle.scope.specs.Cycles.{suits_for}
-use Rattle.scope.specs.Numbers.{value, of_planned, of_counted, of_outcome, record_test, limit_test, cycles_test, dependent_test, large_test, suits_test, plan_test, sides_test, memory_test, sums_test, outside_test, bank_test, cell_test, output_test, number_test, ring_test}
+use Rattle.scope.specs.Numbers.{value, of_result, record_test, limit_test, cycles_test, dependent_test, large_test, suits_test, plan_test, sides_test, memory_test, sums_test, outside_test, bank_test, cell_test, output_test, number_test, ring_test}
 use Rattle.scope.specs.Calls.{Size, record_outcome, write_book, normal, bank, depth, address, moved}
 use Rattle.scope.specs.declared.Plan.{Plan}
 use Rattle.scope.specs.declared.Pattern.{Pattern}
@@ -163,13 +163,13 @@ pub record TestsMean : Type 0 where
 -- a picture: PicturePromises; the reader and a pattern's part: BookPromises, BytesMean and PartsAre.)
 pub record LegalCallsAnswer : Type 0 where
   -- "A call given a book record tests 2, 3, 4", and 19: that test by itself
-  pub record_outcome_lem : (book : Book) → IsBook book → of_outcome (record_outcome book) ≡ value tt
+  pub record_outcome_lem : (book : Book) → IsBook book → of_result (record_outcome book) ≡ value tt
   pub write :
       (book : Book) (out : List ℕ) → IsBook book → length (book_bytes book) ≤ length out
-      → of_counted (write_book book out).answer ≡ value (length (book_bytes book))
-  pub normal_form_lem : (x y : Pixel) → Independent x y → determinant_size x y ≤ 1024 → of_planned (normal x y) ≡ value (normal_form x y)
-  pub bank_is : (p : Plan) (v : Pixel) → IsPlan p → of_counted (bank p v) ≡ value (bank_of p v)
-  pub depth_is : (p : Plan) (W H : ℕ) → IsPlan p → IsSide W → IsSide H → of_counted (depth p W H) ≡ value (depth_of p W H)
+      → of_result (write_book book out).answer ≡ value (length (book_bytes book))
+  pub normal_form_lem : (x y : Pixel) → Independent x y → determinant_size x y ≤ 1024 → of_result (normal x y) ≡ value (normal_form x y)
+  pub bank_is : (p : Plan) (v : Pixel) → IsPlan p → of_result (bank p v) ≡ value (bank_of p v)
+  pub depth_is : (p : Plan) (W H : ℕ) → IsPlan p → IsSide W → IsSide H → of_result (depth p W H) ≡ value (depth_of p W H)
   pub address_is :
       (p : Plan) (W H : ℕ) (v : Pixel) → IsPlan p → IsSide W → IsSide H → Inside W H v
-      → of_counted (address p W H v) ≡ value (address_of p W H v)
+      → of_result (address p W H v) ≡ value (address_of p W H v)

@@ -1,15 +1,15 @@
 -- Document 02, Card 4: "At r = 1 everything agrees with the finder as it was." The calls as they were without r, that each is the call
 -- for r = 1, and what was promised of them, in the words of then. Statements; Promises.antt has them all.
 -- Assumes nothing.
-use Rattle.std.specs.Prelude.{ℕ, ◌-◌, ◌≤◌, ◌<◌, ◌≡◌, ◌↔◌, ◌⊎◌, Bool, true, length, get_or}
+use Rattle.std.specs.Prelude.{ℕ, ◌-◌, ◌≤◌, ◌<◌, ◌≡◌, ◌↔◌, ◌⊎◌, Bool, true, length, get_or, Result, Ok, Err}
 use Rattle.std.proofs.Math.Option.{Option, none, some, map}
 use mathlib.Core.List.{List, [], ◌∷◌, ◌++◌, Memᴰ}
 use Rattle.scope.specs.Search.{first_of}
 use Rattle.scope.specs.Plans.{Pixel, minus, pixel_at, pattern_at, pixels, patterns, banks, Combination, along, up, InLattice, suits, suits_all, determinant_size, normal_form}
 use Rattle.scope.specs.Finding.{Before, least_of, least_plan, least_count, clash_in, clash}
 use Rattle.scope.specs.Cycles.{suits_for, least_plan_for, least_count_for, LongClash, lengthened, shortened, clash_for}
-use Rattle.scope.specs.Numbers.{value, refusal, of_planned, of_counted, of_verdict, of_check, of_fetch, record_test, limit_test, dependent_test, large_test, number_test}
-use Rattle.scope.specs.Calls.{Result, Lent, size_of, answered, found, find, fewest, check, picture_test, fetch_rest, either_fetch}
+use Rattle.scope.specs.Numbers.{value, refusal, of_result, of_verdict, of_check, of_fetch, record_test, limit_test, dependent_test, large_test, number_test}
+use Rattle.scope.specs.Calls.{After, Lent, size_of, answered, found, find, fewest, check, picture_test, fetch_rest, either_fetch}
 use Rattle.scope.specs.promises.Meaning.{IsPlan, IsBook, Independent}
 use Rattle.scope.specs.promises.CyclePromises.{Uncrowded}
 use Rattle.scope.specs.promises.Demand.{Call, Setting, test, banks_read, ListHolds}
@@ -20,18 +20,16 @@ use Rattle.scope.specs.declared.Clash.{Clash}
 use Rattle.scope.specs.declared.Checked.{Checked}
 use Rattle.scope.specs.declared.Refusal.{Refusal}
 use Rattle.scope.specs.declared.Verdict.{Verdict}
-use Rattle.scope.specs.declared.Planned.{Planned}
-use Rattle.scope.specs.declared.Counted.{Counted}
 
 -- The finder, the least count, the check and both fetches without r
-unfoldable pub find_before : Book → ℕ → Planned
+unfoldable pub find_before : Book → ℕ → Result Plan Refusal
 unfolding answered first_of record_test limit_test found least_of suits_all patterns
 find_before book limit =
-    answered (first_of (record_test book ∷ limit_test limit ∷ [])) Planned.Refused (found (least_plan (patterns book) limit))
+    answered (first_of (record_test book ∷ limit_test limit ∷ [])) Err (found (least_plan (patterns book) limit))
 
-unfoldable pub fewest_before : Book → Counted
+unfoldable pub fewest_before : Book → Result ℕ Refusal
 unfolding answered record_test least_count patterns
-fewest_before book = answered (record_test book) Counted.Refused (Counted.Number (least_count (patterns book)))
+fewest_before book = answered (record_test book) Err (Ok (least_count (patterns book)))
 
 unfoldable pub judged_before : List (List Pixel) → Plan → Verdict
 unfolding clash banks least_count
@@ -57,7 +55,7 @@ start_before book p W H words n =
     first_of
     (record_test book ∷ picture_test p W H words ∷ number_test book.count n ∷ suits_test_before p n (pattern_at book n) ∷ [])
 
-unfoldable pub fetch_before : (ring : Bool) → Book → Plan → ℕ → ℕ → List ℕ → ℕ → Pixel → List ℕ → Result Counted (List ℕ)
+unfoldable pub fetch_before : (ring : Bool) → Book → Plan → ℕ → ℕ → List ℕ → ℕ → Pixel → List ℕ → After (Result ℕ Refusal) (List ℕ)
 unfolding fetch_rest start_before pattern_at
 fetch_before ring book p W H mem n o out =
     fetch_rest (start_before book p W H (length mem) n) ring (pattern_at book n) p W H mem o out
@@ -89,7 +87,7 @@ pub record OneCycleIsBefore : Type 0 where
       → (either_fetch ring book 1 p W H mem n o out).answer.counted ≡ (fetch_before ring book p W H mem n o out).answer
   pub fetch_answers :
       (ring : Bool) (book : Book) (p : Plan) (W H : ℕ) (mem : List ℕ) (n : ℕ) (o : Pixel) (out : List ℕ)
-      → of_fetch 1 (either_fetch ring book 1 p W H mem n o out).answer ≡ of_counted (fetch_before ring book p W H mem n o out).answer
+      → of_fetch 1 (either_fetch ring book 1 p W H mem n o out).answer ≡ of_result (fetch_before ring book p W H mem n o out).answer
   pub fetched :
       (ring : Bool) (book : Book) (p : Plan) (W H : ℕ) (mem : List ℕ) (n : ℕ) (o : Pixel) (out : List ℕ)
       → (either_fetch ring book 1 p W H mem n o out).content ≡ (fetch_before ring book p W H mem n o out).content
@@ -126,14 +124,14 @@ AllDifferent xs = (e l : ℕ) → e < l → l < length xs → get_or xs e 0 ≡ 
 
 -- What document 01 promises of these calls, at r = 1
 pub record KeptAtOne : Type 0 where
-  pub least : (book : Book) (limit : ℕ) (p : Plan) → of_planned (find book 1 limit) ≡ value p → LeastFor book p × (banks p ≤ limit)
-  pub none_within : (book : Book) (limit : ℕ) → (of_planned (find book 1 limit) ≡ refusal 7 0 none) ↔ NoneParted book limit
+  pub least : (book : Book) (limit : ℕ) (p : Plan) → of_result (find book 1 limit) ≡ value p → LeastFor book p × (banks p ≤ limit)
+  pub none_within : (book : Book) (limit : ℕ) → (of_result (find book 1 limit) ≡ refusal 7 0 none) ↔ NoneParted book limit
   pub order :
-      (book : Book) (limit : ℕ) (p : Plan) → of_planned (find book 1 limit) ≡ value p
+      (book : Book) (limit : ℕ) (p : Plan) → of_result (find book 1 limit) ≡ value p
       → (q : Plan) → IsPlan q → suits_all q (patterns book) ≡ true → banks q ≡ banks p → Before p q
   -- "N is never below the pixel count of any pattern."
   pub pixel_count :
-      (book : Book) (limit : ℕ) (p : Plan) → of_planned (find book 1 limit) ≡ value p
+      (book : Book) (limit : ℕ) (p : Plan) → of_result (find book 1 limit) ≡ value p
       → (t : List Pixel) → Memᴰ t (patterns book) → length t ≤ banks p
   pub surplus :
       (book : Book) (x y : Pixel) (c : Checked) → of_check 1 (check book 1 x y) ≡ value c

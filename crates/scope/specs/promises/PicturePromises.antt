@@ -1,15 +1,16 @@
 -- What is promised of banks, addresses and the calls on a picture, under every plan. Statements; Promises.antt has them all.
 -- Demand 3's list has its own file, Demand.antt.
 -- Assumes nothing.
-use Rattle.std.specs.Prelude.{ℕ, zero, suc, ◌+◌, ◌*◌, ◌^◌, ◌≤◌, ◌<◌, ◌≡◌, ◌↔◌, true, List, map, ℤ, pos, ◌+ℤ◌, ◌-ℤ◌, ◌*ℤ◌, length, get_or, drop}
+use Rattle.scope.specs.declared.Refusal.{Refusal}
+use Rattle.std.specs.Prelude.{ℕ, zero, suc, ◌+◌, ◌*◌, ◌^◌, ◌≤◌, ◌<◌, ◌≡◌, ◌↔◌, true, List, map, ℤ, pos, ◌+ℤ◌, ◌-ℤ◌, ◌*ℤ◌, length, get_or, drop, Result}
 use Rattle.std.proofs.Math.Option.{Option, none}
 use Rattle.integers.specs.Division.{IsDivision}
 use Rattle.integers.specs.Gcd.{Multiple}
 use Rattle.scope.specs.Plans.{Pixel, at, minus, pattern_at, pixels, banks, InLattice}
 use Rattle.scope.specs.Banks.{bank_of, address_of, depth_of, word_of, exchanged, wrapped}
 use Rattle.scope.specs.Cycles.{suits_for, cycle_of, cycles, LongClash}
-use Rattle.scope.specs.Numbers.{value, refusal, of_counted, of_fetch, of_loaded, of_located, of_outcome}
-use Rattle.scope.specs.Calls.{Result, Lent, size_of, write_book, locate, store, load, clear, sum, make_sums, read_sum, moved, fetch, ring_moved, ring_fetch, write_cycles, record_pixel, fill_records}
+use Rattle.scope.specs.Numbers.{value, refusal, of_result, of_fetch, of_located}
+use Rattle.scope.specs.Calls.{After, Lent, size_of, write_book, locate, store, load, clear, sum, make_sums, read_sum, moved, fetch, ring_moved, ring_fetch, write_cycles, record_pixel, fill_records}
 use Rattle.scope.specs.promises.Meaning.{IsPlan, IsSide, Inside, AllInside, IsPicture, IsLent, IsBook, IsCycles, RingAllowed}
 use Rattle.scope.specs.promises.Demand.{InCycles}
 use Rattle.scope.specs.declared.Plan.{Plan}
@@ -17,7 +18,6 @@ use Rattle.scope.specs.declared.Book.{Book}
 use Rattle.scope.specs.declared.Pattern.{Pattern}
 use Rattle.scope.specs.declared.PixelRecord.{PixelRecord}
 use Rattle.scope.specs.declared.FetchAnswer.{FetchAnswer}
-use Rattle.scope.specs.declared.Outcome.{Outcome}
 
 -- C is n/d rounded up: the least m with n ≤ m × d
 abbrev pub RoundedUp : ℕ → ℕ → ℕ → Type 0
@@ -85,8 +85,8 @@ word_at p W H mem v = get_or mem (bank_of p v * depth_of p W H + address_of p W 
 
 -- "A store puts its word at its pixel's bank and address, [..] and neither changes another word of the memory." "Words past
 -- N × depth are never touched." Card 6: of the sums only its bank's changes.
-pub record StoredOne (p : Plan) (W H : ℕ) (l : Lent) (v : Pixel) (x : ℕ) (r : Result Outcome Lent) : Type 0 where
-  pub done : of_outcome r.answer ≡ value tt
+pub record StoredOne (p : Plan) (W H : ℕ) (l : Lent) (v : Pixel) (x : ℕ) (r : After (Result Unit Refusal) Lent) : Type 0 where
+  pub done : of_result r.answer ≡ value tt
   pub put : word_at p W H r.content.memory v ≡ x
   pub elsewhere : (i : ℕ) → (i ≡ bank_of p v * depth_of p W H + address_of p W H v → ⊥) → get_or r.content.memory i 0 ≡ get_or l.memory i 0
   pub past : drop (banks p * depth_of p W H) r.content.memory ≡ drop (banks p * depth_of p W H) l.memory
@@ -95,8 +95,8 @@ pub record StoredOne (p : Plan) (W H : ℕ) (l : Lent) (v : Pixel) (x : ℕ) (r 
   pub as_long : size_of r.content ≡ size_of l
 
 -- "a clear puts 0 in every word of its bank"; Card 6: and in its sum
-pub record ClearedOne (p : Plan) (W H : ℕ) (l : Lent) (k : ℕ) (r : Result Outcome Lent) : Type 0 where
-  pub done : of_outcome r.answer ≡ value tt
+pub record ClearedOne (p : Plan) (W H : ℕ) (l : Lent) (k : ℕ) (r : After (Result Unit Refusal) Lent) : Type 0 where
+  pub done : of_result r.answer ≡ value tt
   pub zeros : (i : ℕ) → i < depth_of p W H → get_or r.content.memory (k * depth_of p W H + i) 0 ≡ 0
   pub before : (i : ℕ) → i < k * depth_of p W H → get_or r.content.memory i 0 ≡ get_or l.memory i 0
   pub after : (i : ℕ) → k * depth_of p W H + depth_of p W H ≤ i → get_or r.content.memory i 0 ≡ get_or l.memory i 0
@@ -111,8 +111,8 @@ total_below zero f = 0
 total_below (suc n) f = total_below n f + f n
 
 -- Card 6: "makes them afresh from the memory"; "Entries past N are never touched."
-pub record SumsMade (p : Plan) (W H : ℕ) (l : Lent) (r : Result Outcome Lent) : Type 0 where
-  pub done : of_outcome r.answer ≡ value tt
+pub record SumsMade (p : Plan) (W H : ℕ) (l : Lent) (r : After (Result Unit Refusal) Lent) : Type 0 where
+  pub done : of_result r.answer ≡ value tt
   pub each :
       (k : ℕ) → k < banks p → get_or r.content.sums k 0 ≡ total_below (depth_of p W H) λ i. get_or l.memory (k * depth_of p W H + i) 0
   pub past : drop (banks p) r.content.sums ≡ drop (banks p) l.sums
@@ -121,7 +121,7 @@ pub record SumsMade (p : Plan) (W H : ℕ) (l : Lent) (r : Result Outcome Lent) 
 
 -- "words in the book's pixel order, the rest of the output unchanged": entry e is the word at the pixel vs[e]; the pattern is t
 pub record FetchedAll
-    (r : ℕ) (p : Plan) (W H : ℕ) (mem : List ℕ) (t : Pattern) (vs : List Pixel) (out : List ℕ) (x : Result FetchAnswer (List ℕ))
+    (r : ℕ) (p : Plan) (W H : ℕ) (mem : List ℕ) (t : Pattern) (vs : List Pixel) (out : List ℕ) (x : After FetchAnswer (List ℕ))
     : Type 0
   where
     pub count : of_fetch r x.answer ≡ value (length vs)
@@ -148,7 +148,7 @@ pub record LegalCycles (book : Book) (r : ℕ) (p : Plan) (n : ℕ) : Type 0 whe
   pub suiting : suits_for r p (pixels (pattern_at book n)) ≡ true
 
 -- "writes the cycles in pixel order, one byte each, at the start of a lent output, the rest unchanged"
-pub record WrittenCycles (r : ℕ) (p : Plan) (t : Pattern) (out : List ℕ) (x : Result FetchAnswer (List ℕ)) : Type 0 where
+pub record WrittenCycles (r : ℕ) (p : Plan) (t : Pattern) (out : List ℕ) (x : After FetchAnswer (List ℕ)) : Type 0 where
   pub count : of_fetch r x.answer ≡ value t.used
   pub bytes : (e : ℕ) → e < t.used → get_or x.content e 0 ≡ cycle_of p (pixels t) e
   pub below : (e : ℕ) → e < t.used → get_or x.content e 0 < r
@@ -159,8 +159,8 @@ pub record WrittenCycles (r : ℕ) (p : Plan) (t : Pattern) (out : List ℕ) (x 
 abbrev pub no_record : PixelRecord
 no_record = record { column = pos 0; row = pos 0; bank = 0; address = 0 }
 
-pub record FilledAll (p : Plan) (W H : ℕ) (rs : List PixelRecord) (r : Result Outcome (List PixelRecord)) : Type 0 where
-  pub done : of_outcome r.answer ≡ value tt
+pub record FilledAll (p : Plan) (W H : ℕ) (rs : List PixelRecord) (r : After (Result Unit Refusal) (List PixelRecord)) : Type 0 where
+  pub done : of_result r.answer ≡ value tt
   pub as_long : length r.content ≡ length rs
   pub pixel : (i : ℕ) → record_pixel (get_or r.content i no_record) ≡ record_pixel (get_or rs i no_record)
   pub bank : (i : ℕ) → i < length rs → (get_or r.content i no_record).bank ≡ bank_of p (record_pixel (get_or rs i no_record))
@@ -173,20 +173,20 @@ pub record PictureCalls : Type 0 where
       → StoredOne p W H l v x (store p W H l v x)
   pub loads :
       (p : Plan) (W H : ℕ) (mem : List ℕ) (v : Pixel) → IsPicture p W H (length mem) → Inside W H v
-      → of_loaded (load p W H mem v) ≡ value (word_at p W H mem v)
+      → of_result (load p W H mem v) ≡ value (word_at p W H mem v)
   pub clears :
       (p : Plan) (W H : ℕ) (l : Lent) (k : ℕ) → IsLent p W H (size_of l) → k < banks p → ClearedOne p W H l k (clear p W H l k)
   pub sums :
       (p : Plan) (W H : ℕ) (mem : List ℕ) (k : ℕ) → IsPicture p W H (length mem) → k < banks p
-      → of_counted (sum p W H mem k) ≡ value (total_below (depth_of p W H) λ i. get_or mem (k * depth_of p W H + i) 0)
+      → of_result (sum p W H mem k) ≡ value (total_below (depth_of p W H) λ i. get_or mem (k * depth_of p W H + i) 0)
   -- "in 64 bits": the words have 16
   pub sum_fits :
       (p : Plan) (W H : ℕ) (mem : List ℕ) (k n : ℕ) → ((i : ℕ) → get_or mem i 0 < 65536)
-      → of_counted (sum p W H mem k) ≡ value n → n < 0x1_0000_0000_0000_0000
+      → of_result (sum p W H mem k) ≡ value n → n < 0x1_0000_0000_0000_0000
   pub makes_sums : (p : Plan) (W H : ℕ) (l : Lent) → IsLent p W H (size_of l) → SumsMade p W H l (make_sums p W H l)
   pub reads_sum :
       (p : Plan) (sums : List ℕ) (k : ℕ) → IsPlan p → banks p ≤ length sums → k < banks p
-      → of_counted (read_sum p sums k) ≡ value (get_or sums k 0)
+      → of_result (read_sum p sums k) ≡ value (get_or sums k 0)
   pub fetches :
       (book : Book) (r : ℕ) (p : Plan) (W H : ℕ) (mem : List ℕ) (n : ℕ) (o : Pixel) (out : List ℕ)
       → LegalFetch book r p W H (length mem) n → AllInside W H (moved (pattern_at book n) o)
@@ -208,16 +208,16 @@ pub record PictureCalls : Type 0 where
 pub record RefusalsChangeNothing : Type 0 where
   pub writes :
       (book : Book) (out : List ℕ) (n i : ℕ) (c : Option LongClash)
-      → of_counted (write_book book out).answer ≡ refusal n i c → (write_book book out).content ≡ out
+      → of_result (write_book book out).answer ≡ refusal n i c → (write_book book out).content ≡ out
   pub stores :
       (p : Plan) (W H : ℕ) (l : Lent) (v : Pixel) (x n i : ℕ) (c : Option LongClash)
-      → of_outcome (store p W H l v x).answer ≡ refusal n i c → (store p W H l v x).content ≡ l
+      → of_result (store p W H l v x).answer ≡ refusal n i c → (store p W H l v x).content ≡ l
   pub clears :
       (p : Plan) (W H : ℕ) (l : Lent) (k n i : ℕ) (c : Option LongClash)
-      → of_outcome (clear p W H l k).answer ≡ refusal n i c → (clear p W H l k).content ≡ l
+      → of_result (clear p W H l k).answer ≡ refusal n i c → (clear p W H l k).content ≡ l
   pub makes_sums :
       (p : Plan) (W H : ℕ) (l : Lent) (n i : ℕ) (c : Option LongClash)
-      → of_outcome (make_sums p W H l).answer ≡ refusal n i c → (make_sums p W H l).content ≡ l
+      → of_result (make_sums p W H l).answer ≡ refusal n i c → (make_sums p W H l).content ≡ l
   pub fetches :
       (book : Book) (r : ℕ) (p : Plan) (W H : ℕ) (mem : List ℕ) (m : ℕ) (o : Pixel) (out : List ℕ) (n i : ℕ) (c : Option LongClash)
       → of_fetch r (fetch book r p W H mem m o out).answer ≡ refusal n i c
@@ -232,7 +232,7 @@ pub record RefusalsChangeNothing : Type 0 where
       → (write_cycles book r p m out).content ≡ out
   pub fills :
       (p : Plan) (W H : ℕ) (rs : List PixelRecord) (n i : ℕ) (c : Option LongClash)
-      → of_outcome (fill_records p W H rs).answer ≡ refusal n i c → (fill_records p W H rs).content ≡ rs
+      → of_result (fill_records p W H rs).answer ≡ refusal n i c → (fill_records p W H rs).content ≡ rs
 
 -- Document 02, Card 5: what a ring fetch goes by.
 pub record RingKeepsBanks : Type 0 where

@@ -7,7 +7,7 @@ use Rattle.integers.specs.Division.{ceil_div}
 use Rattle.scope.specs.Plans.{Pixel, differences, pattern_at, pixels, patterns, banks, Combination, along, up, InLattice, determinant_size, normal_form}
 use Rattle.scope.specs.Finding.{Before, box_width, box_height}
 use Rattle.scope.specs.Cycles.{suits_for, suits_all_for, LongClash, shortened}
-use Rattle.scope.specs.Numbers.{value, refusal, of_planned, of_counted, of_check, of_fetch}
+use Rattle.scope.specs.Numbers.{value, refusal, of_result, of_check, of_fetch}
 use Rattle.scope.specs.Calls.{find, fewest, check, fetch, ring_fetch, write_cycles}
 use Rattle.scope.specs.promises.Meaning.{IsPlan, IsBook, IsCycles, Independent}
 use Rattle.scope.specs.promises.CyclePromises.{Uncrowded, FirstOfClass, LeastForCycles, NoneForCycles}
@@ -35,7 +35,7 @@ pub record NormalFormIsOnly : Type 0 where
 -- pattern", all pairs of integer vectors there are.
 abbrev pub FinderIsLeast : Type 0
 FinderIsLeast =
-    (book : Book) (r limit : ℕ) (p : Plan) → of_planned (find book r limit) ≡ value p → LeastForCycles r book p × (banks p ≤ limit)
+    (book : Book) (r limit : ℕ) (p : Plan) → of_result (find book r limit) ≡ value p → LeastForCycles r book p × (banks p ≤ limit)
 
 -- Demand 3: 7, none within the limit, comes exactly when that is so. "A book and a limit are legal if no number but 7 turns them down."
 pub record NoneWithin (book : Book) (r limit : ℕ) : Type 0 where
@@ -46,19 +46,19 @@ pub record NoneWithin (book : Book) (r limit : ℕ) : Type 0 where
   pub above : NoneForCycles r book limit
 
 abbrev pub FinderNone : Type 0
-FinderNone = (book : Book) (r limit : ℕ) → (of_planned (find book r limit) ≡ refusal 7 0 none) ↔ NoneWithin book r limit
+FinderNone = (book : Book) (r limit : ℕ) → (of_result (find book r limit) ≡ refusal 7 0 none) ↔ NoneWithin book r limit
 
 -- a legal book, r and limit get a plan or 7, and nothing else
 abbrev pub FinderDecides : Type 0
 FinderDecides =
     (book : Book) (r limit : ℕ) → IsBook book → IsCycles r → 1 ≤ limit → limit ≤ 1024
-    → ((p : Plan) × (of_planned (find book r limit) ≡ value p)) ⊎ (of_planned (find book r limit) ≡ refusal 7 0 none)
+    → ((p : Plan) × (of_result (find book r limit) ≡ value p)) ⊎ (of_result (find book r limit) ≡ refusal 7 0 none)
 
 -- "with the same ties", Card 1: "Among plans of equal least N, take the least b, then the least d": no plan of that N that suits for r
 -- has a smaller b, and none with that b a smaller d
 abbrev pub FinderOrder : Type 0
 FinderOrder =
-    (book : Book) (r limit : ℕ) (p : Plan) → of_planned (find book r limit) ≡ value p
+    (book : Book) (r limit : ℕ) (p : Plan) → of_result (find book r limit) ≡ value p
     → (q : Plan) → IsPlan q → suits_all_for r q (patterns book) ≡ true → banks q ≡ banks p → Before p q
 
 -- "w is 1 plus the greatest column difference and h is 1 plus the greatest row difference (1 where there is no difference)"
@@ -78,17 +78,17 @@ pub record FinderBounds (r : ℕ) (book : Book) (p : Plan) : Type 0 where
 
 abbrev pub FinderStaysWithin : Type 0
 FinderStaysWithin =
-    (book : Book) (r limit : ℕ) (p : Plan) → of_planned (find book r limit) ≡ value p → FinderBounds r book p
+    (book : Book) (r limit : ℕ) (p : Plan) → of_result (find book r limit) ≡ value p → FinderBounds r book p
 
 -- "So limit 1024 is always enough."
 abbrev pub LimitIsEnough : Type 0
-LimitIsEnough = (book : Book) (r : ℕ) → IsBook book → IsCycles r → (p : Plan) × (of_planned (find book r 1024) ≡ value p)
+LimitIsEnough = (book : Book) (r : ℕ) → IsBook book → IsCycles r → (p : Plan) × (of_result (find book r 1024) ≡ value p)
 
 -- "the least for that r" of a legal book is the N of the plan that the finder gives for r at limit 1024
 abbrev pub CountIsLeast : Type 0
 CountIsLeast =
     (book : Book) (r : ℕ) → IsBook book → IsCycles r
-    → (p : Plan) × (of_planned (find book r 1024) ≡ value p) × (of_counted (fewest book r) ≡ value (banks p))
+    → (p : Plan) × (of_result (find book r 1024) ≡ value p) × (of_result (fewest book r) ≡ value (banks p))
 
 -- A verdict with a surplus: book, r and vectors are legal, the normal form suits for r, and its N is the least for that r plus the
 -- surplus.
@@ -101,7 +101,7 @@ pub record Excess (book : Book) (r : ℕ) (x y : Pixel) (c : Checked) : Type 0 w
   pub suiting : suits_all_for r c.plan (patterns book) ≡ true
   pub uncrowded : Uncrowded r (along c.plan) (up c.plan) (patterns book)
   pub least : Plan
-  pub least_is : of_planned (find book r 1024) ≡ value least
+  pub least_is : of_result (find book r 1024) ≡ value least
   pub count : banks c.plan ≡ banks least + c.surplus
 
 abbrev pub SurplusIsExcess : Type 0

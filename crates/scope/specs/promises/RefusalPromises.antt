@@ -8,7 +8,7 @@ use Rattle.scope.specs.Plans.{Pixel, at, pixel_at, pattern_at, pixels, banks, de
 use Rattle.scope.specs.Banks.{depth_of}
 use Rattle.scope.specs.Cycles.{suits_for, LongClash}
 use Rattle.scope.specs.Books.{signed, pattern_of, book_of, pixel_bytes, pattern_bytes, book_bytes}
-use Rattle.scope.specs.Numbers.{Answer, value, refusal, turned_down, of_planned, of_counted, of_loaded, of_located, of_outcome, of_check, of_fetch, record_test}
+use Rattle.scope.specs.Numbers.{Answer, value, refusal, turned_down, of_result, of_located, of_check, of_fetch, record_test}
 use Rattle.scope.specs.Calls.{read_book, part_outcome, record_outcome, write_book, normal, find, fewest, check, bank, depth, address, locate, Lent, Size, size_of, store, load, clear, sum, make_sums, read_sum, moved, fetch, ring_fetch, write_cycles, record_pixel, fill_records}
 use Rattle.scope.specs.promises.Meaning.{IsPlan, IsSide, Inside, AllInside, IsPicture, IsLent, InRange, Lower, PixelLegal, IsPattern, IsBook, IsCycles, Independent, RingAllowed}
 use Rattle.scope.specs.promises.PicturePromises.{LegalFetch, LegalCycles}
@@ -69,18 +69,18 @@ pub record CyclesRefused (book : Book) (r : ℕ) (p : Plan) (n : ℕ) (x : Answe
 -- "A call applies those checks that concern it in this order". (7: FinderNone; the check's 10: CheckDecides, ClashIsFirst; the reverse
 -- map's 15: ReverseMap; the order within a record and within bytes: below.)
 pub record CallsRefuse : Type 0 where
-  pub normal_8 : (x y : Pixel) → (Independent x y → ⊥) → of_planned (normal x y) ≡ refusal 8 0 none
-  pub normal_9 : (x y : Pixel) → 1024 < determinant_size x y → of_planned (normal x y) ≡ refusal 9 0 none
+  pub normal_8 : (x y : Pixel) → (Independent x y → ⊥) → of_result (normal x y) ≡ refusal 8 0 none
+  pub normal_9 : (x y : Pixel) → 1024 < determinant_size x y → of_result (normal x y) ≡ refusal 9 0 none
   pub find_2_3_4_19 :
-      (book : Book) (r limit : ℕ) (f : Refusal) → record_test book ≡ some f → of_planned (find book r limit) ≡ turned_down f
+      (book : Book) (r limit : ℕ) (f : Refusal) → record_test book ≡ some f → of_result (find book r limit) ≡ turned_down f
   pub find_6 :
       (book : Book) (r limit : ℕ) → IsBook book → ((1 ≤ limit) × (limit ≤ 1024) → ⊥)
-      → of_planned (find book r limit) ≡ refusal 6 0 none
+      → of_result (find book r limit) ≡ refusal 6 0 none
   -- Card 4: "20, r outside 1 to 8, just after 6"
   pub find_20 :
       (book : Book) (r limit : ℕ) → IsBook book → 1 ≤ limit → limit ≤ 1024 → (IsCycles r → ⊥)
-      → of_planned (find book r limit) ≡ refusal 20 0 none
-  pub counts : (book : Book) (r : ℕ) → BookRefused book r (of_counted (fewest book r))
+      → of_result (find book r limit) ≡ refusal 20 0 none
+  pub counts : (book : Book) (r : ℕ) → BookRefused book r (of_result (fewest book r))
   pub checks : (book : Book) (r : ℕ) (x y : Pixel) → BookRefused book r (of_check r (check book r x y))
   pub check_8 :
       (book : Book) (r : ℕ) (x y : Pixel) → IsBook book → IsCycles r → (Independent x y → ⊥)
@@ -89,39 +89,39 @@ pub record CallsRefuse : Type 0 where
       (book : Book) (r : ℕ) (x y : Pixel) → IsBook book → IsCycles r → 1024 < determinant_size x y
       → of_check r (check book r x y) ≡ refusal 9 0 none
   -- "A call given a book record tests 2, 3, 4", and 19: that test by itself
-  pub record_2_3_4_19 : (book : Book) (f : Refusal) → record_test book ≡ some f → of_outcome (record_outcome book) ≡ turned_down f
+  pub record_2_3_4_19 : (book : Book) (f : Refusal) → record_test book ≡ some f → of_result (record_outcome book) ≡ turned_down f
   pub write_2_3_4_19 :
       (book : Book) (out : List ℕ) (f : Refusal) → record_test book ≡ some f
-      → of_counted (write_book book out).answer ≡ turned_down f
+      → of_result (write_book book out).answer ≡ turned_down f
   pub write_16 :
       (book : Book) (out : List ℕ) → IsBook book → length out < length (book_bytes book)
-      → of_counted (write_book book out).answer ≡ refusal 16 0 none
-  pub bank_11 : (p : Plan) (v : Pixel) → (IsPlan p → ⊥) → of_counted (bank p v) ≡ refusal 11 0 none
-  pub depths : (p : Plan) (W H : ℕ) → PlanRefused p W H (of_counted (depth p W H))
-  pub addresses : (p : Plan) (W H : ℕ) (v : Pixel) → PlanRefused p W H (of_counted (address p W H v))
+      → of_result (write_book book out).answer ≡ refusal 16 0 none
+  pub bank_11 : (p : Plan) (v : Pixel) → (IsPlan p → ⊥) → of_result (bank p v) ≡ refusal 11 0 none
+  pub depths : (p : Plan) (W H : ℕ) → PlanRefused p W H (of_result (depth p W H))
+  pub addresses : (p : Plan) (W H : ℕ) (v : Pixel) → PlanRefused p W H (of_result (address p W H v))
   pub address_14 :
       (p : Plan) (W H : ℕ) (v : Pixel) → IsPlan p → IsSide W → IsSide H → (Inside W H v → ⊥)
-      → of_counted (address p W H v) ≡ refusal 14 0 none
+      → of_result (address p W H v) ≡ refusal 14 0 none
   pub locates : (p : Plan) (W H k i : ℕ) → PlanRefused p W H (of_located (locate p W H k i))
   pub stores :
-      (p : Plan) (W H : ℕ) (l : Lent) (v : Pixel) (x : ℕ) → LentRefused p W H (size_of l) (of_outcome (store p W H l v x).answer)
+      (p : Plan) (W H : ℕ) (l : Lent) (v : Pixel) (x : ℕ) → LentRefused p W H (size_of l) (of_result (store p W H l v x).answer)
   pub store_14 :
       (p : Plan) (W H : ℕ) (l : Lent) (v : Pixel) (x : ℕ) → IsLent p W H (size_of l) → (Inside W H v → ⊥)
-      → of_outcome (store p W H l v x).answer ≡ refusal 14 0 none
-  pub loads : (p : Plan) (W H : ℕ) (mem : List ℕ) (v : Pixel) → WordRefused p W H (length mem) v (of_loaded (load p W H mem v))
-  pub clears : (p : Plan) (W H : ℕ) (l : Lent) (k : ℕ) → LentRefused p W H (size_of l) (of_outcome (clear p W H l k).answer)
+      → of_result (store p W H l v x).answer ≡ refusal 14 0 none
+  pub loads : (p : Plan) (W H : ℕ) (mem : List ℕ) (v : Pixel) → WordRefused p W H (length mem) v (of_result (load p W H mem v))
+  pub clears : (p : Plan) (W H : ℕ) (l : Lent) (k : ℕ) → LentRefused p W H (size_of l) (of_result (clear p W H l k).answer)
   pub clear_15 :
       (p : Plan) (W H : ℕ) (l : Lent) (k : ℕ) → IsLent p W H (size_of l) → banks p ≤ k
-      → of_outcome (clear p W H l k).answer ≡ refusal 15 0 none
-  pub sums : (p : Plan) (W H : ℕ) (mem : List ℕ) (k : ℕ) → BankRefused p W H (length mem) k (of_counted (sum p W H mem k))
+      → of_result (clear p W H l k).answer ≡ refusal 15 0 none
+  pub sums : (p : Plan) (W H : ℕ) (mem : List ℕ) (k : ℕ) → BankRefused p W H (length mem) k (of_result (sum p W H mem k))
   -- Card 6: "11, 13 for the sums and 15 for the bank"
-  pub makes_sums : (p : Plan) (W H : ℕ) (l : Lent) → LentRefused p W H (size_of l) (of_outcome (make_sums p W H l).answer)
-  pub read_sum_11 : (p : Plan) (sums : List ℕ) (k : ℕ) → (IsPlan p → ⊥) → of_counted (read_sum p sums k) ≡ refusal 11 0 none
+  pub makes_sums : (p : Plan) (W H : ℕ) (l : Lent) → LentRefused p W H (size_of l) (of_result (make_sums p W H l).answer)
+  pub read_sum_11 : (p : Plan) (sums : List ℕ) (k : ℕ) → (IsPlan p → ⊥) → of_result (read_sum p sums k) ≡ refusal 11 0 none
   pub read_sum_13 :
-      (p : Plan) (sums : List ℕ) (k : ℕ) → IsPlan p → length sums < banks p → of_counted (read_sum p sums k) ≡ refusal 13 0 none
+      (p : Plan) (sums : List ℕ) (k : ℕ) → IsPlan p → length sums < banks p → of_result (read_sum p sums k) ≡ refusal 13 0 none
   pub read_sum_15 :
       (p : Plan) (sums : List ℕ) (k : ℕ) → IsPlan p → banks p ≤ length sums → banks p ≤ k
-      → of_counted (read_sum p sums k) ≡ refusal 15 0 none
+      → of_result (read_sum p sums k) ≡ refusal 15 0 none
   pub fetches :
       (book : Book) (r : ℕ) (p : Plan) (W H : ℕ) (mem : List ℕ) (n : ℕ) (o : Pixel) (out : List ℕ)
       → FetchRefused book r p W H (length mem) n (of_fetch r (fetch book r p W H mem n o out).answer)
@@ -151,11 +151,11 @@ pub record CallsRefuse : Type 0 where
   pub write_cycles_16 :
       (book : Book) (r : ℕ) (p : Plan) (n : ℕ) (out : List ℕ) → LegalCycles book r p n → length out < (pattern_at book n).used
       → of_fetch r (write_cycles book r p n out).answer ≡ refusal 16 0 none
-  pub fills : (p : Plan) (W H : ℕ) (rs : List PixelRecord) → PlanRefused p W H (of_outcome (fill_records p W H rs).answer)
+  pub fills : (p : Plan) (W H : ℕ) (rs : List PixelRecord) → PlanRefused p W H (of_result (fill_records p W H rs).answer)
   pub fill_14 :
       (p : Plan) (W H : ℕ) (rs : List PixelRecord) → IsPlan p → IsSide W → IsSide H
       → (AllInside W H (map record_pixel rs) → ⊥)
-      → of_outcome (fill_records p W H rs).answer ≡ refusal 14 0 none
+      → of_result (fill_records p W H rs).answer ≡ refusal 14 0 none
 
 -- "A call given a book record tests 2, 3, 4 in book order", and 19 "after 4": the patterns before number n are legal,
 pub record LegalUpTo (book : Book) (n : ℕ) : Type 0 where
@@ -214,7 +214,7 @@ pub record PixelsSoFar (m : ℕ) (ts : List (List Pixel)) (c : ℕ) (t : List Pi
   pub each : (e : ℕ) → e < length t → PixelLegal (λ l. get_or t l (at (pos 0) (pos 0))) e
 
 abbrev pub read_answer : List ℕ → Answer Unit
-read_answer s = of_outcome (read_book s).outcome
+read_answer s = of_result (read_book s).outcome
 
 -- "The place is a byte offset for 1 to 5 where the call was given a book's bytes", and for 19: what comes next decides number
 -- and place
@@ -254,7 +254,7 @@ pub record ReaderRefuses : Type 0 where
   -- a pattern's part: "a second call with the same input gives the number and place"
   pub part_book :
       (s : List ℕ) (k n i : ℕ) (c : Option LongClash) → read_answer s ≡ refusal n i c
-      → of_outcome (part_outcome s k) ≡ refusal n i c
+      → of_result (part_outcome s k) ≡ refusal n i c
   pub part_17 :
       (s : List ℕ) (k : ℕ) → read_answer s ≡ value tt → (read_book s).book.count ≤ k
-      → of_outcome (part_outcome s k) ≡ refusal 17 0 none
+      → of_result (part_outcome s k) ≡ refusal 17 0 none

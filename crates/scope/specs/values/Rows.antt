@@ -1,24 +1,19 @@
 -- Rows of figures: what a call gives beside what is stated, and the patterns that the figures speak of.
 -- Assumes nothing.
-use Rattle.std.specs.Prelude.{ℕ, ◌≡◌, ℤ, pos, neg_ℤ, replicate}
+use Rattle.scope.specs.declared.Place.{Place}
+use Rattle.scope.specs.declared.Refusal.{Refusal}
+use Rattle.std.specs.Prelude.{ℕ, ◌≡◌, ℤ, pos, neg_ℤ, replicate, Result}
 use Rattle.std.proofs.Math.Option.{Option, none, some}
 use mathlib.Core.List.{List, [], ◌∷◌, ◌++◌, map, flat_map}
 use Rattle.scope.specs.Search.{gather}
 use Rattle.scope.specs.Plans.{Pixel, at, plan}
 use Rattle.scope.specs.Cycles.{LongClash}
 use Rattle.scope.specs.Books.{book_of}
-use Rattle.scope.specs.Numbers.{Answer, value, refusal, of_planned, of_counted, of_loaded, of_located, of_outcome, of_check, of_fetch}
+use Rattle.scope.specs.Numbers.{Answer, value, refusal, of_result, of_located, of_check, of_fetch}
 use Rattle.scope.specs.Calls.{read_book, write_book, find, check, fetch, ring_fetch, write_cycles}
 use Rattle.scope.specs.promises.Demand as Demand
 use Rattle.scope.specs.declared.Plan.{Plan}
 use Rattle.scope.specs.declared.PixelRecord.{PixelRecord}
-use Rattle.scope.specs.declared.Planned.{Planned}
-use Rattle.scope.specs.declared.Counted.{Counted}
-use Rattle.scope.specs.declared.Loaded.{Loaded}
-use Rattle.scope.specs.declared.Located.{Located}
-use Rattle.scope.specs.code.Words.{of_placed}
-use Rattle.scope.specs.declared.Outcome.{Outcome}
-use Rattle.scope.specs.declared.Placed.{Placed}
 use Rattle.scope.specs.declared.Verdict.{Verdict}
 use Rattle.scope.specs.declared.CheckAnswer.{CheckAnswer}
 use Rattle.scope.specs.declared.FetchAnswer.{FetchAnswer}
@@ -54,29 +49,29 @@ unfoldable pub values : {A : Type 0} → (A → List ℤ) → Answer A → Answe
 values f (value x) = value (f x)
 values f (refusal n i c) = refusal n i c
 
-unfoldable pub planned : Planned → Answer (List ℤ)
+unfoldable pub planned : Result Plan Refusal → Answer (List ℤ)
 unfolding values
-planned r = values (λ p. pos p.a ∷ pos p.b ∷ pos p.d ∷ []) (of_planned r)
+planned r = values (λ p. pos p.a ∷ pos p.b ∷ pos p.d ∷ []) (of_result r)
 
-unfoldable pub counted : Counted → Answer (List ℤ)
+unfoldable pub counted : Result ℕ Refusal → Answer (List ℤ)
 unfolding values
-counted r = values (λ n. pos n ∷ []) (of_counted r)
+counted r = values (λ n. pos n ∷ []) (of_result r)
 
-unfoldable pub loaded : Loaded → Answer (List ℤ)
+unfoldable pub loaded : Result ℕ Refusal → Answer (List ℤ)
 unfolding values
-loaded r = values (λ n. pos n ∷ []) (of_loaded r)
+loaded r = values (λ n. pos n ∷ []) (of_result r)
 
-unfoldable pub located : Located → Answer (List ℤ)
+unfoldable pub located : Result (ℤ × ℤ) Refusal → Answer (List ℤ)
 unfolding values
 located r = values (λ v. v.column ∷ v.row ∷ []) (of_located r)
 
-unfoldable pub placed : Placed → Answer (List ℤ)
-unfolding values of_placed
-placed r = values (λ x. pos x.bank ∷ pos x.word ∷ []) (of_placed r)
-
-unfoldable pub done : Outcome → Answer (List ℤ)
+unfoldable pub placed : Result Place Refusal → Answer (List ℤ)
 unfolding values
-done r = values (λ u. []) (of_outcome r)
+placed r = values (λ x. pos x.bank ∷ pos x.word ∷ []) (of_result r)
+
+unfoldable pub done : Result Unit Refusal → Answer (List ℤ)
+unfolding values
+done r = values (λ u. []) (of_result r)
 
 -- of a check for r, and of a fetch or the cycles for r
 unfoldable pub checked : ℕ → CheckAnswer → Answer (List ℤ)

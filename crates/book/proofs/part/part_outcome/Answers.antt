@@ -1,5 +1,6 @@
 -- `book::part::part_outcome` meets its contract: the bytes' refusal if there is one, else 17 if there is no such pattern.
 -- Assumes nothing.
+use Rattle.std.specs.Prelude.{Result, Ok, Err}
 use Prim.Native.Nat.{ℕ, ◌≤◌, ◌<◌}
 use mathlib.Core.Path.{◌≡◌, ◌∙◌}
 use mathlib.Core.Option.{none}
@@ -7,7 +8,6 @@ use mathlib.Core.List.{List}
 use Rattle.scope.specs.Books.{byte}
 use Rattle.scope.specs.Numbers.{bytes_test}
 use Rattle.scope.specs.Calls.{part_test, part_outcome}
-use Rattle.scope.specs.declared.Outcome.{Outcome}
 use Rattle.scope.specs.declared.Refusal.{Refusal}
 use Rattle.book.specs.Scan.{outcome_of}
 use Rattle.book.proofs.Outcomes.{answered_by_refusal, answered_by_done, done_found_nothing, refused_found}
@@ -17,23 +17,23 @@ use Rattle.book.proofs.ReaderRefusals.{part_of_refused, no_such_part}
 use Rattle.book.proofs.part.part_outcome.Goals as goal
 
 -- where the tests of the bytes s have answered
-module _ (s : List ℕ) (n : ℕ) {outcome : Outcome} (answer : outcome ≡ outcome_of (bytes_test s)) where
-  bytes-refused : {r : Refusal} → outcome ≡ Outcome.Refused r → outcome ≡ part_outcome s n
+module _ (s : List ℕ) (n : ℕ) {outcome : Result Unit Refusal} (answer : outcome ≡ outcome_of (bytes_test s)) where
+  bytes-refused : {r : Refusal} → outcome ≡ Err r → outcome ≡ part_outcome s n
   unfolding part_outcome
   bytes-refused {r} refused =
       refused
       ∙ answered_by_refusal (part_test s n) r
       (part_of_refused s n r (refused_found (bytes_test s) answer refused))
 
-  module _ (done : outcome ≡ Outcome.Done) where
+  module _ (done : outcome ≡ Ok tt) where
     taken : bytes_test s ≡ none
     taken = done_found_nothing (bytes_test s) answer done
 
-    no-pattern : byte s 0 ≤ n → Outcome.Refused Refusal.NoPattern ≡ part_outcome s n
+    no-pattern : byte s 0 ≤ n → Err Refusal.NoPattern ≡ part_outcome s n
     unfolding part_outcome
     no-pattern h = answered_by_refusal (part_test s n) Refusal.NoPattern (no_such_part s n taken h)
 
-    part-there : n < byte s 0 → Outcome.Done ≡ part_outcome s n
+    part-there : n < byte s 0 → (Ok tt) ≡ part_outcome s n
     unfolding part_outcome
     part-there h = answered_by_done (part_test s n) ((part_test_iff s n).1 (taken, h))
 

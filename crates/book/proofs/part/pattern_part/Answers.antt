@@ -1,5 +1,6 @@
 -- `book::part::pattern_part` meets its contract: the part begins after the pixel count, at the place of the first pixel.
 -- Assumes nothing.
+use Rattle.std.specs.Prelude.{Result, Ok, Err}
 use Prim.Native.Nat.{ℕ, ◌+◌, ◌*◌, ◌-◌, ◌≤◌}
 use native.Mathlib.Omega.{arith}
 use mathlib.Core.Path.{◌≡◌, ap, ap₂}
@@ -7,15 +8,14 @@ use mathlib.Core.List.{List, []}
 use lib.ListN.{length, take, drop}
 use Rattle.scope.specs.Books.{byte, start, part_in}
 use Rattle.scope.specs.Calls.{part_outcome, pattern_part, part_place}
-use Rattle.scope.specs.declared.Outcome.{Outcome}
 use Rattle.scope.specs.declared.Refusal.{Refusal}
 use Rattle.checks.proofs.Chains.{gives_value, gives_refusal}
 use Rattle.book.proofs.PartAnswers.{refused_part_lem, taken_part, refused_place, start_shows, taken_place, taken_bounds}
 use Rattle.book.proofs.part.pattern_part.Goals as goal
 
-module _ (s : List ℕ) (n : ℕ) {outcome : Outcome} (answer : outcome ≡ part_outcome s n) where
+module _ (s : List ℕ) (n : ℕ) {outcome : Result Unit Refusal} (answer : outcome ≡ part_outcome s n) where
   -- a refused part is empty, and at the start
-  module _ {r : Refusal} (refused : outcome ≡ Outcome.Refused r) where
+  module _ {r : Refusal} (refused : outcome ≡ Err r) where
     empty-part : [] ≡ pattern_part s n
     unfolding pattern_part
     empty-part = gives_refusal (refused_part_lem s n answer refused) (λ r. []) (part_in s n)
@@ -24,7 +24,7 @@ module _ (s : List ℕ) (n : ℕ) {outcome : Outcome} (answer : outcome ≡ part
     at-start p = ap {B = ℕ × ℕ} (λ k. (p.0, k)) (omega (arith, refused_place s n answer refused))
 
   -- else its pattern is one of a book's, and it is what stands from the first pixel's place on
-  module _ (done : outcome ≡ Outcome.Done) {at : ℕ} (is : at ≡ start s n) where
+  module _ (done : outcome ≡ Ok tt) {at : ℕ} (is : at ≡ start s n) where
     part-there : take (at + 1 + 2 * byte s at - (at + 1)) (drop (at + 1) s) ≡ pattern_part s n
     unfolding pattern_part part_in
     part-there =

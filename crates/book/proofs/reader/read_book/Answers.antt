@@ -1,5 +1,6 @@
 -- `book::reader::read_book` meets its contract.
 -- Assumes nothing.
+use Rattle.std.specs.Prelude.{Result, Ok, Err}
 use Prim.Native.Nat.{ℕ}
 use mathlib.Core.Path.{◌≡◌, sym, ◌∙◌, ap₂}
 use mathlib.Core.List.{List, []}
@@ -7,7 +8,6 @@ use Rattle.scope.specs.Books.{book_of, book_in}
 use Rattle.scope.specs.Numbers.{bytes_test}
 use Rattle.scope.specs.Calls.{read_book}
 use Rattle.scope.specs.declared.Book.{Book}
-use Rattle.scope.specs.declared.Outcome.{Outcome}
 use Rattle.scope.specs.declared.Reading.{Reading}
 use Rattle.scope.specs.declared.Refusal.{Refusal}
 use Rattle.checks.proofs.Chains.{answered_none, answered_some}
@@ -16,15 +16,15 @@ use Rattle.book.proofs.Outcomes.{done_found_nothing, refused_found}
 use Rattle.book.proofs.reader.read_book.Goals as goal
 
 -- the reading where the tests of the bytes s have answered with a refusal, and where they found nothing
-module _ (s : List ℕ) {book : Book} {outcome : Outcome} (answer : outcome ≡ outcome_of (bytes_test s)) where
+module _ (s : List ℕ) {book : Book} {outcome : Result Unit Refusal} (answer : outcome ≡ outcome_of (bytes_test s)) where
   refused-reading :
-      {r : Refusal} → outcome ≡ Outcome.Refused r → book ≡ book_of [] → record { book = book; outcome = outcome } ≡ read_book s
+      {r : Refusal} → outcome ≡ Err r → book ≡ book_of [] → record { book = book; outcome = outcome } ≡ read_book s
   unfolding read_book
   refused-reading {r} refused empty =
       ap₂ {C = Reading} (λ b o. record { book = b; outcome = o }) empty refused
       ∙ sym (answered_some (bytes_test s) _ _ r (refused_found (bytes_test s) answer refused))
 
-  done-reading : outcome ≡ Outcome.Done → book ≡ book_in s → record { book = book; outcome = outcome } ≡ read_book s
+  done-reading : outcome ≡ Ok tt → book ≡ book_in s → record { book = book; outcome = outcome } ≡ read_book s
   unfolding read_book
   done-reading done is =
       ap₂ {C = Reading} (λ b o. record { book = b; outcome = o }) is done

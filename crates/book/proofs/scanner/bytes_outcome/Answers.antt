@@ -1,6 +1,7 @@
 -- `book::scanner::bytes_outcome` meets its contract. The loop's invariant: the patterns before the n-th have passed their
 -- tests, and the n-th stands at the place. The measure is the number of patterns that are left.
 -- Assumes nothing.
+use Rattle.std.specs.Prelude.{Result, Ok, Err}
 use Prim.Native.Nat.{ℕ, ◌+◌, ◌*◌, ◌≤◌, ◌<◌}
 use native.Mathlib.Omega.{arith}
 use mathlib.Core.Path.{◌≡◌, refl, sym, ◌∙◌, ap}
@@ -12,7 +13,6 @@ use Rattle.scope.specs.Books.{byte, start}
 use Rattle.scope.specs.Numbers.{count_read, pattern_read, bytes_test}
 use Rattle.scope.specs.declared.Refusal.{Refusal}
 use Rattle.scope.specs.declared.Refusal.TheVariants.{Ends, Extra}
-use Rattle.scope.specs.declared.Outcome.{Outcome}
 use Rattle.book.specs.Scan.{outcome_of}
 use Rattle.book.proofs.Outcomes.{answered_by_refusal, answered_by_done, done_found_nothing, refused_found}
 use Rattle.book.proofs.ReaderRefusals.{ends_before_count, count_not_taken, first_count_decides}
@@ -24,7 +24,7 @@ use Rattle.book.proofs.scanner.bytes_outcome.Invariants.{Scanned}
 use Rattle.book.proofs.scanner.bytes_outcome.Goals as goal
 
 -- the refusal of the first count is the answer
-refused-by-count : (s : List ℕ) (r : Refusal) → count_read s 16 0 ≡ some r → Outcome.Refused r ≡ outcome_of (bytes_test s)
+refused-by-count : (s : List ℕ) (r : Refusal) → count_read s 16 0 ≡ some r → Err r ≡ outcome_of (bytes_test s)
 refused-by-count s r e = answered_by_refusal (bytes_test s) r (first_count_decides s r e)
 
 module _ {s : List ℕ} {count at n : ℕ} (scanned : Scanned s count at n) where
@@ -54,7 +54,7 @@ module _ {s : List ℕ} {count at n : ℕ} (scanned : Scanned s count at n) wher
 
 pub returns-then-s-eq0 : goal.returns-then-s-eq0
 returns-then-s-eq0 c =
-    ap (λ i. Outcome.Refused (Ends i)) (sym c.if-s-eq0.true) ∙ refused-by-count _ _ (ends_before_count _ 16 0 (omega arith))
+    ap (λ i. Err (Ends i)) (sym c.if-s-eq0.true) ∙ refused-by-count _ _ (ends_before_count _ 16 0 (omega arith))
 
 pub overflow_cast-count : goal.overflow_cast-count
 overflow_cast-count c = omega (arith, c.shared_slice_known-2-1.given 0)
@@ -73,9 +73,9 @@ loop-n-init c =
     record { below = omega arith; here = refl; inside = omega arith; passed = λ m h. absurd (omega arith) }
 
 -- in a turn, where the tests of the pattern at hand have answered
-module _ {s : List ℕ} {count at n : ℕ} {outcome : Outcome} (scanned : Scanned s count at n) (answer : outcome ≡ outcome_of (pattern_read s at)) where
+module _ {s : List ℕ} {count at n : ℕ} {outcome : Result Unit Refusal} (scanned : Scanned s count at n) (answer : outcome ≡ outcome_of (pattern_read s at)) where
   refused :
-      {r : Refusal} → outcome ≡ Outcome.Refused r → 0 < length s → FromTo 16 (byte s 0) → n < byte s 0
+      {r : Refusal} → outcome ≡ Err r → 0 < length s → FromTo 16 (byte s 0) → n < byte s 0
       → outcome ≡ outcome_of (bytes_test s)
   refused {r} is counted legal below =
       is
@@ -84,7 +84,7 @@ module _ {s : List ℕ} {count at n : ℕ} {outcome : Outcome} (scanned : Scanne
       (by_place scanned ∙ refused_found _ answer is))
 
   -- and where they found nothing: the pattern's pixels are there
-  pattern-inside : outcome ≡ Outcome.Done → at + 1 + 2 * get_or s at 0 ≤ length s
+  pattern-inside : outcome ≡ Ok tt → at + 1 + 2 * get_or s at 0 ≤ length s
   pattern-inside done = pixels-inside scanned (done_found_nothing _ answer done)
 
 pub returns-in-Refused : goal.returns-in-Refused
@@ -101,7 +101,7 @@ unfolding byte
 returns-then-at-s c =
     let scanned = c.loop-n.invariant in
     let end = at-end scanned c.loop-n-test.false in
-    ap (λ i. Outcome.Refused (Extra i)) end
+    ap (λ i. Err (Extra i)) end
     ∙ answered_by_refusal _ _
     (extra_decides _ ((count_read_iff _ 16 0).1 (omega arith)) (λ n h. scanned.passed n (omega arith)) (omega arith))
 

@@ -1,5 +1,6 @@
 -- `book::scanner::pattern_outcome` meets its contract: a refused count decides, and after a legal one the pixels do.
 -- Assumes nothing.
+use Rattle.std.specs.Prelude.{Err}
 use Prim.Native.Nat.{ℕ}
 use native.Mathlib.Omega.{arith}
 use mathlib.Core.Path.{◌≡◌, sym, ◌∙◌, ap}
@@ -8,7 +9,6 @@ use mathlib.Core.List.{List}
 use Rattle.scope.specs.Books.{byte}
 use Rattle.scope.specs.Numbers.{count_read, pattern_read}
 use Rattle.scope.specs.declared.Refusal.{Refusal}
-use Rattle.scope.specs.declared.Outcome.{Outcome}
 use Rattle.book.specs.Scan.{outcome_of}
 use Rattle.book.proofs.Outcomes.{answered_by_refusal}
 use Rattle.book.proofs.ReaderRefusals.{ends_before_count, count_not_taken}
@@ -18,7 +18,7 @@ use Rattle.book.proofs.scanner.pattern_outcome.Goals as goal
 
 -- the refusal of the count is the pattern's
 refused-by-count :
-    (s : List ℕ) (at : ℕ) (r : Refusal) → count_read s 64 at ≡ some r → Outcome.Refused r ≡ outcome_of (pattern_read s at)
+    (s : List ℕ) (at : ℕ) (r : Refusal) → count_read s 64 at ≡ some r → Err r ≡ outcome_of (pattern_read s at)
 refused-by-count s at r e = answered_by_refusal (pattern_read s at) r (count_decides_from s at r e)
 
 pub returns-then-s-at : goal.returns-then-s-at

@@ -1,6 +1,7 @@
 -- `book::writer::write_book` meets its contract: the record's tests come first, then that of the output's room, and where
 -- neither refuses the bytes are put.
 -- Assumes nothing.
+use Rattle.std.specs.Prelude.{Result, Ok, Err}
 use Prim.Native.Nat.{ℕ, ◌≤◌, ◌<◌}
 use native.Mathlib.Omega.{arith}
 use mathlib.Core.Path.{◌≡◌, ◌∙◌, ap}
@@ -13,7 +14,6 @@ use Rattle.scope.specs.Books.{book_bytes}
 use Rattle.scope.specs.Numbers.{record_test, output_test}
 use Rattle.scope.specs.Calls.{write_book}
 use Rattle.scope.specs.declared.Book.{Book}
-use Rattle.scope.specs.declared.Counted.{Counted}
 use Rattle.scope.specs.declared.Refusal.{Refusal}
 use Rattle.checks.proofs.Chains.{chain_refuses, chain_goes_on, Gives, value_given, refusal_given}
 use Rattle.checks.proofs.Deciding.{output_decides}
@@ -33,20 +33,20 @@ module _ (book : Book) (out : List ℕ) where
   abbrev tests : Option Refusal
   tests = first_of (record_test book ∷ room ∷ [])
 
-  abbrev number : Counted
-  number = Counted.Number (length bytes)
+  abbrev number : Result ℕ Refusal
+  number = Ok (length bytes)
 
-  abbrev Answers : Counted → List ℕ → Type 0
+  abbrev Answers : Result ℕ Refusal → List ℕ → Type 0
   Answers = Gives (write_book book out)
 
-  refused : (r : Refusal) → tests ≡ some r → Answers (Counted.Refused r) out
+  refused : (r : Refusal) → tests ≡ some r → Answers (Err r) out
   unfolding write_book
-  refused = refusal_given tests Counted.Refused out number (over_start bytes out)
+  refused = refusal_given tests Err out number (over_start bytes out)
 
-  book-refused : (r : Refusal) → record_test book ≡ some r → Answers (Counted.Refused r) out
+  book-refused : (r : Refusal) → record_test book ≡ some r → Answers (Err r) out
   book-refused r found = refused r (chain_refuses (record_test book) (room ∷ []) r found)
 
-  output-refused : record_test book ≡ none → length out < length bytes → Answers (Counted.Refused Refusal.Output) out
+  output-refused : record_test book ≡ none → length out < length bytes → Answers (Err Refusal.Output) out
   output-refused legal short =
       refused Refusal.Output
       (chain_goes_on (record_test book) (room ∷ []) legal
@@ -55,7 +55,7 @@ module _ (book : Book) (out : List ℕ) where
   written : record_test book ≡ none → length bytes ≤ length out → Answers number (over_start bytes out)
   unfolding write_book
   written legal enough =
-      value_given tests Counted.Refused out number (over_start bytes out)
+      value_given tests Err out number (over_start bytes out)
       ((write_test_iff book (length out)).1 ((book_legal_iff book).0 legal, enough))
 
 pub returns-in-Refused : goal.returns-in-Refused
@@ -76,4 +76,4 @@ put_book-requires c = (record_taken _ c.record_outcome-outcome.ensures c.in_defa
 pub returns : goal.returns
 returns c =
     let right = written _ c.args.out.now (record_taken _ c.record_outcome-outcome.ensures c.in_default.is) (omega (arith, c.byte_count-size.ensures)) in
-    (ap Counted.Number c.byte_count-size.ensures ∙ right.0, c.put_book.ensures ∙ right.1)
+    (ap Ok c.byte_count-size.ensures ∙ right.0, c.put_book.ensures ∙ right.1)

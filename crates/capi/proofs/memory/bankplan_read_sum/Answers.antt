@@ -1,9 +1,9 @@
 -- `capi::memory::bankplan_read_sum` meets its contract.
 -- Assumes nothing.
-use Rattle.scope.specs.Numbers.{of_counted}
+use Rattle.scope.specs.Numbers.{of_result}
 use Rattle.capi.proofs.Passed.{told_of}
 use Rattle.capi.proofs.memory.bankplan_read_sum.Goals as goal
 
 pub returns : goal.returns
 returns c =
-    told_of of_counted (rw c.plan_of.ensures at c.read_sum.ensures) c.tell_counted.ensures
+    told_of of_result (rw c.plan_of.ensures at c.read_sum.ensures) c.tell_counted.ensures

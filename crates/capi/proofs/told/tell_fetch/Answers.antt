@@ -1,17 +1,18 @@
 -- `capi::told::tell_fetch` meets its contract.
 -- Assumes nothing.
+use Rattle.scope.specs.declared.Refusal.{Refusal}
+use Rattle.std.specs.Prelude.{Result}
 use mathlib.Core.Path.{refl, ◌∙◌, ap}
 use mathlib.Core.List.{List}
 use Prim.Native.Nat.{ℕ, suc}
 use lib.ListN.{take}
-use Rattle.scope.specs.Numbers.{Answer, of_counted, with_positions}
-use Rattle.scope.specs.declared.Counted.{Counted}
+use Rattle.scope.specs.Numbers.{Answer, of_result, with_positions}
 use Rattle.capi.proofs.Passed.{told_value, told_refusal, placed_refusal}
 use Rattle.capi.proofs.told.tell_fetch.Goals as goal
 
 -- the answer's number, told with these positions
-abbrev told : List ℕ → ℕ → Counted → Answer ℕ
-told positions r c = with_positions (take (suc r) positions) (of_counted c)
+abbrev told : List ℕ → ℕ → Result ℕ Refusal → Answer ℕ
+told positions r c = with_positions (take (suc r) positions) (of_result c)
 
 pub returns-in-Number : goal.returns-in-Number
 returns-in-Number c =

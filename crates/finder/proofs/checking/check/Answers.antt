@@ -1,6 +1,7 @@
 -- `finder::checking::check` meets its contract: the tests of the record and r come first, then those of the normal form, and where none
 -- refuses the normal form is judged.
 -- Assumes nothing.
+use Rattle.std.specs.Prelude.{Ok, Err}
 use Prim.Native.Nat.{ℕ}
 use mathlib.Core.Path.{◌≡◌, refl, sym, ◌∙◌, ap, ap₂}
 use mathlib.Core.Bool.{true}
@@ -11,12 +12,11 @@ use native.Mathlib.Omega.{arith}
 use Rattle.scope.specs.Search.{first_of}
 use Rattle.scope.specs.Plans.{Pixel, at, is_plan, patterns, normal_form}
 use Rattle.scope.specs.Cycles.{LongClash, clash_for}
-use Rattle.scope.specs.Numbers.{dependent_test, large_test, of_planned, places}
+use Rattle.scope.specs.Numbers.{dependent_test, large_test, of_result, places}
 use Rattle.scope.specs.Calls.{answered, normal, book_test, check_test, judged, check}
 use Rattle.scope.specs.promises.Meaning.{IsCycles}
 use Rattle.scope.specs.declared.Plan.{Plan}
 use Rattle.scope.specs.declared.Book.{Book}
-use Rattle.scope.specs.declared.Planned.{Planned}
 use Rattle.scope.specs.declared.Refusal.{Refusal}
 use Rattle.scope.specs.declared.Verdict.{Verdict}
 use Rattle.scope.specs.declared.CheckAnswer.{CheckAnswer}
@@ -46,16 +46,16 @@ Start = lts.Start tie.the-claims reads.Pre reads.Post
 -- what the answer of a call that gives a plan tells of its tests
 module _ (form : Plan) where
   plan-shows :
-      {p : Plan} (t : Option Refusal) → answered t Planned.Refused (Planned.Plan form) ≡ Planned.Plan p
+      {p : Plan} (t : Option Refusal) → answered t Err (Ok form) ≡ Ok p
       → (t ≡ none) × (form ≡ p)
   unfolding answered
   plan-shows none e = (refl, cc)
-  plan-shows (some q) e = absurd (value_not_refusal (ap of_planned (sym e)))
+  plan-shows (some q) e = absurd (value_not_refusal (ap of_result (sym e)))
 
   refusal-shows :
-      {r : Refusal} (t : Option Refusal) → answered t Planned.Refused (Planned.Plan form) ≡ Planned.Refused r → t ≡ some r
+      {r : Refusal} (t : Option Refusal) → answered t Err (Ok form) ≡ Err r → t ≡ some r
   unfolding answered
-  refusal-shows none e = absurd (value_not_refusal (ap of_planned e))
+  refusal-shows none e = absurd (value_not_refusal (ap of_result e))
   refusal-shows (some q) e = cc
 
 -- this verdict with these positions is the check's
@@ -67,7 +67,7 @@ module _ (x y : Pixel) where
   formTests = dependent_test x y ∷ large_test x y ∷ []
 
   -- a normal form that is given is a plan
-  form-is-plan : (p : Plan) → normal x y ≡ Planned.Plan p → is_plan p ≡ true
+  form-is-plan : (p : Plan) → normal x y ≡ Ok p → is_plan p ≡ true
   unfolding normal
   form-is-plan p e =
       let (passed, is) = plan-shows (normal_form x y) (first_of formTests) e in
@@ -92,12 +92,12 @@ module _ (x y : Pixel) where
       unfolding check_test
       past-book = chain_goes_on (book_test book r) formTests legal
 
-      form-refused : (f : Refusal) → normal x y ≡ Planned.Refused f → Gives (check book r x y) (Verdict.Refused f) (replicate 9 0)
+      form-refused : (f : Refusal) → normal x y ≡ Err f → Gives (check book r x y) (Verdict.Refused f) (replicate 9 0)
       unfolding normal
       form-refused f e = refused f (past-book ∙ refusal-shows (normal_form x y) (first_of formTests) e)
 
       form-judged :
-          (p : Plan) → normal x y ≡ Planned.Plan p
+          (p : Plan) → normal x y ≡ Ok p
           → ((check book r x y).verdict ≡ judged r (patterns book) p) × ((check book r x y).positions ≡ places (clash_for r p (patterns book)))
       unfolding check normal
       form-judged p e =

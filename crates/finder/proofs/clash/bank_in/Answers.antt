@@ -8,7 +8,7 @@ use mir.Syntax.{w8, w16}
 use Rattle.integers.proofs.Raised.{widened_fits, widened_is}
 use Rattle.scope.specs.Plans.{Pixel, at, banks}
 use Rattle.scope.specs.Banks.{bank_of}
-use Rattle.scope.specs.Numbers.{value, of_counted}
+use Rattle.scope.specs.Numbers.{value, of_result}
 use Rattle.scope.specs.Calls.{bank}
 use Rattle.scope.specs.promises.Meaning.{IsPlan}
 use Rattle.scope.specs.declared.Plan.{Plan}
@@ -42,9 +42,9 @@ module _ (c : After-bank-answer) where
   plan : IsPlan p
   plan = plan_means p c.requires
 
-  answer-is : of_counted c.bank-answer.result ≡ value (bank_of p v)
+  answer-is : of_result c.bank-answer.result ≡ value (bank_of p v)
   answer-is =
-      ap of_counted
+      ap of_result
       (c.bank-answer.ensures
       ∙ ap₂ (λ (i j : ℤ). bank p (at i j)) (widened_is w8 w16 tt c.args.i c.ranges.i)
       (widened_is w8 w16 tt c.args.j c.ranges.j))
@@ -56,8 +56,8 @@ module _ (c : After-bank-answer) where
 
 pub returns-in-Number : goal.returns-in-Number
 returns-in-Number c =
-    let is = value_injective (ap of_counted (sym c.in-Number.is) ∙ answer-is c.before) in
+    let is = value_injective (ap of_result (sym c.in-Number.is) ∙ answer-is c.before) in
     (is, rw is (bank-small c.before))
 
 pub returns-in-Refused : goal.returns-in-Refused
-returns-in-Refused c = absurd (value_not_refusal (sym (answer-is c.before) ∙ ap of_counted c.in-Refused.is))
+returns-in-Refused c = absurd (value_not_refusal (sym (answer-is c.before) ∙ ap of_result c.in-Refused.is))

@@ -1,11 +1,12 @@
 -- `finder::clash::suits_answer` meets its contract: 2, 20, 11, then what the search met, with the positions of the class.
 -- Assumes nothing.
+use Rattle.scope.specs.declared.Refusal.{Refusal}
+use Rattle.std.specs.Prelude.{Result, Ok, Err}
 use native.Mathlib.Omega.{arith}
 use Prim.Native.Nat.{ℕ}
 use mathlib.Core.Path.{◌≡◌, ◌∙◌, ap}
 use mathlib.Core.Option.{none}
 use Rattle.scope.specs.declared.Clash.{Clash}
-use Rattle.scope.specs.declared.Outcome.{Outcome}
 use Rattle.scope.specs.declared.Pattern.{Pattern}
 use Rattle.scope.specs.declared.Plan.{Plan}
 use Rattle.scope.specs.declared.Refusal.TheVariants.{Unsuited}
@@ -17,7 +18,7 @@ use Rattle.finder.proofs.MetAnswers.{at_clash, nowhere_clash, begins_below, clas
 use Rattle.finder.proofs.clash.suits_answer.Goals as goal
 
 -- where the tests of pattern, r and plan found nothing
-module _ (p : Plan) (t : Pattern) (r : ℕ) {outcome : Outcome} (told : outcome ≡ outcome_of (single_test p t r)) (done : outcome ≡ Outcome.Done) where
+module _ (p : Plan) (t : Pattern) (r : ℕ) {outcome : Result Unit Refusal} (told : outcome ≡ outcome_of (single_test p t r)) (done : outcome ≡ Ok tt) where
   passed : single_test p t r ≡ none
   passed = done_found_nothing (single_test p t r) told done
 
@@ -48,7 +49,7 @@ pub returns-in-At : goal.returns-in-At
 returns-in-At c =
     let (clash, found, is) = at_clash _ c.clash_in-met.ensures c.in-At.is in
     let (refusal, positions) = suits_clash _ _ _ _ (passed c.args.p c.args.t c.args.r c.single_outcome-outcome.ensures c.in_default.is) clash found in
-    (ap (λ (c : Clash). Outcome.Refused (Unsuited c)) is ∙ refusal, class_is_clash _ _ _ _ found is c.class_positions-positions.ensures ∙ positions)
+    (ap (λ (c : Clash). Err (Unsuited c)) is ∙ refusal, class_is_clash _ _ _ _ found is c.class_positions-positions.ensures ∙ positions)
 
 pub returns : goal.returns
 returns c =

@@ -1,5 +1,7 @@
 -- `finder::cycles::write_cycles` meets its contract: 2, 3, 4, 19, 20, 11, 17, then 10 with its positions, then 16, and else the cycles.
 -- Assumes nothing.
+use Rattle.scope.specs.declared.Refusal.{Refusal}
+use Rattle.std.specs.Prelude.{Result, Ok}
 use Prim.Native.Nat.{ℕ, ◌≤◌, ◌<◌}
 use native.Mathlib.Omega.{arith}
 use mathlib.Core.Path.{◌≡◌, ◌∙◌, ap}
@@ -7,7 +9,6 @@ use mathlib.Core.Option.{none}
 use Rattle.scope.specs.Plans.{pattern_at}
 use Rattle.scope.specs.Calls.{cycles_first}
 use Rattle.scope.specs.declared.Book.{Book}
-use Rattle.scope.specs.declared.Outcome.{Outcome}
 use Rattle.scope.specs.declared.Pattern.{Pattern}
 use Rattle.scope.specs.declared.Plan.{Plan}
 use Rattle.book.specs.Scan.{outcome_of, entry_number}
@@ -18,7 +19,7 @@ use Rattle.finder.proofs.cycles.write_cycles.Goals as goal
 
 -- where the tests before 10 found nothing, with the record k that stands for the pattern
 module _
-    (book : Book) (r : ℕ) (p : Plan) (n : ℕ) {outcome : Outcome} (told : outcome ≡ outcome_of (cycles_first book r p n)) (done : outcome ≡ Outcome.Done) where
+    (book : Book) (r : ℕ) (p : Plan) (n : ℕ) {outcome : Result Unit Refusal} (told : outcome ≡ outcome_of (cycles_first book r p n)) (done : outcome ≡ Ok tt) where
   passed : cycles_first book r p n ≡ none
   passed = done_found_nothing (cycles_first book r p n) told done
 

@@ -1,6 +1,7 @@
 -- `finder::finding::find` meets its contract: the record's tests come first, then those of the limit and r, and where none refuses the
 -- search for r answers.
 -- Assumes nothing.
+use Rattle.std.specs.Prelude.{Err}
 use Prim.Native.Nat.{ℕ, ◌≤◌}
 use native.Mathlib.Omega.{arith}
 use mathlib.Core.Path.{◌≡◌, sym, ◌∙◌}
@@ -12,7 +13,6 @@ use Rattle.scope.specs.Numbers.{record_test, limit_test, cycles_test}
 use Rattle.scope.specs.Calls.{find_test, found, find}
 use Rattle.scope.specs.promises.Meaning.{IsCycles}
 use Rattle.scope.specs.declared.Book.{Book}
-use Rattle.scope.specs.declared.Planned.{Planned}
 use Rattle.scope.specs.declared.Refusal.{Refusal}
 use Rattle.checks.proofs.Chains.{chain_refuses, chain_goes_on}
 use Rattle.checks.proofs.Deciding.{limit_decides, cycles_decide}
@@ -30,7 +30,7 @@ In_default = lts.Past-After-enum_told tie.the-claims reads.Pre reads.Post
 
 -- What the call answers for a book, by its limit and r.
 module _ (book : Book) (r limit : ℕ) (legal : record_test book ≡ none) where
-  limit-refused : ((1 ≤ limit) × (limit ≤ 1024) → ⊥) → Planned.Refused Refusal.Limit ≡ find book r limit
+  limit-refused : ((1 ≤ limit) × (limit ≤ 1024) → ⊥) → Err Refusal.Limit ≡ find book r limit
   unfolding find_test
   limit-refused h =
       find_refused book r limit Refusal.Limit
@@ -38,7 +38,7 @@ module _ (book : Book) (r limit : ℕ) (legal : record_test book ≡ none) where
       ∙ chain_refuses (limit_test limit) (cycles_test r ∷ []) Refusal.Limit ((limit_decides limit).refuses h))
 
   module _ (least : 1 ≤ limit) (most : limit ≤ 1024) where
-    cycles-refused : (IsCycles r → ⊥) → Planned.Refused Refusal.Cycles ≡ find book r limit
+    cycles-refused : (IsCycles r → ⊥) → Err Refusal.Cycles ≡ find book r limit
     unfolding find_test
     cycles-refused h =
         find_refused book r limit Refusal.Cycles

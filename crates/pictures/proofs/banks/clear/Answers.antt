@@ -1,6 +1,7 @@
 -- `pictures::banks::clear` meets its contract: where the bank's tests find nothing its words and its sum are cleared, and elsewhere the
 -- refusal comes back.
 -- Assumes nothing.
+use Rattle.std.specs.Prelude.{Result, Ok, Err}
 use Rattle.std.proofs.Common.{◌≡◌, ℕ, ◌<◌, ◌≤◌, List, [], ◌∷◌, length, refl, ◌∙◌, ap₂, arith}
 use mathlib.Core.Option.{some}
 use Rattle.scope.specs.Plans.{banks}
@@ -9,8 +10,6 @@ use Rattle.scope.specs.Numbers.{bank_test}
 use Rattle.scope.specs.Calls.{Lent, lent, size_of, lent_test, clear_test, clear}
 use Rattle.scope.specs.promises.Meaning.{IsLent}
 use Rattle.scope.specs.declared.Plan.{Plan}
-use Rattle.scope.specs.declared.Counted.{Counted}
-use Rattle.scope.specs.declared.Outcome.{Outcome}
 use Rattle.scope.specs.declared.Refusal.{Refusal}
 use Rattle.checks.proofs.Chains.{Gives, chain_refuses, chain_goes_on, chain_of_one}
 use Rattle.checks.proofs.Deciding.{bank_decides}
@@ -25,23 +24,23 @@ module _ (p : Plan) (W H : ℕ) (l : Lent) (k : ℕ) where
   abbrev cleared : Lent
   cleared = lent (after_clear p W H l.memory k) (sums_after_clear l.sums k)
 
-  refused : {r : Refusal} → clear_test p W H (size_of l) k ≡ some r → Gives (clear p W H l k) (Outcome.Refused r) l
+  refused : {r : Refusal} → clear_test p W H (size_of l) k ≡ some r → Gives (clear p W H l k) (Err r) l
   unfolding clear
   refused found = leaves_as_it_was found l cleared
 
   no-picture :
-      {asked : Counted} {r : Refusal} → asked ≡ lent_depth p W H (size_of l) → asked ≡ Counted.Refused r
-      → Gives (clear p W H l k) (Outcome.Refused r) l
+      {asked : Result ℕ Refusal} {r : Refusal} → asked ≡ lent_depth p W H (size_of l) → asked ≡ Err r
+      → Gives (clear p W H l k) (Err r) l
   unfolding clear_test
   no-picture {r} is e = refused (chain_refuses (lent_test p W H (size_of l)) (bank_test p k ∷ []) r (lent_refusal_shows p W H (size_of l) is e))
 
-  module _ {asked : Counted} {deep m : ℕ} (is : asked ≡ lent_depth p W H (size_of l)) (e : asked ≡ Counted.Number deep) (counted : m ≡ banks p) where
+  module _ {asked : Result ℕ Refusal} {deep m : ℕ} (is : asked ≡ lent_depth p W H (size_of l)) (e : asked ≡ Ok deep) (counted : m ≡ banks p) where
     past-picture : clear_test p W H (size_of l) k ≡ bank_test p k
     unfolding clear_test
     past-picture =
         chain_goes_on (lent_test p W H (size_of l)) (bank_test p k ∷ []) (lent_shows p W H (size_of l) is e).0 ∙ chain_of_one (bank_test p k)
 
-    no-bank : m ≤ k → Gives (clear p W H l k) (Outcome.Refused Refusal.Cell) l
+    no-bank : m ≤ k → Gives (clear p W H l k) (Err Refusal.Cell) l
     no-bank h = refused (past-picture ∙ (bank_decides p k).refuses (λ below. omega (arith, counted)))
 
     module _ (h : k < m) where
@@ -57,7 +56,7 @@ module _ (p : Plan) (W H : ℕ) (l : Lent) (k : ℕ) where
       sum-there : k < length l.sums
       sum-there = omega (arith, below, here.sums)
 
-      done : {mem sums : List ℕ} → mem ≡ after_clear p W H l.memory k → sums ≡ sums_after_clear l.sums k → Gives (clear p W H l k) Outcome.Done (lent mem sums)
+      done : {mem sums : List ℕ} → mem ≡ after_clear p W H l.memory k → sums ≡ sums_after_clear l.sums k → Gives (clear p W H l k) (Ok tt) (lent mem sums)
       unfolding clear
       done mem_is sums-is = leaves_written (past-picture ∙ (bank_decides p k).passes below) l cleared (ap₂ lent mem_is sums-is)
 

@@ -1,13 +1,13 @@
 -- `pictures::banks::sum` meets its contract: where the bank's tests find nothing its words are summed, and elsewhere the
 -- refusal comes back.
 -- Assumes nothing.
+use Rattle.std.specs.Prelude.{Result, Ok, Err}
 use Rattle.std.proofs.Common.{◌≡◌, ℕ, ◌+◌, ◌-◌, ◌*◌, List, length, take, drop, ap, ◌∙◌, arith}
 use mathlib.Core.Option.{none}
 use mathlib.Core.List.{foldr}
 use Rattle.scope.specs.Banks.{bank_sum}
 use Rattle.scope.specs.Calls.{whole_bank_test, sum}
 use Rattle.scope.specs.declared.Plan.{Plan}
-use Rattle.scope.specs.declared.Counted.{Counted}
 use Rattle.scope.specs.declared.Refusal.{Refusal}
 use Rattle.checks.proofs.Chains.{gives_value, gives_refusal}
 use Rattle.pictures.specs.Places.{bank_depth}
@@ -19,15 +19,15 @@ use Rattle.pictures.proofs.banks.sum.Goals as goal
 module _ (p : Plan) (W H : ℕ) (mem : List ℕ) (k : ℕ) where
   summed :
       {deep n : ℕ} → (whole_bank_test p W H (length mem) k ≡ none) × BankIn p W H mem k deep → n ≡ foldr ◌+◌ 0 (take ((k + 1) * deep - k * deep) (drop (k * deep) mem))
-      → Counted.Number n ≡ sum p W H mem k
+      → Ok n ≡ sum p W H mem k
   unfolding sum bank_sum
-  summed (passed, bank) e = gives_value passed Counted.Refused (ap Counted.Number (e ∙ ap (foldr ◌+◌ 0) (part_is_bank bank)))
+  summed (passed, bank) e = gives_value passed Err (ap Ok (e ∙ ap (foldr ◌+◌ 0) (part_is_bank bank)))
 
   refused :
-      {asked : Counted} {r : Refusal} → asked ≡ bank_depth p W H (length mem) k → asked ≡ Counted.Refused r
-      → Counted.Refused r ≡ sum p W H mem k
+      {asked : Result ℕ Refusal} {r : Refusal} → asked ≡ bank_depth p W H (length mem) k → asked ≡ Err r
+      → Err r ≡ sum p W H mem k
   unfolding sum
-  refused is e = gives_refusal (bank_refusal_shows p W H (length mem) k is e) Counted.Refused (Counted.Number (bank_sum p W H mem k))
+  refused is e = gives_refusal (bank_refusal_shows p W H (length mem) k is e) Err (Ok (bank_sum p W H mem k))
 
 pub sum_words-requires : goal.sum_words-requires
 sum_words-requires c = part_at_most (bank_given c.bank_depth-depth.ensures c.in-Number.is).1

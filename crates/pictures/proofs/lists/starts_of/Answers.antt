@@ -1,11 +1,12 @@
 -- `pictures::lists::starts_of` meets its contract. The loop's invariant: the first n entries are filled.
 -- Assumes nothing.
+use Rattle.scope.specs.declared.Refusal.{Refusal}
+use Rattle.std.specs.Prelude.{Result}
 use Rattle.std.proofs.Common.{◌≡◌, ℕ, ◌<◌, List, sym, ap, ◌∙◌, subst, ap₂, arith}
 use lib.ListN.{length-replicate}
 use Rattle.scope.specs.Plans.{pattern_at}
 use Rattle.scope.specs.Calls.{book_test, picture_test}
 use Rattle.scope.specs.declared.Book.{Book}
-use Rattle.scope.specs.declared.Outcome.{Outcome}
 use Rattle.scope.specs.declared.Plan.{Plan}
 use Rattle.scope.proofs.PlanFacts.{is_plan_iff}
 use Rattle.checks.proofs.FilledArrays.{filled_none, filled_more}
@@ -28,7 +29,7 @@ Start = lts.Start tie.the-claims reads.Pre reads.Post goal.the-invariant-loop-n 
 module _ {book : Book} {r : ℕ} {p : Plan} {W H words n : ℕ} {start : Suited} where
   begun-value : BegunAt book r p W H words n start → start ≡ start_of book r p W H words n
   begun-value begun =
-      ap₂ (λ (o : Outcome) (es : List ℕ). record { outcome = o; positions = es }) begun.outcome_is begun.positions_are
+      ap₂ (λ (o : Result Unit Refusal) (es : List ℕ). record { outcome = o; positions = es }) begun.outcome_is begun.positions_are
 
   value-begun : start ≡ start_of book r p W H words n → BegunAt book r p W H words n start
   value-begun e = record { outcome_is = ap (λ (s : Suited). s.outcome) e; positions_are = ap (λ (s : Suited). s.positions) e }

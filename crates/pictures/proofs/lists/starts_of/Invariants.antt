@@ -1,11 +1,11 @@
 -- `pictures::lists::starts_of` meets its contract. The loop's invariant: the first n entries are filled.
 -- Assumes nothing.
+use Rattle.std.specs.Prelude.{Ok}
 use Rattle.std.proofs.Common.{ℕ, ◌-◌, ◌≤◌, replicate}
 use Rattle.scope.specs.Plans.{pattern_at, pixels}
 use Rattle.scope.specs.Cycles.{clash_in_for}
 use Rattle.scope.specs.Calls.{clash_beside, fetch_first, fetch_start}
 use Rattle.scope.specs.declared.Book.{Book}
-use Rattle.scope.specs.declared.Outcome.{Outcome}
 use Rattle.scope.specs.declared.Plan.{Plan}
 use Rattle.book.specs.Scan.{outcome_of}
 use Rattle.finder.specs.declared.clash.Suited.{Suited}
@@ -23,7 +23,7 @@ start_of book r p W H words n =
 
 -- an entry that is not filled yet
 abbrev pub unset : Suited
-unset = record { outcome = Outcome.Done; positions = replicate 9 0 }
+unset = record { outcome = Ok tt; positions = replicate 9 0 }
 
 abbrev pub invariant-loop-n : goal.invariant-loop-n
 invariant-loop-n l =

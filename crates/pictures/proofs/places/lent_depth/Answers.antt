@@ -1,5 +1,6 @@
 -- `pictures::places::lent_depth` meets its contract: 11, 12, 13 come with the depth, then 13 for the sums.
 -- Assumes nothing.
+use Rattle.std.specs.Prelude.{Result, Ok, Err}
 use Rattle.std.proofs.Common.{◌≡◌, ℕ, ◌<◌, ◌≤◌, [], ◌∷◌, sym, ap, ◌∙◌, arith}
 use mathlib.Core.Option.{Option}
 use Rattle.scope.specs.Plans.{banks}
@@ -7,7 +8,6 @@ use Rattle.scope.specs.Banks.{depth_of}
 use Rattle.scope.specs.Numbers.{sums_test}
 use Rattle.scope.specs.Calls.{Size, picture_test, lent_test}
 use Rattle.scope.specs.declared.Plan.{Plan}
-use Rattle.scope.specs.declared.Counted.{Counted}
 use Rattle.scope.specs.declared.Refusal.{Refusal}
 use Rattle.checks.proofs.Chains.{chain_refuses, chain_goes_on, chain_of_one, gives_value, gives_refusal}
 use Rattle.checks.proofs.Deciding.{sums_decide}
@@ -16,39 +16,39 @@ use Rattle.pictures.proofs.PictureTests.{picture_shows, picture_refusal_shows}
 use Rattle.pictures.proofs.places.lent_depth.Goals as goal
 
 -- what the call answers, by what the callee answered
-module _ (p : Plan) (W H : ℕ) (s : Size) {answer : Counted} (is : answer ≡ picture_depth p W H s.words) where
+module _ (p : Plan) (W H : ℕ) (s : Size) {answer : Result ℕ Refusal} (is : answer ≡ picture_depth p W H s.words) where
   abbrev picture : Option Refusal
   picture = picture_test p W H s.words
 
   abbrev enough : Option Refusal
   enough = sums_test p s.entries
 
-  no-picture : (r : Refusal) → answer ≡ Counted.Refused r → answer ≡ lent_depth p W H s
+  no-picture : (r : Refusal) → answer ≡ Err r → answer ≡ lent_depth p W H s
   unfolding lent_depth lent_test
   no-picture r e =
       e
-      ∙ gives_refusal (chain_refuses picture (enough ∷ []) r (picture_refusal_shows p W H s.words is e)) Counted.Refused
-      (Counted.Number (depth_of p W H))
+      ∙ gives_refusal (chain_refuses picture (enough ∷ []) r (picture_refusal_shows p W H s.words is e)) Err
+      (Ok (depth_of p W H))
 
-  module _ {n m : ℕ} (e : answer ≡ Counted.Number n) (counted : m ≡ banks p) where
+  module _ {n m : ℕ} (e : answer ≡ Ok n) (counted : m ≡ banks p) where
     past-picture : lent_test p W H s ≡ enough
     unfolding lent_test
     past-picture =
         chain_goes_on picture (enough ∷ []) (picture_shows p W H s.words is e).0
         ∙ chain_of_one enough
 
-    too_few : s.entries < m → Counted.Refused Refusal.Memory ≡ lent_depth p W H s
+    too_few : s.entries < m → Err Refusal.Memory ≡ lent_depth p W H s
     unfolding lent_depth
     too_few h =
-        gives_refusal (past-picture ∙ (sums_decide p s.entries).refuses (λ l. omega (arith, counted))) Counted.Refused
-        (Counted.Number (depth_of p W H))
+        gives_refusal (past-picture ∙ (sums_decide p s.entries).refuses (λ l. omega (arith, counted))) Err
+        (Ok (depth_of p W H))
 
     enough-sums : m ≤ s.entries → answer ≡ lent_depth p W H s
     unfolding lent_depth
     enough-sums h =
         e
-        ∙ gives_value (past-picture ∙ (sums_decide p s.entries).passes (omega (arith, counted))) Counted.Refused
-        (ap Counted.Number (sym (picture_shows p W H s.words is e).1))
+        ∙ gives_value (past-picture ∙ (sums_decide p s.entries).passes (omega (arith, counted))) Err
+        (ap Ok (sym (picture_shows p W H s.words is e).1))
 
 pub returns-then-entries-banks : goal.returns-then-entries-banks
 returns-then-entries-banks c =

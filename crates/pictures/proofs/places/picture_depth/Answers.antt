@@ -1,5 +1,6 @@
 -- `pictures::places::picture_depth` meets its contract: 11 and 12 come with the depth, then 13.
 -- Assumes nothing.
+use Rattle.std.specs.Prelude.{Result, Ok, Err}
 use Rattle.std.proofs.Common.{◌≡◌, ℕ, ◌*◌, ◌<◌, ◌≤◌, [], ◌∷◌, sym, ap, ◌∙◌, mul-le-mul, arith}
 use mathlib.Core.Option.{Option, none, some}
 use Rattle.scope.specs.Search.{first_of}
@@ -9,7 +10,6 @@ use Rattle.scope.specs.Numbers.{plan_test, sides_test, memory_test}
 use Rattle.scope.specs.Calls.{depth, picture_test}
 use Rattle.scope.specs.promises.Meaning.{IsPlan, IsSide}
 use Rattle.scope.specs.declared.Plan.{Plan}
-use Rattle.scope.specs.declared.Counted.{Counted}
 use Rattle.scope.specs.declared.Refusal.{Refusal}
 use Rattle.checks.proofs.Booleans.{last_test, test_before}
 use Rattle.checks.proofs.Chains.{chain_refuses, chain_goes_on, chain_of_one, answered_none, answered_some}
@@ -23,13 +23,13 @@ use Rattle.pictures.proofs.places.picture_depth.Goals as goal
 
 module _ (p : Plan) (W H words : ℕ) where
   -- what the call answers, by its tests
-  refused : (r : Refusal) → picture_test p W H words ≡ some r → picture_depth p W H words ≡ Counted.Refused r
+  refused : (r : Refusal) → picture_test p W H words ≡ some r → picture_depth p W H words ≡ Err r
   unfolding picture_depth
-  refused = answered_some (picture_test p W H words) Counted.Refused (Counted.Number (depth_of p W H))
+  refused = answered_some (picture_test p W H words) Err (Ok (depth_of p W H))
 
-  given : picture_test p W H words ≡ none → picture_depth p W H words ≡ Counted.Number (depth_of p W H)
+  given : picture_test p W H words ≡ none → picture_depth p W H words ≡ Ok (depth_of p W H)
   unfolding picture_depth
-  given = answered_none (picture_test p W H words) Counted.Refused (Counted.Number (depth_of p W H))
+  given = answered_none (picture_test p W H words) Err (Ok (depth_of p W H))
 
   abbrev depthTest : Option Refusal
   depthTest = first_of (plan_test p ∷ sides_test W H ∷ [])
@@ -38,8 +38,8 @@ module _ (p : Plan) (W H words : ℕ) where
   room = memory_test p W H words
 
   -- and by what the depth's call answered
-  module _ {answer : Counted} (is : answer ≡ depth p W H) where
-    no-depth : (r : Refusal) → answer ≡ Counted.Refused r → answer ≡ picture_depth p W H words
+  module _ {answer : Result ℕ Refusal} (is : answer ≡ depth p W H) where
+    no-depth : (r : Refusal) → answer ≡ Err r → answer ≡ picture_depth p W H words
     unfolding depth
     no-depth r e =
         e
@@ -48,7 +48,7 @@ module _ (p : Plan) (W H words : ℕ) where
         (depth_before_memory p W H words
         ∙ chain_refuses depthTest (room ∷ []) r (refusal_shows depthTest (depth_of p W H) is e)))
 
-    module _ {n m : ℕ} (e : answer ≡ Counted.Number n) (counted : m ≡ banks p) where
+    module _ {n m : ℕ} (e : answer ≡ Ok n) (counted : m ≡ banks p) where
       depth-shows : (depthTest ≡ none) × (depth_of p W H ≡ n)
       unfolding depth
       depth-shows = number_shows depthTest (depth_of p W H) is e
@@ -71,13 +71,13 @@ module _ (p : Plan) (W H words : ℕ) where
       count-is : banks p * depth_of p W H ≡ m * n
       count-is = rw (counted, depth-shows.1)
 
-      memory-short : words < m * n → Counted.Refused Refusal.Memory ≡ picture_depth p W H words
+      memory-short : words < m * n → Err Refusal.Memory ≡ picture_depth p W H words
       memory-short h =
           sym (refused Refusal.Memory (past-depth ∙ (memory_decides p W H words).refuses (λ l. omega (arith, count-is))))
 
-      memory-enough : m * n ≤ words → Counted.Number n ≡ picture_depth p W H words
+      memory-enough : m * n ≤ words → Ok n ≡ picture_depth p W H words
       memory-enough h =
-          ap Counted.Number (sym depth-shows.1)
+          ap Ok (sym depth-shows.1)
           ∙ sym (given (past-depth ∙ (memory_decides p W H words).passes (omega (arith, count-is))))
 
 pub overflow_mul-banks : goal.overflow_mul-banks

@@ -1,6 +1,7 @@
 -- `pictures::places::word_place` meets its contract: 11, 12, 13 are the picture's, and then only 14 is left of the plan's own
 -- tests for a word.
 -- Assumes nothing.
+use Rattle.std.specs.Prelude.{Ok, Err}
 use Rattle.std.proofs.Common.{◌≡◌, ℕ, [], ◌∷◌, ap, ◌∙◌}
 use mathlib.Core.Option.{Option, none, some}
 use Rattle.scope.specs.Plans.{Pixel}
@@ -9,7 +10,6 @@ use Rattle.scope.specs.Numbers.{outside_test}
 use Rattle.scope.specs.Calls.{answered, picture_test, address_test, word_test}
 use Rattle.scope.specs.code.Words.{word}
 use Rattle.scope.specs.declared.Plan.{Plan}
-use Rattle.scope.specs.declared.Counted.{Counted}
 use Rattle.scope.specs.declared.Refusal.{Refusal}
 use Rattle.scope.proofs.PlanFacts.{pixel_handed}
 use Rattle.book.proofs.Outcomes.{done_found_nothing, refused_found}
@@ -23,10 +23,10 @@ module _ (p : Plan) (W H words : ℕ) (v : Pixel) where
   abbrev outside : Option Refusal
   outside = outside_test W H (v ∷ [])
 
-  no-picture : {r : Refusal} → picture_test p W H words ≡ some r → Counted.Refused r ≡ word_place p W H words v
+  no-picture : {r : Refusal} → picture_test p W H words ≡ some r → Err r ≡ word_place p W H words v
   unfolding word_place word_test
   no-picture {r} e =
-      gives_refusal (chain_refuses (picture_test p W H words) (outside ∷ []) r e) Counted.Refused (Counted.Number (word_of p W H v))
+      gives_refusal (chain_refuses (picture_test p W H words) (outside ∷ []) r e) Err (Ok (word_of p W H v))
 
   module _ (passed : picture_test p W H words ≡ none) where
     tests_same : address_test p W H v ≡ word_test p W H words v
@@ -37,7 +37,7 @@ module _ (p : Plan) (W H words : ℕ) (v : Pixel) where
 
     word-is-place : word p W H v ≡ word_place p W H words v
     unfolding word word_place
-    word-is-place = ap (λ (t : Option Refusal). answered t Counted.Refused (Counted.Number (word_of p W H v))) tests_same
+    word-is-place = ap (λ (t : Option Refusal). answered t Err (Ok (word_of p W H v))) tests_same
 
 pub returns-in-Refused : goal.returns-in-Refused
 returns-in-Refused c =

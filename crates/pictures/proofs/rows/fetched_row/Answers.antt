@@ -1,15 +1,16 @@
 -- `pictures::rows::fetched_row` meets its contract.
 -- Assumes nothing.
+use Rattle.scope.specs.declared.Refusal.{Refusal}
+use Rattle.std.specs.Prelude.{Result}
 use Rattle.std.proofs.Common.{ℕ, suc, List, [], ◌∷◌, take, ◌∙◌}
-use Rattle.scope.specs.Numbers.{Answer, with_positions, of_counted}
-use Rattle.scope.specs.declared.Counted.{Counted}
+use Rattle.scope.specs.Numbers.{Answer, with_positions, of_result}
 use Rattle.pictures.specs.Lists.{answer_numbers}
 use Rattle.pictures.proofs.ReplyRows.{same_row}
 use Rattle.pictures.proofs.rows.fetched_row.Goals as goal
 
 -- a counted answer with the positions that were handed in
-abbrev told : ℕ → List ℕ → Counted → Answer ℕ
-told r positions counted = with_positions (take (suc r) positions) (of_counted counted)
+abbrev told : ℕ → List ℕ → Result ℕ Refusal → Answer ℕ
+told r positions counted = with_positions (take (suc r) positions) (of_result counted)
 
 pub returns-in-Number : goal.returns-in-Number
 unfolding answer_numbers

@@ -1,13 +1,12 @@
 -- `pictures::sums::make_sums` meets its contract: where the tests find nothing each bank is summed, and elsewhere the refusal comes back.
 -- Assumes nothing.
+use Rattle.std.specs.Prelude.{Result, Ok, Err}
 use Rattle.std.proofs.Common.{◌≡◌, ℕ, ◌*◌, ◌≤◌, List, length, refl, ap, ◌∙◌, arith}
 use Rattle.scope.specs.Plans.{banks}
 use Rattle.scope.specs.Banks.{depth_of, bank_sum, bank_words, fresh_sums}
 use Rattle.scope.specs.Calls.{Lent, lent, size_of, make_sums}
 use Rattle.scope.specs.promises.Meaning.{IsLent}
 use Rattle.scope.specs.declared.Plan.{Plan}
-use Rattle.scope.specs.declared.Counted.{Counted}
-use Rattle.scope.specs.declared.Outcome.{Outcome}
 use Rattle.scope.specs.declared.Refusal.{Refusal}
 use Rattle.checks.proofs.Chains.{Gives}
 use Rattle.lattice.proofs.Words.{depth_at_most}
@@ -16,15 +15,15 @@ use Rattle.pictures.proofs.CallTests.{lent_test_iff}
 use Rattle.pictures.proofs.PictureTests.{lent_shows, lent_refusal_shows, leaves_written, leaves_as_it_was}
 use Rattle.pictures.proofs.sums.make_sums.Goals as goal
 
-module _ (p : Plan) (W H : ℕ) (l : Lent) {asked : Counted} (is : asked ≡ lent_depth p W H (size_of l)) where
+module _ (p : Plan) (W H : ℕ) (l : Lent) {asked : Result ℕ Refusal} (is : asked ≡ lent_depth p W H (size_of l)) where
   abbrev fresh : Lent
   fresh = lent l.memory (fresh_sums p W H l.memory l.sums)
 
-  refused : {r : Refusal} → asked ≡ Counted.Refused r → Gives (make_sums p W H l) (Outcome.Refused r) l
+  refused : {r : Refusal} → asked ≡ Err r → Gives (make_sums p W H l) (Err r) l
   unfolding make_sums
   refused e = leaves_as_it_was (lent_refusal_shows p W H (size_of l) is e) l fresh
 
-  module _ {deep n : ℕ} (e : asked ≡ Counted.Number deep) (counted : n ≡ banks p) where
+  module _ {deep n : ℕ} (e : asked ≡ Ok deep) (counted : n ≡ banks p) where
     here : IsLent p W H (size_of l)
     here = (lent_test_iff p W H (size_of l)).0 (lent_shows p W H (size_of l) is e).0
 
@@ -45,7 +44,7 @@ module _ (p : Plan) (W H : ℕ) (l : Lent) {asked : Counted} (is : asked ≡ len
     unfolding sums_over fresh_sums bank_sum bank_words
     over-is-fresh = rw (counted, ← depth_is) refl
 
-    made : {sums : List ℕ} → sums ≡ sums_over n deep l.memory l.sums → Gives (make_sums p W H l) Outcome.Done (lent l.memory sums)
+    made : {sums : List ℕ} → sums ≡ sums_over n deep l.memory l.sums → Gives (make_sums p W H l) (Ok tt) (lent l.memory sums)
     unfolding make_sums
     made put = leaves_written (lent_shows p W H (size_of l) is e).0 l fresh (ap (lent l.memory) (put ∙ over-is-fresh))
 

@@ -1,5 +1,6 @@
 -- `pictures::sums::read_sum` meets its contract: 11, 13, 15, then the entry.
 -- Assumes nothing.
+use Rattle.std.specs.Prelude.{Ok, Err}
 use Rattle.std.proofs.Common.{◌≡◌, ℕ, ◌<◌, ◌≤◌, true, false, List, [], ◌∷◌, length, get_or, refl, ◌∙◌, arith}
 use mathlib.Core.Option.{some}
 use Rattle.scope.specs.Search.{first_of}
@@ -7,7 +8,6 @@ use Rattle.scope.specs.Plans.{is_plan, banks}
 use Rattle.scope.specs.Numbers.{plan_test, sums_test, bank_test}
 use Rattle.scope.specs.Calls.{read_sum_test, read_sum}
 use Rattle.scope.specs.declared.Plan.{Plan}
-use Rattle.scope.specs.declared.Counted.{Counted}
 use Rattle.scope.specs.declared.Refusal.{Refusal}
 use Rattle.scope.proofs.MethodAnswers.{fails, holds, demand_met, demand_fails}
 use Rattle.checks.proofs.Chains.{chain_refuses, chain_goes_on, chain_of_one, gives_value, gives_refusal}
@@ -22,11 +22,11 @@ abbrev After-banks : Type 0
 After-banks = lts.After-banks tie.the-claims reads.Pre reads.Post
 
 module _ (p : Plan) (sums : List ℕ) (k : ℕ) where
-  refused : {r : Refusal} → read_sum_test p (length sums) k ≡ some r → Counted.Refused r ≡ read_sum p sums k
+  refused : {r : Refusal} → read_sum_test p (length sums) k ≡ some r → Err r ≡ read_sum p sums k
   unfolding read_sum
-  refused e = gives_refusal e Counted.Refused (Counted.Number (get_or sums k 0))
+  refused e = gives_refusal e Err (Ok (get_or sums k 0))
 
-  no-plan : is_plan p ≡ false → Counted.Refused Refusal.NotPlan ≡ read_sum p sums k
+  no-plan : is_plan p ≡ false → Err Refusal.NotPlan ≡ read_sum p sums k
   unfolding read_sum_test plan_test
   no-plan e = refused (chain_refuses _ (sums_test p (length sums) ∷ bank_test p k ∷ []) Refusal.NotPlan (demand_fails (is_plan p) Refusal.NotPlan e))
 
@@ -35,7 +35,7 @@ module _ (p : Plan) (sums : List ℕ) (k : ℕ) where
     unfolding read_sum_test plan_test
     past-plan = chain_goes_on _ (sums_test p (length sums) ∷ bank_test p k ∷ []) (demand_met (is_plan p) Refusal.NotPlan plan)
 
-    too_few : length sums < m → Counted.Refused Refusal.Memory ≡ read_sum p sums k
+    too_few : length sums < m → Err Refusal.Memory ≡ read_sum p sums k
     too_few h =
         refused (past-plan ∙ chain_refuses _ (bank_test p k ∷ []) Refusal.Memory ((sums_decide p (length sums)).refuses (λ l. omega (arith, counted))))
 
@@ -46,12 +46,12 @@ module _ (p : Plan) (sums : List ℕ) (k : ℕ) where
           ∙ chain_goes_on _ (bank_test p k ∷ []) ((sums_decide p (length sums)).passes (omega (arith, counted)))
           ∙ chain_of_one (bank_test p k)
 
-      no-bank : m ≤ k → Counted.Refused Refusal.Cell ≡ read_sum p sums k
+      no-bank : m ≤ k → Err Refusal.Cell ≡ read_sum p sums k
       no-bank h = refused (past-sums ∙ (bank_decides p k).refuses (λ l. omega (arith, counted)))
 
-      entry : k < m → Counted.Number (get_or sums k 0) ≡ read_sum p sums k
+      entry : k < m → Ok (get_or sums k 0) ≡ read_sum p sums k
       unfolding read_sum
-      entry h = gives_value (past-sums ∙ (bank_decides p k).passes (omega (arith, counted))) Counted.Refused refl
+      entry h = gives_value (past-sums ∙ (bank_decides p k).passes (omega (arith, counted))) Err refl
 
 pub returns-then-not-is_plan : goal.returns-then-not-is_plan
 returns-then-not-is_plan c = no-plan _ _ _ (fails c.is_plan.ensures c.if-not-is_plan.true-raw)

@@ -1,12 +1,11 @@
 -- `pictures::words::load` meets its contract: the tests come with the place, where the word is.
 -- Assumes nothing.
+use Rattle.std.specs.Prelude.{Result, Ok, Err}
 use Rattle.std.proofs.Common.{◌≡◌, ℕ, List, length, get_or, sym, ap, arith}
 use Rattle.scope.specs.Plans.{Pixel}
 use Rattle.scope.specs.Banks.{word_in}
 use Rattle.scope.specs.Calls.{load}
 use Rattle.scope.specs.declared.Plan.{Plan}
-use Rattle.scope.specs.declared.Counted.{Counted}
-use Rattle.scope.specs.declared.Loaded.{Loaded}
 use Rattle.scope.specs.declared.Refusal.{Refusal}
 use Rattle.scope.proofs.PlanFacts.{pixel_handed}
 use Rattle.checks.proofs.Chains.{gives_value, gives_refusal}
@@ -16,15 +15,15 @@ use Rattle.pictures.proofs.words.load.Goals as goal
 
 -- what the call answers
 module _ (p : Plan) (W H : ℕ) (mem : List ℕ) (v : Pixel) where
-  loaded : {n : ℕ} → PlaceIn p W H (length mem) v n → Loaded.Word (get_or mem n 0) ≡ load p W H mem v
+  loaded : {n : ℕ} → PlaceIn p W H (length mem) v n → Ok (get_or mem n 0) ≡ load p W H mem v
   unfolding load word_in
-  loaded place = gives_value place.passed Loaded.Refused (ap (λ (n : ℕ). Loaded.Word (get_or mem n 0)) (sym place.place_is))
+  loaded place = gives_value place.passed Err (ap (λ (n : ℕ). Ok (get_or mem n 0)) (sym place.place_is))
 
   refused :
-      {u : Pixel} {asked : Counted} {r : Refusal} → u ≡ v → asked ≡ word_place p W H (length mem) u → asked ≡ Counted.Refused r
-      → Loaded.Refused r ≡ load p W H mem v
+      {u : Pixel} {asked : Result ℕ Refusal} {r : Refusal} → u ≡ v → asked ≡ word_place p W H (length mem) u → asked ≡ Err r
+      → Err r ≡ load p W H mem v
   unfolding load
-  refused handed is e = gives_refusal (place_refusal_shows p W H (length mem) handed is e) Loaded.Refused (Loaded.Word (word_in p W H mem v))
+  refused handed is e = gives_refusal (place_refusal_shows p W H (length mem) handed is e) Err (Ok (word_in p W H mem v))
 
 pub returns-in-Number : goal.returns-in-Number
 returns-in-Number c = loaded _ _ _ _ _ (place_in _ _ _ _ (pixel_handed c.ranges.i c.ranges.j) c.word_place-place.ensures c.in-Number.is)

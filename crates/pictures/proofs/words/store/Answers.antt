@@ -1,5 +1,6 @@
 -- `pictures::words::store` meets its contract: the tests come with the place, where the word is put and its bank's sum is kept.
 -- Assumes nothing.
+use Rattle.std.specs.Prelude.{Result, Ok, Err}
 use Rattle.std.proofs.Common.{◌≡◌, ℕ, ◌<◌, [], ◌∷◌, length, get_or, set, sym, refl, ap, ◌∙◌, ap₂, arith}
 use mathlib.Core.Option.{Option, none, some}
 use Rattle.scope.specs.Plans.{Pixel}
@@ -10,9 +11,6 @@ use Rattle.scope.specs.code.Words.{place}
 use Rattle.scope.specs.promises.Meaning.{IsLent}
 use Rattle.scope.specs.declared.Plan.{Plan}
 use Rattle.scope.specs.declared.Place.{Place}
-use Rattle.scope.specs.declared.Placed.{Placed}
-use Rattle.scope.specs.declared.Counted.{Counted}
-use Rattle.scope.specs.declared.Outcome.{Outcome}
 use Rattle.scope.specs.declared.Refusal.{Refusal}
 use Rattle.scope.proofs.PlanFacts.{pixel_handed}
 use Rattle.checks.proofs.Chains.{Gives, chain_refuses}
@@ -24,23 +22,23 @@ use Rattle.pictures.proofs.PictureTests.{only_outside, lent_shows, lent_refusal_
 use Rattle.pictures.proofs.words.store.Goals as goal
 
 -- what an answer that is a place, or a refusal, shows of its tests
-module _ (t : Option Refusal) (x : Place) {answer : Placed} where
-  place-shows : {y : Place} → answer ≡ answered t Placed.Refused (Placed.At x) → answer ≡ Placed.At y → (t ≡ none) × (x ≡ y)
+module _ (t : Option Refusal) (x : Place) {answer : Result Place Refusal} where
+  place-shows : {y : Place} → answer ≡ answered t Err (Ok x) → answer ≡ Ok y → (t ≡ none) × (x ≡ y)
   unfolding answered
   place-shows = by-test t
     where
       by-test :
-          {y : Place} (t : Option Refusal) → answer ≡ answered t Placed.Refused (Placed.At x) → answer ≡ Placed.At y
+          {y : Place} (t : Option Refusal) → answer ≡ answered t Err (Ok x) → answer ≡ Ok y
           → (t ≡ none) × (x ≡ y)
       by-test none is e = (refl, cc)
       by-test (some r) is e = let z : ◌≡◌ {A = ℕ} 0 1 = cc in absurd (omega arith)
 
-  no-place-shows : {r : Refusal} → answer ≡ answered t Placed.Refused (Placed.At x) → answer ≡ Placed.Refused r → t ≡ some r
+  no-place-shows : {r : Refusal} → answer ≡ answered t Err (Ok x) → answer ≡ Err r → t ≡ some r
   unfolding answered
   no-place-shows = by-test t
     where
       by-test :
-          {r : Refusal} (t : Option Refusal) → answer ≡ answered t Placed.Refused (Placed.At x) → answer ≡ Placed.Refused r
+          {r : Refusal} (t : Option Refusal) → answer ≡ answered t Err (Ok x) → answer ≡ Err r
           → t ≡ some r
       by-test none is e = let z : ◌≡◌ {A = ℕ} 0 1 = cc in absurd (omega arith)
       by-test (some s) is e = cc
@@ -50,13 +48,13 @@ module _ (p : Plan) (W H : ℕ) (l : Lent) (v : Pixel) (x : ℕ) where
   abbrev stored : Lent
   stored = lent (after_store p W H l.memory v x) (sums_after_store p W H l.memory l.sums v x)
 
-  refused : {r : Refusal} → store_test p W H (size_of l) v ≡ some r → Gives (store p W H l v x) (Outcome.Refused r) l
+  refused : {r : Refusal} → store_test p W H (size_of l) v ≡ some r → Gives (store p W H l v x) (Err r) l
   unfolding store
   refused found = leaves_as_it_was found l stored
 
   no-picture :
-      {asked : Counted} {r : Refusal} → asked ≡ lent_depth p W H (size_of l) → asked ≡ Counted.Refused r
-      → Gives (store p W H l v x) (Outcome.Refused r) l
+      {asked : Result ℕ Refusal} {r : Refusal} → asked ≡ lent_depth p W H (size_of l) → asked ≡ Err r
+      → Gives (store p W H l v x) (Err r) l
   unfolding store_test
   no-picture {r} is e =
       refused (chain_refuses (lent_test p W H (size_of l)) (outside_test W H (v ∷ []) ∷ []) r (lent_refusal_shows p W H (size_of l) is e))
@@ -66,7 +64,7 @@ module _ (p : Plan) (W H : ℕ) (l : Lent) (v : Pixel) (x : ℕ) where
 
   -- the picture is there, and the plan was asked for the place
   module _
-      {asked : Counted} {deep : ℕ} {u : Pixel} {placed : Placed} (is : asked ≡ lent_depth p W H (size_of l)) (e : asked ≡ Counted.Number deep)
+      {asked : Result ℕ Refusal} {deep : ℕ} {u : Pixel} {placed : Result Place Refusal} (is : asked ≡ lent_depth p W H (size_of l)) (e : asked ≡ Ok deep)
       (handed : u ≡ v) (place_is : placed ≡ place p W H u)
     where
       here : IsLent p W H (size_of l)
@@ -78,18 +76,18 @@ module _ (p : Plan) (W H : ℕ) (l : Lent) (v : Pixel) (x : ℕ) where
           only_outside p W H v (lent_shows p W H (size_of l) is e).0 here.picture.plan here.picture.w_side here.picture.h_side
 
       place-tested :
-          placed ≡ answered (store_test p W H (size_of l) v) Placed.Refused (Placed.At own)
+          placed ≡ answered (store_test p W H (size_of l) v) Err (Ok own)
       unfolding place
       place-tested =
           place_is
           ∙ ap (place p W H) handed
-          ∙ ap (λ (t : Option Refusal). answered t Placed.Refused (Placed.At own))
+          ∙ ap (λ (t : Option Refusal). answered t Err (Ok own))
           tests_same
 
-      outside : {r : Refusal} → placed ≡ Placed.Refused r → Gives (store p W H l v x) (Outcome.Refused r) l
+      outside : {r : Refusal} → placed ≡ Err r → Gives (store p W H l v x) (Err r) l
       outside e = refused (no-place-shows (store_test p W H (size_of l) v) own place-tested e)
 
-      module _ {y : Place} (given : placed ≡ Placed.At y) where
+      module _ {y : Place} (given : placed ≡ Ok y) where
         passed : store_test p W H (size_of l) v ≡ none
         passed = (place-shows (store_test p W H (size_of l) v) own place-tested given).0
 
@@ -121,7 +119,7 @@ module _ (p : Plan) (W H : ℕ) (l : Lent) (v : Pixel) (x : ℕ) where
 
         done :
             {s : ℕ} → s ≡ exchanged (get_or l.sums y.bank 0) (get_or l.memory y.word 0) x
-            → Gives (store p W H l v x) Outcome.Done (lent (set l.memory y.word x) (set l.sums y.bank s))
+            → Gives (store p W H l v x) (Ok tt) (lent (set l.memory y.word x) (set l.sums y.bank s))
         unfolding store
         done sum_is_lem = leaves_written passed l stored (ap₂ lent memory-is (sums-are sum_is_lem))
 

@@ -1,6 +1,8 @@
 -- `scope::formulas::reverse_map` meets its contract: column and row are below the picture's sides rounded up to whole blocks, so
 -- no number on the way passes 32 bits.
 -- Assumes nothing.
+use Rattle.scope.specs.declared.Refusal.{Refusal}
+use Rattle.std.specs.Prelude.{Result, Ok, Err, ℤ}
 use Prim.Native.Nat.{ℕ, zero, suc, ◌+◌, ◌*◌, ◌/◌, ◌%◌, ◌≤◌, ◌<◌}
 use native.Mathlib.Omega.{arith}
 use native.Mathlib.Nat.{mul-le-mul, mul_comm, mod-lt, div-lt_iff_lt-mul}
@@ -23,8 +25,6 @@ use Rattle.scope.specs.Banks.{inside, depth_of, pixel_of}
 use Rattle.scope.specs.Numbers.{is_side, cell_test}
 use Rattle.scope.specs.Calls.{answered, locate}
 use Rattle.scope.specs.declared.Plan.{Plan}
-use Rattle.scope.specs.declared.Located.{Located}
-use Rattle.scope.specs.declared.Located.TheVariants.{Pixel as PixelAt, Refused}
 use Rattle.scope.specs.declared.Refusal.TheVariants.{Cell}
 use Rattle.scope.proofs.Ceilings.{Rounds, ceiling_at_most, blocks_at_most, product_at_most}
 use Rattle.scope.proofs.Chains.{none_whenever, some_whenever, chain_of_one, answered_none, answered_some}
@@ -56,30 +56,30 @@ record There (p : Plan) (W H k i C : ℕ) : Type 0 where
   slanted-small : slanted p C k i < 8388608
   column-small : column p C k i < 5120
   row_small : row p C k i < 5120
-  no-pixel : inside W H (at (to_z w16 (column p C k i)) (to_z w16 (row p C k i))) ≡ false → Refused Cell ≡ locate p W H k i
+  no-pixel : inside W H (at (to_z w16 (column p C k i)) (to_z w16 (row p C k i))) ≡ false → Err Cell ≡ locate p W H k i
   pixel :
       inside W H (at (to_z w16 (column p C k i)) (to_z w16 (row p C k i))) ≡ true
-      → PixelAt (to_z w16 (column p C k i)) (to_z w16 (row p C k i)) ≡ locate p W H k i
+      → Ok (to_z w16 (column p C k i), to_z w16 (row p C k i)) ≡ locate p W H k i
 
 module _ (p : Plan) (W H k i : ℕ) (plan : is_plan p ≡ true) (sides : is_side W && is_side H ≡ true) where
-  abbrev given : Located
-  given = PixelAt (pixel_of p W H k i).column (pixel_of p W H k i).row
+  abbrev given : Result (ℤ × ℤ) Refusal
+  given = Ok ((pixel_of p W H k i).column, (pixel_of p W H k i).row)
 
   abbrev lacking : Bool
   lacking = leb (banks p) k || leb (depth_of p W H) i || not (inside W H (pixel_of p W H k i))
 
   -- past 11 and 12 the answer is left to 15
-  by-cell : locate p W H k i ≡ answered (whenever lacking Cell) Refused given
+  by-cell : locate p W H k i ≡ answered (whenever lacking Cell) Err given
   unfolding locate cell_test
   by-cell =
-      past_first p W H Refused given (cell_test p W H k i ∷ []) (both_pass p W H plan sides)
-      ∙ ap (λ (t : Option _). answered t Refused given) (chain_of_one (cell_test p W H k i))
+      past_first p W H Err given (cell_test p W H k i ∷ []) (both_pass p W H plan sides)
+      ∙ ap (λ (t : Option _). answered t Err given) (chain_of_one (cell_test p W H k i))
 
-  refused : lacking ≡ true → Refused Cell ≡ locate p W H k i
-  refused e = sym (by-cell ∙ answered_some _ Refused given Cell (some_whenever lacking Cell e))
+  refused : lacking ≡ true → Err Cell ≡ locate p W H k i
+  refused e = sym (by-cell ∙ answered_some _ Err given Cell (some_whenever lacking Cell e))
 
   located : lacking ≡ false → given ≡ locate p W H k i
-  located e = sym (by-cell ∙ answered_none _ Refused given (none_whenever lacking Cell e))
+  located e = sym (by-cell ∙ answered_none _ Err given (none_whenever lacking Cell e))
 
   -- by the values of the three tests
   lacking-is :
@@ -87,10 +87,10 @@ module _ (p : Plan) (W H k i : ℕ) (plan : is_plan p ≡ true) (sides : is_side
       → lacking ≡ (s || t || not u)
   lacking-is e f g = rw (e, f, g)
 
-  no-bank : banks p ≤ k → Refused Cell ≡ locate p W H k i
+  no-bank : banks p ≤ k → Err Cell ≡ locate p W H k i
   no-bank h = refused (lacking-is (le-leb (banks p) k h) refl refl)
 
-  no_address : k < banks p → depth_of p W H ≤ i → Refused Cell ≡ locate p W H k i
+  no_address : k < banks p → depth_of p W H ≤ i → Err Cell ≡ locate p W H k i
   no_address h l = refused (lacking-is (lt-leb (banks p) k h) (le-leb (depth_of p W H) i l) refl)
 
   -- past the tests of bank and address: C is the width divided by a and rounded up
@@ -164,9 +164,9 @@ module _ (p : Plan) (W H k i : ℕ) (plan : is_plan p ≡ true) (sides : is_side
 
     pixel-there :
         inside W H (at (to_z w16 (column p C k i)) (to_z w16 (row p C k i))) ≡ true
-        → PixelAt (to_z w16 (column p C k i)) (to_z w16 (row p C k i)) ≡ locate p W H k i
+        → Ok (to_z w16 (column p C k i), to_z w16 (row p C k i)) ≡ locate p W H k i
     unfolding at
-    pixel-there g = ap (λ (v : Pixel). PixelAt v.column v.row) pixel-is ∙ located (by-pixel g)
+    pixel-there g = ap (λ (v : Pixel). Ok (v.column, v.row)) pixel-is ∙ located (by-pixel g)
 
     is-there : There p W H k i C
     is-there =
