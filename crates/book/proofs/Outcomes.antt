@@ -23,7 +23,7 @@ answered_by_refusal t r e = gives_refusal e Err (Ok tt)
 pub answered_by_done : (t : Option Refusal) → t ≡ none → (Ok tt) ≡ outcome_of t
 answered_by_done t e = gives_value e Err refl
 
-pub done_not_refused : {r : Refusal} → (Ok tt) ≡ Err r → ⊥
+pub done_not_refused : {r : Refusal} → ◌≡◌ {A = Result Unit Refusal} (Ok tt) (Err r) → ⊥
 done_not_refused e = let z : ◌≡◌ {A = ℕ} 0 1 = cc in omega arith
 
 -- the answer of `record_outcome`

@@ -98,7 +98,7 @@ module _ (s : List ℕ) (n : ℕ) where
   part_refused m i c e = by_tests (answered_refusal of_result (part_test s n) Err (Ok tt) m i c (λ r. refl) e)
     where
       by_tests :
-          RefusedBy (part_test s n) m i c ⊎ ((part_test s n ≡ none) × (of_result (Ok tt) ≡ refusal m i c))
+          RefusedBy (part_test s n) m i c ⊎ ((part_test s n ≡ none) × (of_result {A = Unit} (Ok tt) ≡ refusal m i c))
           → RefusedBy (part_test s n) m i c
       by_tests (inl found) = found
       by_tests (inr other) = absurd (value_not_refusal other.1)

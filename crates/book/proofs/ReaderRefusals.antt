@@ -72,7 +72,7 @@ module _ (s : List ℕ) where
       by_tests (answered_refusal (λ (x : Reading). of_result x.outcome) (bytes_test s) _ _ n i c (λ r. refl) e)
     where
       by_tests :
-          RefusedBy (bytes_test s) n i c ⊎ ((bytes_test s ≡ none) × (of_result (Ok tt) ≡ refusal n i c))
+          RefusedBy (bytes_test s) n i c ⊎ ((bytes_test s ≡ none) × (of_result {A = Unit} (Ok tt) ≡ refusal n i c))
           → RefusedBy (bytes_test s) n i c
       by_tests (inl found) = found
       by_tests (inr other) = absurd (value_not_refusal other.1)

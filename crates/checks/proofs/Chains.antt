@@ -20,7 +20,7 @@ use Rattle.checks.proofs.Searches.{none_not_some}
 -- what `scope` has of them
 pub use Rattle.scope.proofs.Chains.{chain_none_iff, chain_refuses, chain_goes_on, chain_of_one, tests_as_one}
 pub use Rattle.scope.proofs.Chains.{value_not_refusal, value_injective, answered_none, answered_some, answered_refused, answered_value}
-pub use Rattle.scope.proofs.Chains.{gives_value, gives_refusal}
+pub use Rattle.scope.proofs.Chains.{gives_value, gives_refusal, handed_on, passed_on}
 
 -- What a chain finds, its first test finds, or that finds nothing and the rest does.
 pub chain_some : (t : Option Refusal) (ts : List (Option Refusal)) (r : Refusal) → first_of (t ∷ ts) ≡ some r

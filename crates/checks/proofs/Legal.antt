@@ -102,19 +102,12 @@ legal_calls_answer =
       address_is = address_answers;
     }
 
--- a call that counts, and one that tells only that it was done
-counted_unchanged :
-    (t : Option Refusal) (old : List ℕ) (count : ℕ) (new : List ℕ) (n i : ℕ) (c : Option LongClash)
-    → of_result (changed t Err old (Ok count) new).answer ≡ refusal n i c
-    → (changed t Err old (Ok count) new).content ≡ old
-counted_unchanged t old count new n i c e =
-    refusal_keeps_content of_result t Err old (Ok count) new n i c e value_not_refusal
-
-done_unchanged :
-    {Y : Type 0} (t : Option Refusal) (old new : Y) (n i : ℕ) (c : Option LongClash)
-    → of_result (changed t Err old (Ok tt) new).answer ≡ refusal n i c
-    → (changed t Err old (Ok tt) new).content ≡ old
-done_unchanged t old new n i c e = refusal_keeps_content of_result t Err old (Ok tt) new n i c e value_not_refusal
+-- a call that answers a value or a refusal
+unchanged :
+    {X Y : Type 0} (t : Option Refusal) (old : Y) (x : X) (new : Y) (n i : ℕ) (c : Option LongClash)
+    → of_result (changed t Err old (Ok x) new).answer ≡ refusal n i c
+    → (changed t Err old (Ok x) new).content ≡ old
+unchanged t old x new n i c e = refusal_keeps_content of_result t Err old (Ok x) new n i c e value_not_refusal
 
 -- and one that counts beside a clash
 beside_unchanged :
@@ -125,7 +118,7 @@ beside_unchanged :
 unfolding beside_clash
 beside_unchanged before r p book m t old count new n i c e =
     let inner = with_refusal _ (of_result (changed t Err old (Ok count) new).answer) n i c e in
-    counted_unchanged t old count new n i inner.0 inner.1
+    unchanged t old count new n i inner.0 inner.1
 
 either_unchanged :
     (ring : Bool) (book : Book) (r : ℕ) (p : Plan) (W H : ℕ) (mem : List ℕ) (m : ℕ) (o : Pixel) (out : List ℕ) (n i : ℕ) (c : Option LongClash)
@@ -143,12 +136,12 @@ refusals_change_nothing =
     record {
       writes =
           λ book out.
-          counted_unchanged (first_of (record_test book ∷ output_test (length (book_bytes book)) (length out) ∷ [])) out
+          unchanged (first_of (record_test book ∷ output_test (length (book_bytes book)) (length out) ∷ [])) out
           (length (book_bytes book))
           (over_start (book_bytes book) out);
-      stores = λ p W H l v x. done_unchanged (store_test p W H (size_of l) v) l _;
-      clears = λ p W H l k. done_unchanged (clear_test p W H (size_of l) k) l _;
-      makes_sums = λ p W H l. done_unchanged (lent_test p W H (size_of l)) l _;
+      stores = λ p W H l v x. unchanged (store_test p W H (size_of l) v) l tt _;
+      clears = λ p W H l k. unchanged (clear_test p W H (size_of l) k) l tt _;
+      makes_sums = λ p W H l. unchanged (lent_test p W H (size_of l)) l tt _;
       fetches = either_unchanged false;
       ring_fetches = either_unchanged true;
       writes_cycles =
@@ -157,5 +150,5 @@ refusals_change_nothing =
           (over_start (cycles p (pixels (pattern_at book m))) out);
       fills =
           λ p W H rs.
-          done_unchanged (first_of (plan_test p ∷ sides_test W H ∷ outside_test W H (map record_pixel rs) ∷ [])) rs (map (placed p W H) rs);
+          unchanged (first_of (plan_test p ∷ sides_test W H ∷ outside_test W H (map record_pixel rs) ∷ [])) rs tt (map (placed p W H) rs);
     }

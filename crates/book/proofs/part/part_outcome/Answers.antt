@@ -10,6 +10,7 @@ use Rattle.scope.specs.Numbers.{bytes_test}
 use Rattle.scope.specs.Calls.{part_test, part_outcome}
 use Rattle.scope.specs.declared.Refusal.{Refusal}
 use Rattle.book.specs.Scan.{outcome_of}
+use Rattle.checks.proofs.Chains.{passed_on}
 use Rattle.book.proofs.Outcomes.{answered_by_refusal, answered_by_done, done_found_nothing, refused_found}
 use Rattle.book.proofs.Taken.{count_inside}
 use Rattle.book.proofs.Parts.{part_test_iff}
@@ -37,16 +38,18 @@ module _ (s : List ℕ) (n : ℕ) {outcome : Result Unit Refusal} (answer : outc
     unfolding part_outcome
     part-there h = answered_by_done (part_test s n) ((part_test_iff s n).1 (taken, h))
 
-pub returns-in-Refused : goal.returns-in-Refused
-returns-in-Refused c = bytes-refused _ _ c.bytes_outcome-outcome.ensures c.in-Refused.is
+pub returns-in_err-bytes_outcome : goal.returns-in_err-bytes_outcome
+returns-in_err-bytes_outcome c =
+    passed_on _ c.from_residual.ensures c.in_err-bytes_outcome.was
+    ∙ (bytes-refused _ _ c.bytes_outcome.ensures c.in_err-bytes_outcome.was)
 
 pub bounds-s-0 : goal.bounds-s-0
-bounds-s-0 c = count_inside _ (taken _ c.args.n c.bytes_outcome-outcome.ensures c.in_default.is)
+bounds-s-0 c = count_inside _ (taken _ c.args.n c.bytes_outcome.ensures c.in_ok-bytes_outcome.was)
 
 pub returns-then-s-n : goal.returns-then-s-n
 unfolding byte
-returns-then-s-n c = no-pattern _ _ c.bytes_outcome-outcome.ensures c.in_default.is c.if-s-n.true
+returns-then-s-n c = no-pattern _ _ c.bytes_outcome.ensures c.in_ok-bytes_outcome.was c.if-s-n.true
 
 pub returns : goal.returns
 unfolding byte
-returns c = part-there _ _ c.bytes_outcome-outcome.ensures c.in_default.is c.if-s-n.false
+returns c = part-there _ _ c.bytes_outcome.ensures c.in_ok-bytes_outcome.was c.if-s-n.false

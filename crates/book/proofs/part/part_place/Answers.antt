@@ -4,8 +4,8 @@ use native.Mathlib.Omega.{arith}
 use Rattle.book.proofs.PartAnswers.{refused_place, start_shows, taken_place, taken_bounds}
 use Rattle.book.proofs.part.part_place.Goals as goal
 
-pub returns-in-Refused : goal.returns-in-Refused
-returns-in-Refused c = refused_place _ _ c.part_outcome-outcome.ensures c.in-Refused.is
+pub returns-in-Err : goal.returns-in-Err
+returns-in-Err c = refused_place _ _ c.part_outcome-outcome.ensures c.in-Err.is
 
 pub start_of-requires : goal.start_of-requires
 start_of-requires c = start_shows _ _ c.part_outcome-outcome.ensures c.in_default.is

@@ -39,10 +39,10 @@ module _ (s : List ℕ) (n : ℕ) {outcome : Result Unit Refusal} (answer : outc
     bounds : (byte s at ≤ 64) × (at + 1 + 2 * byte s at ≤ length s)
     bounds = let b = taken_bounds s n answer done is in (b.1, b.2)
 
-pub returns-in-Refused : goal.returns-in-Refused
-returns-in-Refused c =
+pub returns-in-Err : goal.returns-in-Err
+returns-in-Err c =
     let answer = c.part_outcome-outcome.ensures in
-    let refused = c.in-Refused.is in
+    let refused = c.in-Err.is in
     record { content = empty-part _ _ answer refused; place = at-start _ _ answer refused _ }
 
 pub start_of-at-requires : goal.start_of-at-requires

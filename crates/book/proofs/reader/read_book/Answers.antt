@@ -30,9 +30,9 @@ module _ (s : List ℕ) {book : Book} {outcome : Result Unit Refusal} (answer : 
       ap₂ {C = Reading} (λ b o. record { book = b; outcome = o }) is done
       ∙ sym (answered_none (bytes_test s) _ _ (done_found_nothing (bytes_test s) answer done))
 
-pub returns-in-Refused : goal.returns-in-Refused
-returns-in-Refused c =
-    refused-reading _ c.bytes_outcome-outcome.ensures c.in-Refused.is c.empty_book-book.ensures
+pub returns-in-Err : goal.returns-in-Err
+returns-in-Err c =
+    refused-reading _ c.bytes_outcome-outcome.ensures c.in-Err.is c.empty_book-book.ensures
 
 pub book_at-book-requires : goal.book_at-book-requires
 book_at-book-requires c = done_found_nothing _ c.bytes_outcome-outcome.ensures c.in_default.is

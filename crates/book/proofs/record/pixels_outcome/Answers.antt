@@ -3,7 +3,7 @@
 -- Assumes nothing.
 use Prim.Native.Nat.{ℕ}
 use native.Mathlib.Omega.{arith}
-use mathlib.Core.Path.{◌≡◌, refl, sym}
+use mathlib.Core.Path.{◌∙◌, ◌≡◌, refl, sym}
 use mathlib.Core.List.{List}
 use lib.IntN.{ℤ, pos}
 use lib.ListN.{get_or}
@@ -12,18 +12,10 @@ use mir.Val.{to_z, of_z}
 use Rattle.scope.specs.Plans.{at, pixel_at}
 use Rattle.scope.specs.declared.Pattern.{Pattern}
 use Rattle.scope.proofs.PlanFacts.{entry_handed}
+use Rattle.checks.proofs.Chains.{passed_on}
 use Rattle.book.proofs.PixelLoops.{no_pixel_passed, pixel_not_taken, one_more_pixel, all_pixels_passed}
-use Rattle.book.proofs.record.pixels_outcome.Lts as lts
-use Rattle.book.proofs.record.pixels_outcome.Tie as tie
-use Rattle.book.proofs.record.pixels_outcome.Reads as reads
 use Rattle.book.proofs.record.pixels_outcome.Goals as goal
-
--- what is known at a step of the code
-abbrev After-pixel_outcome-outcome : Type 0
-After-pixel_outcome-outcome = lts.After-pixel_outcome tie.the-claims reads.Pre reads.Post goal.the-invariant-loop-e goal.the-decreases-loop-e
-
-abbrev At-loop-e : Type 0
-At-loop-e = lts.At-loop tie.the-claims reads.Pre reads.Post goal.the-invariant-loop-e goal.the-decreases-loop-e
+use Rattle.book.proofs.record.pixels_outcome.Goals.{After-pixel_outcome}
 
 -- the loop's columns, rows and count as the record they came from
 abbrev pattern : List ℤ → List ℤ → ℕ → Pattern
@@ -32,30 +24,27 @@ pattern columns rows used = record { columns = columns; rows = rows; used = used
 pub loop-e-init : goal.loop-e-init
 loop-e-init c = (omega arith, no_pixel_passed _ _)
 
--- the head of the turn in which a pixel was tested
-abbrev head : After-pixel_outcome-outcome → At-loop-e
-head c = c.before.before.before.before.before
-
 -- the pixel that was handed over is the pattern's at position e
 pixel-is :
-    (c : After-pixel_outcome-outcome) →
-    let columns = (head c).args.t.columns in
-    let rows = (head c).args.t.rows in
-    pixel_at (head c).args.t (head c).loop-e.e
-    ≡ at (to_z w8 (of_z w8 (get_or columns (head c).loop-e.e (pos 0)))) (to_z w8 (of_z w8 (get_or rows (head c).loop-e.e (pos 0))))
+    (c : After-pixel_outcome) →
+    let columns = c.args.t.columns in
+    let rows = c.args.t.rows in
+    pixel_at c.args.t c.loop-e.e
+    ≡ at (to_z w8 (of_z w8 (get_or columns c.loop-e.e (pos 0)))) (to_z w8 (of_z w8 (get_or rows c.loop-e.e (pos 0))))
 unfolding pixel_at at
 pixel-is c =
     sym (entry_handed w8 _ _ c.pixel_outcome-arg-1.given c.pixel_outcome-arg-in-loop-e-1.given)
 
-pub returns-in-Refused : goal.returns-in-Refused
-returns-in-Refused c =
-    pixel_not_taken (head c.before.before).loop-e.invariant.1 c.pixel_outcome-outcome.ensures (pixel-is c.before.before) refl
-    c.loop-e-test.true c.in-Refused.is
+pub returns-in_err-pixel_outcome : goal.returns-in_err-pixel_outcome
+returns-in_err-pixel_outcome c =
+    passed_on _ c.from_residual.ensures c.in_err-pixel_outcome.was
+    ∙ (pixel_not_taken c.loop-e.invariant.1 c.pixel_outcome.ensures (pixel-is c.before.before.before.before) refl
+    c.loop-e-test.true c.in_err-pixel_outcome.was)
 
 pub loop-e-preserved : goal.loop-e-preserved
 loop-e-preserved c = (
   omega arith,
-  one_more_pixel (head c.before.before).loop-e.invariant.1 c.pixel_outcome-outcome.ensures (pixel-is c.before.before) refl c.in_default.is,
+  one_more_pixel c.loop-e.invariant.1 c.pixel_outcome.ensures (pixel-is c.before.before.before) refl c.in_ok-pixel_outcome.was,
 )
 
 pub returns : goal.returns
@@ -69,8 +58,8 @@ pub bounds-rows-e : goal.bounds-rows-e
 bounds-rows-e c =
     omega arith
 
-pub pixel_outcome-outcome-requires : goal.pixel_outcome-outcome-requires
-pixel_outcome-outcome-requires c =
+pub pixel_outcome-requires : goal.pixel_outcome-requires
+pixel_outcome-requires c =
     (c.loop-e.invariant.1.passed.size, omega arith)
 
 pub overflow_add-e : goal.overflow_add-e

@@ -2,8 +2,9 @@
 -- tests. The measure is the number of patterns that are left.
 -- Assumes nothing.
 use native.Mathlib.Omega.{arith}
-use mathlib.Core.Path.{refl}
+use mathlib.Core.Path.{◌∙◌, refl}
 use Rattle.scope.specs.Plans.{pattern_at}
+use Rattle.checks.proofs.Chains.{passed_on}
 use Rattle.book.proofs.RecordLoops.{count_not_taken, pattern_not_taken, one_more_passed, all_passed}
 use Rattle.book.proofs.record.record_outcome.Goals as goal
 
@@ -16,17 +17,18 @@ returns-then-count-gt16 c = count_not_taken _ (λ h. omega arith)
 pub loop-n-init : goal.loop-n-init
 loop-n-init c = (omega arith, λ m h. absurd (omega arith))
 
-pub returns-in-Refused : goal.returns-in-Refused
+pub returns-in_err-pattern_outcome : goal.returns-in_err-pattern_outcome
 unfolding pattern_at
-returns-in-Refused c =
-    pattern_not_taken _ c.pattern_outcome-outcome.ensures refl c.loop-n.invariant.1 (omega arith)
-    (omega arith) c.in-Refused.is
+returns-in_err-pattern_outcome c =
+    passed_on _ c.from_residual.ensures c.in_err-pattern_outcome.was
+    ∙ (pattern_not_taken _ c.pattern_outcome.ensures refl c.loop-n.invariant.1 (omega arith)
+    (omega arith) c.in_err-pattern_outcome.was)
 
 pub loop-n-preserved : goal.loop-n-preserved
 unfolding pattern_at
 loop-n-preserved c = (
   omega arith,
-  one_more_passed c.args.book c.pattern_outcome-outcome.ensures refl c.loop-n.invariant.1 c.in_default.is,
+  one_more_passed c.args.book c.pattern_outcome.ensures refl c.loop-n.invariant.1 c.in_ok-pattern_outcome.was,
 )
 
 pub returns : goal.returns

@@ -14,6 +14,7 @@ use Rattle.scope.specs.Numbers.{count_read, pattern_read, bytes_test}
 use Rattle.scope.specs.declared.Refusal.{Refusal}
 use Rattle.scope.specs.declared.Refusal.TheVariants.{Ends, Extra}
 use Rattle.book.specs.Scan.{outcome_of}
+use Rattle.checks.proofs.Chains.{passed_on}
 use Rattle.book.proofs.Outcomes.{answered_by_refusal, answered_by_done, done_found_nothing, refused_found}
 use Rattle.book.proofs.ReaderRefusals.{ends_before_count, count_not_taken, first_count_decides}
 use Rattle.book.proofs.Longer.{extra_decides}
@@ -87,14 +88,15 @@ module _ {s : List ℕ} {count at n : ℕ} {outcome : Result Unit Refusal} (scan
   pattern-inside : outcome ≡ Ok tt → at + 1 + 2 * get_or s at 0 ≤ length s
   pattern-inside done = pixels-inside scanned (done_found_nothing _ answer done)
 
-pub returns-in-Refused : goal.returns-in-Refused
+pub returns-in_err-pattern_outcome : goal.returns-in_err-pattern_outcome
 unfolding byte
-returns-in-Refused c =
-    refused c.loop-n.invariant c.pattern_outcome-outcome.ensures c.in-Refused.is (omega arith) (omega arith) (omega arith)
+returns-in_err-pattern_outcome c =
+    passed_on _ c.from_residual.ensures c.in_err-pattern_outcome.was
+    ∙ (refused c.loop-n.invariant c.pattern_outcome.ensures c.in_err-pattern_outcome.was (omega arith) (omega arith) (omega arith))
 
 pub loop-n-preserved : goal.loop-n-preserved
 loop-n-preserved c =
-    goes_on c.loop-n.invariant (done_found_nothing _ c.pattern_outcome-outcome.ensures c.in_default.is) (omega arith)
+    goes_on c.loop-n.invariant (done_found_nothing _ c.pattern_outcome.ensures c.in_ok-pattern_outcome.was) (omega arith)
 
 pub returns-then-at-s : goal.returns-then-at-s
 unfolding byte
@@ -112,26 +114,26 @@ returns c =
     let end = at-end scanned c.loop-n-test.false in
     answered_by_done _ (all_taken _ (omega arith) (omega arith) (λ n h. scanned.passed n (omega arith)) (omega arith))
 
-pub pattern_outcome-outcome-requires : goal.pattern_outcome-outcome-requires
-pattern_outcome-outcome-requires c =
+pub pattern_outcome-requires : goal.pattern_outcome-requires
+pattern_outcome-requires c =
     c.loop-n.invariant.inside
 
 pub overflow_add-at : goal.overflow_add-at
 overflow_add-at c =
-    omega (arith, pattern-inside c.loop-n.invariant c.pattern_outcome-outcome.ensures c.in_default.is)
+    omega (arith, pattern-inside c.loop-n.invariant c.pattern_outcome.ensures c.in_ok-pattern_outcome.was)
 
 pub bounds-s-at : goal.bounds-s-at
 bounds-s-at c =
-    omega (arith, pattern-inside c.loop-n.invariant c.pattern_outcome-outcome.ensures c.in_default.is)
+    omega (arith, pattern-inside c.loop-n.invariant c.pattern_outcome.ensures c.in_ok-pattern_outcome.was)
 
 pub overflow_cast-at : goal.overflow_cast-at
 overflow_cast-at c =
-    omega (arith, pattern-inside c.loop-n.invariant c.pattern_outcome-outcome.ensures c.in_default.is)
+    omega (arith, pattern-inside c.loop-n.invariant c.pattern_outcome.ensures c.in_ok-pattern_outcome.was)
 
 pub overflow_mul-at : goal.overflow_mul-at
 overflow_mul-at c =
-    omega (arith, pattern-inside c.loop-n.invariant c.pattern_outcome-outcome.ensures c.in_default.is)
+    omega (arith, pattern-inside c.loop-n.invariant c.pattern_outcome.ensures c.in_ok-pattern_outcome.was)
 
 pub overflow_add-at-in-loop-n : goal.overflow_add-at-in-loop-n
 overflow_add-at-in-loop-n c =
-    omega (arith, pattern-inside c.loop-n.invariant c.pattern_outcome-outcome.ensures c.in_default.is)
+    omega (arith, pattern-inside c.loop-n.invariant c.pattern_outcome.ensures c.in_ok-pattern_outcome.was)

@@ -13,6 +13,7 @@ use mir.Val.{to_z, of_z, hbits}
 use Rattle.integers.proofs.Raised.{number_handed}
 use Rattle.scope.specs.Plans.{at}
 use Rattle.scope.specs.Books.{signed, byte, pixel_from}
+use Rattle.checks.proofs.Chains.{passed_on}
 use Rattle.book.proofs.Outcomes.{refused_at}
 use Rattle.book.proofs.Scanning.{ends_early, both_there}
 use Rattle.book.proofs.PixelLoops.{no_pixel_passed, pixel_not_taken, one_more_pixel, all_pixels_passed}
@@ -33,14 +34,15 @@ pixel-is :
 unfolding pixel_from at byte
 pixel-is s place e f g a b = sym (ap₂ at (number_handed w8 f ∙ a) (number_handed w8 g ∙ b))
 
-pub returns-in-Refused : goal.returns-in-Refused
-returns-in-Refused c =
-    let s = c.args.s.now in
+pub returns-in_err-pixel_outcome : goal.returns-in_err-pixel_outcome
+returns-in_err-pixel_outcome c =
+    passed_on _ c.from_residual.ensures c.in_err-pixel_outcome.was
+    ∙ (let s = c.args.s.now in
     let x = c.signed_byte in
     let y = c.signed_byte-in-loop-e in
-    pixel_not_taken c.loop-e.invariant.2 c.pixel_outcome-outcome.ensures
+    pixel_not_taken c.loop-e.invariant.2 c.pixel_outcome.ensures
     (pixel-is s c.args.at c.loop-e.e x.type_inv y.type_inv x.ensures y.ensures)
-    (both_there s c.args.at c.loop-e.e (omega (arith, c.if-s-i-lt2.false))) c.loop-e-test.true c.in-Refused.is
+    (both_there s c.args.at c.loop-e.e (omega (arith, c.if-s-i-lt2.false))) c.loop-e-test.true c.in_err-pixel_outcome.was)
 
 pub loop-e-preserved : goal.loop-e-preserved
 loop-e-preserved c =
@@ -49,13 +51,13 @@ loop-e-preserved c =
     let y = c.signed_byte-in-loop-e in (
       omega arith,
       omega (arith, c.if-s-i-lt2.false),
-      one_more_pixel c.loop-e.invariant.2 c.pixel_outcome-outcome.ensures
+      one_more_pixel c.loop-e.invariant.2 c.pixel_outcome.ensures
           (pixel-is s c.args.at c.loop-e.e x.type_inv y.type_inv x.ensures y.ensures)
-          (both_there s c.args.at c.loop-e.e (omega (arith, c.if-s-i-lt2.false))) c.in_default.is,
+          (both_there s c.args.at c.loop-e.e (omega (arith, c.if-s-i-lt2.false))) c.in_ok-pixel_outcome.was,
     )
 
 pub returns : goal.returns
 returns c = all_pixels_passed c.loop-e.invariant.2 c.loop-e-test.false
 
-pub pixel_outcome-outcome-requires : goal.pixel_outcome-outcome-requires
-pixel_outcome-outcome-requires c = (c.loop-e.invariant.2.passed.size, omega arith)
+pub pixel_outcome-requires : goal.pixel_outcome-requires
+pixel_outcome-requires c = (c.loop-e.invariant.2.passed.size, omega arith)

@@ -15,7 +15,7 @@ use Rattle.scope.specs.Numbers.{record_test, output_test}
 use Rattle.scope.specs.Calls.{write_book}
 use Rattle.scope.specs.declared.Book.{Book}
 use Rattle.scope.specs.declared.Refusal.{Refusal}
-use Rattle.checks.proofs.Chains.{chain_refuses, chain_goes_on, Gives, value_given, refusal_given}
+use Rattle.checks.proofs.Chains.{handed_on, chain_refuses, chain_goes_on, Gives, value_given, refusal_given}
 use Rattle.checks.proofs.Deciding.{output_decides}
 use Rattle.checks.proofs.BookTests.{book_legal_iff}
 use Rattle.checks.proofs.Legal.{write_test_iff}
@@ -58,22 +58,22 @@ module _ (book : Book) (out : List ℕ) where
       value_given tests Err out number (over_start bytes out)
       ((write_test_iff book (length out)).1 ((book_legal_iff book).0 legal, enough))
 
-pub returns-in-Refused : goal.returns-in-Refused
-returns-in-Refused c =
-    book-refused _ _ c.in-Refused.r
-    (record_turned_down _ c.record_outcome-outcome.ensures c.in-Refused.is)
+pub returns-in_err-record_outcome : goal.returns-in_err-record_outcome
+returns-in_err-record_outcome c =
+    let right = book-refused _ _ _ (record_turned_down _ c.record_outcome.ensures c.in_err-record_outcome.was) in
+    (handed_on _ c.from_residual.ensures ∙ right.0, right.1)
 
 pub byte_count-size-requires : goal.byte_count-size-requires
-byte_count-size-requires c = record_taken _ c.record_outcome-outcome.ensures c.in_default.is
+byte_count-size-requires c = record_taken _ c.record_outcome.ensures c.in_ok-record_outcome.was
 
 pub returns-then-out-size : goal.returns-then-out-size
 returns-then-out-size c =
-    output-refused _ _ (record_taken _ c.record_outcome-outcome.ensures c.in_default.is) (omega (arith, c.byte_count-size.ensures))
+    output-refused _ _ (record_taken _ c.record_outcome.ensures c.in_ok-record_outcome.was) (omega (arith, c.byte_count-size.ensures))
 
 pub put_book-requires : goal.put_book-requires
-put_book-requires c = (record_taken _ c.record_outcome-outcome.ensures c.in_default.is, omega (arith, c.byte_count-size.ensures))
+put_book-requires c = (record_taken _ c.record_outcome.ensures c.in_ok-record_outcome.was, omega (arith, c.byte_count-size.ensures))
 
 pub returns : goal.returns
 returns c =
-    let right = written _ c.args.out.now (record_taken _ c.record_outcome-outcome.ensures c.in_default.is) (omega (arith, c.byte_count-size.ensures)) in
+    let right = written _ c.args.out.now (record_taken _ c.record_outcome.ensures c.in_ok-record_outcome.was) (omega (arith, c.byte_count-size.ensures)) in
     (ap Ok c.byte_count-size.ensures ∙ right.0, c.put_book.ensures ∙ right.1)

@@ -107,9 +107,9 @@ module _ (x y : Pixel) where
             beside_none (check_test book r x y) (clash (normal_form x y)) none_found ∙ ap (λ (q : Plan). places (clash q)) is,
           )
 
-pub returns-in-Refused : goal.returns-in-Refused
-returns-in-Refused c =
-    book-refused _ _ _ _ _ (refused_found _ c.book_outcome-outcome.ensures c.in-Refused.is)
+pub returns-in-Err : goal.returns-in-Err
+returns-in-Err c =
+    book-refused _ _ _ _ _ (refused_found _ c.book_outcome-outcome.ensures c.in-Err.is)
 
 -- the record is a book and r is legal, and the answer is that of the normal form
 module _ (c : After-normal_form-form) where
@@ -142,18 +142,18 @@ overflow_cast-r c = record { fits = omega (arith, (cycles c.before).1) }
 pub judge-requires : goal.judge-requires
 judge-requires c =
     let n = c.before in (
-      form-is-plan _ _ _ (form-is n ∙ c.in-Plan.is),
+      form-is-plan _ _ _ (form-is n ∙ c.in-Ok.is),
       (book_legal_iff (start n).args.book).1 ((book_test_iff (start n).args.book (start n).args.r).0 (legal n)).0,
       omega (arith, (cycles n).0),
       omega (arith, (cycles n).1),
     )
 
-pub returns-in-Plan : goal.returns-in-Plan
-returns-in-Plan c =
+pub returns-in-Ok : goal.returns-in-Ok
+returns-in-Ok c =
     let n = c.before.before in
-    let (verdict, positions) = form-judged _ _ _ _ (legal n) _ (form-is n ∙ c.in-Plan.is) in
+    let (verdict, positions) = form-judged _ _ _ _ (legal n) _ (form-is n ∙ c.in-Ok.is) in
     (c.judge.ensures.0 ∙ sym verdict, c.judge.ensures.1 ∙ sym positions)
 
-pub returns-in-Refused-form : goal.returns-in-Refused-form
-returns-in-Refused-form c =
-    form-refused _ _ _ _ (legal c.before) _ (form-is c.before ∙ c.in-Refused-form.is)
+pub returns-in-Err-form : goal.returns-in-Err-form
+returns-in-Err-form c =
+    form-refused _ _ _ _ (legal c.before) _ (form-is c.before ∙ c.in-Err-form.is)

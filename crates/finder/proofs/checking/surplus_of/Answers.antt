@@ -58,10 +58,10 @@ module _ (c : goal.After-banks) where
   start = counted.before
 
   abbrev n : ℕ
-  n = c.in-Number.n
+  n = c.in-Ok.n
 
   least-is : n ≡ least_count_for (r start) (patterns (book start))
-  least-is = number_is_least (book start) (r start) (legal start) counted.least_count-least.ensures c.in-Number.is
+  least-is = number_is_least (book start) (r start) (legal start) counted.least_count-least.ensures c.in-Ok.is
 
   most : c.banks.result ≤ 1024
   unfolding banks
@@ -79,16 +79,16 @@ module _ (c : goal.After-banks) where
   surplus-is : c.banks.result - n ≡ banks (p start) - least_count_for (r start) (patterns (book start))
   surplus-is = omega (arith, c.banks.ensures, least-is)
 
-pub returns-in-Number : goal.returns-in-Number
-returns-in-Number c =
+pub returns-in-Ok : goal.returns-in-Ok
+returns-in-Ok c =
     let s = start c in
     ap (λ (surplus : ℕ). Verdict.Suits (record { plan = p s; surplus = surplus })) (surplus-is c)
     ∙ sym (judged_suits (r s) (patterns (book s)) (p s) s.requires.4)
 
 -- a book is counted
-pub returns-in-Refused : goal.returns-in-Refused
-returns-in-Refused c =
-    absurd (book_is_counted _ _ (legal c.before.before) c.least_count-least.ensures c.in-Refused.is)
+pub returns-in-Err : goal.returns-in-Err
+returns-in-Err c =
+    absurd (book_is_counted _ _ (legal c.before.before) c.least_count-least.ensures c.in-Err.is)
 
 pub overflow_sub-surplus : goal.overflow_sub-surplus
 overflow_sub-surplus c =

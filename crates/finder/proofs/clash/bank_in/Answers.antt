@@ -54,10 +54,10 @@ module _ (c : After-bank-answer) where
   unfolding banks
   bank-small = omega (arith, bank_below_count p plan v, plan.most)
 
-pub returns-in-Number : goal.returns-in-Number
-returns-in-Number c =
-    let is = value_injective (ap of_result (sym c.in-Number.is) ∙ answer-is c.before) in
+pub returns-in-Ok : goal.returns-in-Ok
+returns-in-Ok c =
+    let is = value_injective (ap of_result (sym c.in-Ok.is) ∙ answer-is c.before) in
     (is, rw is (bank-small c.before))
 
-pub returns-in-Refused : goal.returns-in-Refused
-returns-in-Refused c = absurd (value_not_refusal (sym (answer-is c.before) ∙ ap of_result c.in-Refused.is))
+pub returns-in-Err : goal.returns-in-Err
+returns-in-Err c = absurd (value_not_refusal (sym (answer-is c.before) ∙ ap of_result c.in-Err.is))

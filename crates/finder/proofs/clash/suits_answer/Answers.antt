@@ -25,8 +25,8 @@ module _ (p : Plan) (t : Pattern) (r : ℕ) {outcome : Result Unit Refusal} (tol
   legal : SingleLegal p t r
   legal = (single_legal_iff p t r).0 passed
 
-pub returns-in-Refused : goal.returns-in-Refused
-returns-in-Refused c = refused_first _ _ _ _ c.single_outcome-outcome.ensures c.in-Refused.is
+pub returns-in-Err : goal.returns-in-Err
+returns-in-Err c = refused_first _ _ _ _ c.single_outcome-outcome.ensures c.in-Err.is
 
 pub overflow_cast-r : goal.overflow_cast-r
 overflow_cast-r c = record { fits = omega (arith, (legal c.args.p c.args.t c.args.r c.single_outcome-outcome.ensures c.in_default.is).cycles_most) }

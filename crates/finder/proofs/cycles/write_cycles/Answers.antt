@@ -36,9 +36,9 @@ module _
     own_most : (pattern_at book k).used ≤ 64
     own_most = omega (arith, (own_legal book r p n passed).most, ap (λ (t : Pattern). t.used) own)
 
-pub returns-in-Refused : goal.returns-in-Refused
-returns-in-Refused c =
-    let w = first_refused _ _ _ _ c.args.out.now (refused_found _ c.cycles_outcome-outcome.ensures c.in-Refused.is) in
+pub returns-in-Err : goal.returns-in-Err
+returns-in-Err c =
+    let w = first_refused _ _ _ _ c.args.out.now (refused_found _ c.cycles_outcome-outcome.ensures c.in-Err.is) in
     record { answer = w.0; left = w.1 }
 
 pub offset_bounds-book-k : goal.offset_bounds-book-k
@@ -48,13 +48,13 @@ offset_bounds-book-k c =
 pub bounds-book-k : goal.bounds-book-k
 bounds-book-k c = number_small c.args.book c.args.r c.args.p c.args.n c.cycles_outcome-outcome.ensures c.in_default.is c.entry_number-k.ensures
 
-pub returns-in-Refused-suits : goal.returns-in-Refused-suits
+pub returns-in-Err-suits : goal.returns-in-Err-suits
 unfolding pattern_at
-returns-in-Refused-suits c =
+returns-in-Err-suits c =
     let (outcome, positions) = c.suits_answer-suited.ensures in
     let first = passed c.args.book c.args.r c.args.p c.args.n c.cycles_outcome-outcome.ensures c.in_default.is in
     let same = own c.args.book c.args.r c.args.p c.args.n c.cycles_outcome-outcome.ensures c.in_default.is c.entry_number-k.ensures in
-    let w = unsuited _ _ _ _ c.args.out.now first same outcome positions c.in-Refused-suits.is in
+    let w = unsuited _ _ _ _ c.args.out.now first same outcome positions c.in-Err-suits.is in
     record { answer = w.0; left = w.1 }
 
 pub returns-then-out-t : goal.returns-then-out-t

@@ -14,7 +14,7 @@ use Rattle.scope.specs.Calls.{find_test, found, find}
 use Rattle.scope.specs.promises.Meaning.{IsCycles}
 use Rattle.scope.specs.declared.Book.{Book}
 use Rattle.scope.specs.declared.Refusal.{Refusal}
-use Rattle.checks.proofs.Chains.{chain_refuses, chain_goes_on}
+use Rattle.checks.proofs.Chains.{handed_on, chain_refuses, chain_goes_on}
 use Rattle.checks.proofs.Deciding.{limit_decides, cycles_decide}
 use Rattle.checks.proofs.BookTests.{book_legal_iff}
 use Rattle.book.proofs.Outcomes.{record_taken, record_turned_down}
@@ -51,13 +51,14 @@ module _ (book : Book) (r limit : ℕ) (legal : record_test book ≡ none) where
         sym (legal_find book r limit
         (record { legal_book = (book_legal_iff book).0 legal; limit_least = least; limit_most = most; legal_cycles = cycles }))
 
-pub returns-in-Refused : goal.returns-in-Refused
-returns-in-Refused c =
-    book_refused _ _ _ _ (record_turned_down _ c.record_outcome-outcome.ensures c.in-Refused.is)
+pub returns-in_err-record_outcome : goal.returns-in_err-record_outcome
+returns-in_err-record_outcome c =
+    handed_on _ c.from_residual.ensures
+    ∙ (book_refused _ _ _ _ (record_turned_down _ c.record_outcome.ensures c.in_err-record_outcome.was))
 
 -- the record's tests found nothing
 legal : (c : In_default) → record_test c.args.book ≡ none
-legal c = record_taken _ c.record_outcome-outcome.ensures c.in_default.is
+legal c = record_taken _ c.record_outcome.ensures c.in_ok-record_outcome.was
 
 pub returns-then-limit-eq0 : goal.returns-then-limit-eq0
 returns-then-limit-eq0 c = limit-refused _ _ _ (legal c.before) (λ h. omega (arith, c.if-limit-eq0.true))

@@ -47,13 +47,13 @@ least_b_for-p-requires c =
     )
 
 -- what the search with this divisor gave
-pub loop-d-preserved-in-Plan : goal.loop-d-preserved-in-Plan
-loop-d-preserved-in-Plan c =
+pub loop-d-preserved-in-Ok : goal.loop-d-preserved-in-Ok
+loop-d-preserved-in-Ok c =
     let l = head c.before.before.before.before in
     let n = (start l).args.n in (
       omega arith,
       best_replaced n l.loop-d.d l.loop-d.invariant.1 (divisor_searched n (l.loop-d.d + 1) _ c.if-n-d-eq0.true c.least_b_for-p.ensures)
-          c.in-Plan.is,
+          c.in-Ok.is,
     )
 
 pub loop-d-preserved-in_default : goal.loop-d-preserved-in_default
@@ -85,8 +85,8 @@ pub overflow_cast-below : goal.overflow_cast-below
 overflow_cast-below c =
     record { fits = omega (arith, c.struct_known-1.given.1.0.fits) }
 
-pub loop-d-smaller-in-Plan : goal.loop-d-smaller-in-Plan
-loop-d-smaller-in-Plan c =
+pub loop-d-smaller-in-Ok : goal.loop-d-smaller-in-Ok
+loop-d-smaller-in-Ok c =
     omega arith
 
 pub loop-d-smaller-in_default : goal.loop-d-smaller-in_default

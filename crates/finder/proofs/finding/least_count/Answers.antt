@@ -6,10 +6,10 @@ use mathlib.Core.Path.{sym, ◌∙◌, ap}
 use Rattle.finder.proofs.LeastCounts.{fewest_by_plan, fewest_by_refusal}
 use Rattle.finder.proofs.finding.least_count.Goals as goal
 
-pub returns-in-Plan : goal.returns-in-Plan
-returns-in-Plan c =
-    ap Ok c.banks.ensures ∙ sym (fewest_by_plan _ _ _ (sym c.find-least.ensures ∙ c.in-Plan.is))
+pub returns-in-Ok : goal.returns-in-Ok
+returns-in-Ok c =
+    ap Ok c.banks.ensures ∙ sym (fewest_by_plan _ _ _ (sym c.find-least.ensures ∙ c.in-Ok.is))
 
-pub returns-in-Refused : goal.returns-in-Refused
-returns-in-Refused c =
-    sym (fewest_by_refusal _ _ _ (sym c.find-least.ensures ∙ c.in-Refused.is))
+pub returns-in-Err : goal.returns-in-Err
+returns-in-Err c =
+    sym (fewest_by_refusal _ _ _ (sym c.find-least.ensures ∙ c.in-Err.is))

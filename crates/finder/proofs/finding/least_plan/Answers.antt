@@ -32,12 +32,12 @@ first_with-p-requires c = let h = (start c.before.before).requires in (h.0, h.1,
 abbrev head : After-first_with-p → At-loop-n
 head c = c.before.before
 
-pub returns-in-Plan : goal.returns-in-Plan
+pub returns-in-Ok : goal.returns-in-Ok
 unfolding least_of
-returns-in-Plan c =
+returns-in-Ok c =
     let l = head c.before.before in
     found_at first_with 1 (start l).args.limit _ l.loop-n.invariant.2 l.loop-n.invariant.0 (omega arith) c.first_with-p.ensures
-    c.in-Plan.is
+    c.in-Ok.is
 
 pub overflow_add-n : goal.overflow_add-n
 overflow_add-n c = omega (arith, (start (head c.before.before)).requires)
