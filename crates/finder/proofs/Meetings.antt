@@ -27,7 +27,7 @@ use Rattle.checks.proofs.Picked.{FirstPicked, picked_here, picked_beyond, picked
 use Rattle.checks.proofs.Patterns.{origin, length_pixels, get_d_pixels}
 use Rattle.lattice.proofs.Cycles.{together_by_bank}
 use Rattle.finder.specs.Clashing.{met_at}
-use Rattle.finder.specs.declared.clash.Met.{Met}
+use Rattle.std.specs.Prelude.{Option as Optional, Some, None}
 
 -- the positions k, k + 1, .., m of them, that have bank β
 abbrev pub in_bank : (ℕ → ℕ) → ℕ → ℕ → ℕ → List ℕ
@@ -91,7 +91,7 @@ module _ (p : Plan) (plan : is_plan p ≡ true) (t : Pattern) where
 
 -- The positions from e on are searched: `next` has for each bank the first of them, `held` for each of them how many its bank has from
 -- there on, and `met` the first two positions of the clash that comes first.
-pub record SearchedFrom (r : ℕ) (p : Plan) (n : ℕ) (t : Pattern) (next held : List ℕ) (met : Met) (e : ℕ) : Type 0 where
+pub record SearchedFrom (r : ℕ) (p : Plan) (n : ℕ) (t : Pattern) (next held : List ℕ) (met : Optional Clash) (e : ℕ) : Type 0 where
   pub size : length next ≡ 1024
   pub room : length held ≡ 64
   pub places : (β : ℕ) → β < 1024 → get_or next β 0 ≡ first_or0 (in_bank (bank_at p t) β e (t.used - e))
@@ -100,7 +100,7 @@ pub record SearchedFrom (r : ℕ) (p : Plan) (n : ℕ) (t : Pattern) (next held 
   pub found : met ≡ met_at (map shortened (first e (t.used - e) (clash_from r p n t)))
 
 pub none_searched :
-    (r : ℕ) (p : Plan) (n : ℕ) (t : Pattern) → SearchedFrom r p n t (replicate 1024 0) (replicate 64 0) Met.Nowhere t.used
+    (r : ℕ) (p : Plan) (n : ℕ) (t : Pattern) → SearchedFrom r p n t (replicate 1024 0) (replicate 64 0) None t.used
 unfolding picked first met_at
 none_searched r p n t =
     let empty : t.used - t.used ≡ 0 = omega arith in
@@ -115,7 +115,7 @@ none_searched r p n t =
 
 -- from position 0 on: the clash of the pattern
 pub all_searched :
-    {r : ℕ} {p : Plan} {n : ℕ} {t : Pattern} {next held : List ℕ} {met : Met} {e : ℕ}
+    {r : ℕ} {p : Plan} {n : ℕ} {t : Pattern} {next held : List ℕ} {met : Optional Clash} {e : ℕ}
     → SearchedFrom r p n t next held met e → e ≤ 0 → met ≡ met_at (map shortened (clash_in_for r p n (pixels t)))
 all_searched {r} {p} {n} {t} {e} s h =
     let start : e ≡ 0 = omega arith in
@@ -124,13 +124,13 @@ all_searched {r} {p} {n} {t} {e} s h =
 
 -- a position that `next` has is in the pattern
 pub place_below :
-    {r : ℕ} {p : Plan} {n : ℕ} {t : Pattern} {next held : List ℕ} {met : Met} {e : ℕ}
+    {r : ℕ} {p : Plan} {n : ℕ} {t : Pattern} {next held : List ℕ} {met : Optional Clash} {e : ℕ}
     → SearchedFrom r p n t next held met e → e ≤ t.used → t.used ≤ 64 → (β : ℕ) → β < 1024 → get_or next β 0 < 64
 place_below {p} {t} {e} s within most β h =
     rw (s.places β h) (first_below (bank_at p t) β e (t.used - e) 64 (omega arith) (omega arith))
 
 -- Position e comes to those after it; its bank is k.
-module _ {r : ℕ} {p : Plan} (plan : is_plan p ≡ true) {n : ℕ} {t : Pattern} {next held : List ℕ} {met : Met} {e k : ℕ}
+module _ {r : ℕ} {p : Plan} (plan : is_plan p ≡ true) {n : ℕ} {t : Pattern} {next held : List ℕ} {met : Optional Clash} {e k : ℕ}
     (s : SearchedFrom r p n t next held met (suc e)) (e_in : e < t.used) (most : t.used ≤ 64) (is : k ≡ bank_at p t e) (small : k < 1024)
   where
     abbrev count : ℕ
@@ -187,7 +187,7 @@ module _ {r : ℕ} {p : Plan} (plan : is_plan p ≡ true) {n : ℕ} {t : Pattern
     enough_by_count : leb r (length (followers p (pixels t) e)) ≡ leb r count
     enough_by_count = ap (leb r) (ap length (followers_by_bank p plan t e e_in) ∙ sym count_is)
 
-    module _ {met' : Met} where
+    module _ {met' : Optional Clash} where
       more_searched :
           met' ≡ met_at (map shortened (first e (suc (t.used - suc e)) (clash_from r p n t)))
           → SearchedFrom r p n t (set next k e) (set held e (count + 1)) met' e
@@ -202,13 +202,13 @@ module _ {r : ℕ} {p : Plan} (plan : is_plan p ≡ true) {n : ℕ} {t : Pattern
           }
 
       pub clash_met :
-          1 ≤ r → r ≤ count → met' ≡ Met.At (clash_at n e (get_or next k 0))
+          1 ≤ r → r ≤ count → met' ≡ Some (clash_at n e (get_or next k 0))
           → SearchedFrom r p n t (set next k e) (set held e (count + 1)) met' e
       unfolding met_at shortened
       clash_met r-least h i =
           more_searched
           (i
-          ∙ ap (λ (l : ℕ). Met.At (clash_at n e l))
+          ∙ ap (λ (l : ℕ). Some (clash_at n e l))
           (next_behind ∙ sym (ap first_or0 (followers_by_bank p plan t e e_in)) ∙ sym (first_taken r r-least (followers p (pixels t) e)))
           ∙ ap (λ (o : Option LongClash). met_at (map shortened o))
           (sym

@@ -32,31 +32,31 @@ use Rattle.book.specs.Scan.{outcome_of}
 use Rattle.book.proofs.Outcomes.{answered_by_refusal, answered_by_done, refused_found}
 use Rattle.lattice.proofs.TestMeanings.{suits_test_none_iff}
 use Rattle.finder.specs.Clashing.{met_at, single_test, suits_outcome, suits_positions}
-use Rattle.finder.specs.declared.clash.Met.{Met}
+use Rattle.std.specs.Prelude.{Option as Optional, Some, None}
 
 -- An answer tells what the search found.
-at_not_nowhere : {c : Clash} → Met.At c ≡ Met.Nowhere → ⊥
+at_not_nowhere : {c : Clash} → Some c ≡ None → ⊥
 at_not_nowhere e = let z : ◌≡◌ {A = ℕ} 0 1 = cc in omega arith
 
-module _ {met : Met} where
-  pub at_found : {c : Clash} (o : Option Clash) → met ≡ met_at o → met ≡ Met.At c → o ≡ some c
+module _ {met : Optional Clash} where
+  pub at_found : {c : Clash} (o : Option Clash) → met ≡ met_at o → met ≡ Some c → o ≡ some c
   unfolding met_at
   at_found none answer here = absurd (at_not_nowhere (sym here ∙ answer))
   at_found (some d) answer here = cc
 
-  pub nowhere_found : (o : Option Clash) → met ≡ met_at o → met ≡ Met.Nowhere → o ≡ none
+  pub nowhere_found : (o : Option Clash) → met ≡ met_at o → met ≡ None → o ≡ none
   unfolding met_at
   nowhere_found none answer nowhere = refl
   nowhere_found (some d) answer nowhere = absurd (at_not_nowhere (sym answer ∙ nowhere))
 
   -- of a clash for r it has the first two positions
   pub at_clash :
-      {c : Clash} (o : Option LongClash) → met ≡ met_at (map shortened o) → met ≡ Met.At c
+      {c : Clash} (o : Option LongClash) → met ≡ met_at (map shortened o) → met ≡ Some c
       → (l : LongClash) × (o ≡ some l) × (c ≡ shortened l)
   at_clash none answer here = absurd (none_not_some (at_found none answer here))
   at_clash (some l) answer here = (l, refl, some_injective (sym (at_found (some (shortened l)) answer here)))
 
-  pub nowhere_clash : (o : Option LongClash) → met ≡ met_at (map shortened o) → met ≡ Met.Nowhere → o ≡ none
+  pub nowhere_clash : (o : Option LongClash) → met ≡ met_at (map shortened o) → met ≡ None → o ≡ none
   nowhere_clash none answer nowhere = refl
   nowhere_clash (some l) answer nowhere = absurd (none_not_some (sym (nowhere_found (some (shortened l)) answer nowhere)))
 

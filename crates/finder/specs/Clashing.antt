@@ -11,11 +11,11 @@ use Rattle.scope.specs.declared.Clash.{Clash}
 use Rattle.scope.specs.declared.Pattern.{Pattern}
 use Rattle.scope.specs.declared.Plan.{Plan}
 use Rattle.scope.specs.declared.Refusal.{Refusal}
-use Rattle.finder.specs.declared.clash.Met.{Met}
+use Rattle.std.specs.Prelude.{Option as Optional, Some, None}
 
-unfoldable pub met_at : Option Clash → Met
-met_at none = Met.Nowhere
-met_at (some c) = Met.At c
+unfoldable pub met_at : Option Clash → Optional Clash
+met_at none = None
+met_at (some c) = Some c
 
 -- the tests of a pattern, r and a plan by themselves: 2 for its pixel count, 20, 11
 unfoldable pub single_test : Plan → Pattern → ℕ → Option Refusal

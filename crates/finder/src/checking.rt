@@ -11,7 +11,7 @@ use crate::clash::{clash_in, class_positions};
 use crate::cycles::book_outcome;
 use crate::finding::least_count;
 use lattice::normal_form;
-use scope::{Book, CheckAnswer, Checked, Plan, Verdict};
+use scope::{Book, CheckAnswer, Checked, Clash, Plan, Verdict};
 
 // The clash for r of the lowest pattern that has one.
 fn first_clash(p: Plan, book: Book, r: u8) -> Option<Clash>

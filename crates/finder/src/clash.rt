@@ -9,13 +9,6 @@ ghost use Rattle.finder.specs.Clashing.{met_at, single_test, suits_outcome, suit
 
 use scope::{Clash, Pattern, Plan, Refusal};
 
-// Whether more than r pixels of a pattern meet in one bank, and which are the first two.
-#[derive(Clone, Copy)]
-pub enum Met {
-    At(Clash),
-    Nowhere,
-}
-
 // The bank of a pattern's pixel under a plan.
 pub(crate) fn bank_in(p: Plan, i: i8, j: i8) -> usize
     requires { is_plan p ≡ true }

@@ -12,7 +12,7 @@ use Rattle.scope.specs.promises.Meaning.{IsBook}
 use Rattle.checks.proofs.BookTests.{book_legal_iff}
 use Rattle.finder.proofs.Verdicts.{pattern_clash, clash_at_lem, clash_nowhere}
 use Rattle.finder.specs.Clashing.{met_at}
-use Rattle.finder.specs.declared.clash.Met.{Met}
+use Rattle.std.specs.Prelude.{Option as Optional, Some, None}
 use Rattle.finder.proofs.MetAnswers.{at_clash, nowhere_clash}
 use Rattle.finder.proofs.checking.first_clash.Lts as lts
 use Rattle.finder.proofs.checking.first_clash.Tie as tie
@@ -59,12 +59,12 @@ module _ (c : After-clash_in-met) where
   unfolding pattern_at
   pattern-answer = c.clash_in-met.ensures
 
-pub returns-in-At : goal.returns-in-At
+pub returns-in-Some : goal.returns-in-Some
 unfolding met_at
-returns-in-At c =
-    let told = c.in-At.is in
+returns-in-Some c =
+    let told = c.in-Some.is in
     let (l, found, is) = at_clash (here c.before) (pattern-answer c.before) told in
-    told ∙ ap Met.At is
+    told ∙ ap Some is
     ∙ ap (λ (o : Option LongClash). met_at (map shortened o))
     (sym (clash_at_lem _ _ _ (n c.before) l c.loop-n-test.true (head c.before).loop-n.invariant.1 found))
 

@@ -29,7 +29,7 @@ abbrev Start : Type 0
 Start = lts.Start tie.the-claims reads.Pre reads.Post
 
 -- a clash was met
-module _ (c : goal.In-At) where
+module _ (c : goal.In-Some) where
   abbrev start : Start
   start = c.before.before
 
@@ -43,7 +43,7 @@ module _ (c : goal.In-At) where
   r = start.args.r
 
   abbrev given : Clash
-  given = c.in-At.c
+  given = c.in-Some.c
 
   abbrev t : Pattern
   t = pattern_at book given.pattern
@@ -53,7 +53,7 @@ module _ (c : goal.In-At) where
 
   -- the clash of the book
   met-clash : (l : LongClash) × (clash_for r p (patterns book) ≡ some l) × (given ≡ shortened l)
-  met-clash = at_clash _ c.first_clash-met.ensures c.in-At.is
+  met-clash = at_clash _ c.first_clash-met.ensures c.in-Some.is
 
   abbrev l : LongClash
   l = met-clash.0
@@ -87,9 +87,9 @@ class_positions-positions-requires c = (
   omega (arith, (start c.before).requires.3),
 )
 
-pub returns-in-At : goal.returns-in-At
+pub returns-in-Some : goal.returns-in-Some
 unfolding pattern_at
-returns-in-At c = (
+returns-in-Some c = (
   ap Verdict.Clashes (met-clash c.before.before).2 ∙ sym (judged_clash (r c.before.before) (patterns (book c.before.before)) (p c.before.before) (l c.before.before) (met-clash c.before.before).1),
   class_is_clash (r c.before.before) (p c.before.before) (given c.before.before).pattern (pixels (t c.before.before)) (found c.before.before) (met-clash c.before.before).2 c.class_positions-positions.ensures
       ∙ ap places (sym (met-clash c.before.before).1),

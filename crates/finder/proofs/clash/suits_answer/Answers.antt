@@ -36,18 +36,18 @@ clash_in-met-requires c =
     let l = legal c.args.p c.args.t c.args.r c.single_outcome-outcome.ensures c.in_default.is in
     (l.plan, l.most, omega (arith, l.cycles_least))
 
-pub overflow_cast-r-in-At : goal.overflow_cast-r-in-At
-overflow_cast-r-in-At c = record { fits = omega (arith, (legal c.args.p c.args.t c.args.r c.single_outcome-outcome.ensures c.in_default.is).cycles_most) }
+pub overflow_cast-r-in-Some : goal.overflow_cast-r-in-Some
+overflow_cast-r-in-Some c = record { fits = omega (arith, (legal c.args.p c.args.t c.args.r c.single_outcome-outcome.ensures c.in_default.is).cycles_most) }
 
 pub class_positions-positions-requires : goal.class_positions-positions-requires
 class_positions-positions-requires c =
     let l = legal c.args.p c.args.t c.args.r c.single_outcome-outcome.ensures c.in_default.is in
-    let (clash, found, is) = at_clash _ c.clash_in-met.ensures c.in-At.is in
+    let (clash, found, is) = at_clash _ c.clash_in-met.ensures c.in-Some.is in
     (l.plan, l.most, omega (arith, begins_below _ _ _ _ found is, length_pixels c.args.t), omega (arith, l.cycles_most))
 
-pub returns-in-At : goal.returns-in-At
-returns-in-At c =
-    let (clash, found, is) = at_clash _ c.clash_in-met.ensures c.in-At.is in
+pub returns-in-Some : goal.returns-in-Some
+returns-in-Some c =
+    let (clash, found, is) = at_clash _ c.clash_in-met.ensures c.in-Some.is in
     let (refusal, positions) = suits_clash _ _ _ _ (passed c.args.p c.args.t c.args.r c.single_outcome-outcome.ensures c.in_default.is) clash found in
     (ap (λ (c : Clash). Err (Unsuited c)) is ∙ refusal, class_is_clash _ _ _ _ found is c.class_positions-positions.ensures ∙ positions)
 

@@ -7,26 +7,19 @@ use Rattle.scope.specs.Numbers.{cycles_test}
 use Rattle.scope.specs.Calls.{book_test}
 use Rattle.checks.proofs.Deciding.{cycles_decide}
 use Rattle.book.proofs.Outcomes.{record_taken, record_turned_down}
-use Rattle.checks.proofs.Chains.{passed_on}
+use Rattle.checks.proofs.Chains.{handed_on}
 use Rattle.finder.proofs.ChainOutcomes.{Left, refused_here, left_after, refused_unless, left_where, done_at_end, book_tests_lem}
-use Rattle.finder.proofs.cycles.book_outcome.Lts as lts
-use Rattle.finder.proofs.cycles.book_outcome.Tie as tie
-use Rattle.finder.proofs.cycles.book_outcome.Reads as reads
 use Rattle.finder.proofs.cycles.book_outcome.Goals as goal
-
--- what is known at a step of the code
-abbrev In_default : Type 0
-In_default = lts.Past-After-enum_told2 tie.the-claims reads.Pre reads.Post
+use Rattle.finder.proofs.cycles.book_outcome.Goals.{In_ok-record_outcome}
 
 pub returns-in_err-record_outcome : goal.returns-in_err-record_outcome
 returns-in_err-record_outcome c =
-    passed_on _ c.from_residual.ensures c.in_err-record_outcome.was
-    ∙ (let refused = c.in_err-record_outcome.was in
-    refused ∙ refused_here (book_tests_lem _ _) (record_turned_down _ c.record_outcome.ensures refused))
+    handed_on _ c.from_residual.ensures
+    ∙ refused_here (book_tests_lem _ _) (record_turned_down _ c.record_outcome.ensures c.in_err-record_outcome.was)
 
 -- past the record's tests
 taken :
-    (c : In_default) → let a = c.args in Left (book_test a.book a.r) (cycles_test a.r ∷ [])
+    (c : In_ok-record_outcome) → let a = c.args in Left (book_test a.book a.r) (cycles_test a.r ∷ [])
 taken c = left_after (book_tests_lem _ _) (record_taken _ c.record_outcome.ensures c.in_ok-record_outcome.was)
 
 pub returns-then-r-eq0 : goal.returns-then-r-eq0

@@ -8,29 +8,19 @@ use Rattle.scope.specs.Calls.{cycles_first}
 use Rattle.scope.proofs.MethodAnswers.{fails, holds}
 use Rattle.checks.proofs.Deciding.{number_decides}
 use Rattle.book.proofs.Outcomes.{done_found_nothing, refused_found}
-use Rattle.checks.proofs.Chains.{passed_on}
+use Rattle.checks.proofs.Chains.{handed_on}
 use Rattle.finder.proofs.ChainOutcomes.{Left, refused_here, left_after, refused_unless, left_where, done_at_end, no_plan_refused, left_after_plan, cycles_tests}
-use Rattle.finder.proofs.cycles.cycles_outcome.Lts as lts
-use Rattle.finder.proofs.cycles.cycles_outcome.Tie as tie
-use Rattle.finder.proofs.cycles.cycles_outcome.Reads as reads
 use Rattle.finder.proofs.cycles.cycles_outcome.Goals as goal
-
--- what is known at a step of the code
-abbrev Else-not-is_plan : Type 0
-Else-not-is_plan = lts.Else1 tie.the-claims reads.Pre reads.Post
-
-abbrev In_default : Type 0
-In_default = lts.Past-After-enum_told2 tie.the-claims reads.Pre reads.Post
+use Rattle.finder.proofs.cycles.cycles_outcome.Goals.{In_ok-book_outcome, Else-not-is_plan}
 
 pub returns-in_err-book_outcome : goal.returns-in_err-book_outcome
 returns-in_err-book_outcome c =
-    passed_on _ c.from_residual.ensures c.in_err-book_outcome.was
-    ∙ (let refused = c.in_err-book_outcome.was in
-    refused ∙ refused_here (cycles_tests _ _ _ _) (refused_found _ c.book_outcome.ensures refused))
+    handed_on _ c.from_residual.ensures
+    ∙ refused_here (cycles_tests _ _ _ _) (refused_found _ c.book_outcome.ensures c.in_err-book_outcome.was)
 
 -- past the tests of the book and r, and of the plan
 taken :
-    (c : In_default) → let a = c.args in
+    (c : In_ok-book_outcome) → let a = c.args in
     Left (cycles_first a.book a.r a.p a.n) (plan_test a.p ∷ number_test a.book.count a.n ∷ [])
 taken c = left_after (cycles_tests _ _ _ _) (done_found_nothing _ c.book_outcome.ensures c.in_ok-book_outcome.was)
 

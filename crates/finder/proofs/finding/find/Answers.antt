@@ -19,14 +19,8 @@ use Rattle.checks.proofs.Deciding.{limit_decides, cycles_decide}
 use Rattle.checks.proofs.BookTests.{book_legal_iff}
 use Rattle.book.proofs.Outcomes.{record_taken, record_turned_down}
 use Rattle.finder.proofs.FindAnswers.{find_refused, book_refused, legal_find}
-use Rattle.finder.proofs.finding.find.Lts as lts
-use Rattle.finder.proofs.finding.find.Tie as tie
-use Rattle.finder.proofs.finding.find.Reads as reads
 use Rattle.finder.proofs.finding.find.Goals as goal
-
--- what is known at a step of the code
-abbrev In_default : Type 0
-In_default = lts.Past-After-enum_told tie.the-claims reads.Pre reads.Post
+use Rattle.finder.proofs.finding.find.Goals.{In_ok-record_outcome}
 
 -- What the call answers for a book, by its limit and r.
 module _ (book : Book) (r limit : ℕ) (legal : record_test book ≡ none) where
@@ -57,7 +51,7 @@ returns-in_err-record_outcome c =
     ∙ (book_refused _ _ _ _ (record_turned_down _ c.record_outcome.ensures c.in_err-record_outcome.was))
 
 -- the record's tests found nothing
-legal : (c : In_default) → record_test c.args.book ≡ none
+legal : (c : In_ok-record_outcome) → record_test c.args.book ≡ none
 legal c = record_taken _ c.record_outcome.ensures c.in_ok-record_outcome.was
 
 pub returns-then-limit-eq0 : goal.returns-then-limit-eq0
@@ -75,7 +69,7 @@ returns-then-r-gt8 c =
     cycles-refused _ _ _ (legal c.before.before.before.before) (omega arith) (omega arith) (λ h. omega (arith, c.if-r-gt8.true))
 
 -- from past all tests back to where the record's outcome is known
-abbrev tested : goal.Else-r-gt8 → In_default
+abbrev tested : goal.Else-r-gt8 → In_ok-record_outcome
 tested c = c.before.before.before.before
 
 pub plan_for-requires : goal.plan_for-requires
