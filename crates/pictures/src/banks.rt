@@ -22,20 +22,15 @@ pub fn clear(p: Plan, w: u32, h: u32, mem: &mut [u16], sums: &mut [u64], k: u64)
     ensures answer { result ≡ (clear p w h (lent mem.old sums.old) k).answer }
     ensures left { lent mem.new sums.new ≡ (clear p w h (lent mem.old sums.old) k).content }
 {
-    let depth = lent_depth(p, w, h, mem.len(), sums.len());
-    match depth {
-        Ok(deep) => {
-            if p.banks() <= k {
-                return Err(Refusal::Cell);
-            }
-            let start = (k * deep) as usize;
-            let end = ((k + 1) * deep) as usize;
-            clear_words(&mut mem[start..end]);
-            sums[k as usize] = 0;
-            Ok(())
-        }
-        Err(r) => Err(r),
+    let deep = lent_depth(p, w, h, mem.len(), sums.len())?;
+    if p.banks() <= k {
+        return Err(Refusal::Cell);
     }
+    let start = (k * deep) as usize;
+    let end = ((k + 1) * deep) as usize;
+    clear_words(&mut mem[start..end]);
+    sums[k as usize] = 0;
+    Ok(())
 }
 
 // The exact sum of at most 2^24 words.
@@ -56,13 +51,8 @@ pub(crate) fn sum_words(words: &[u16]) -> u64
 pub fn sum(p: Plan, w: u32, h: u32, mem: &[u16], k: u64) -> Result<u64, Refusal>
     ensures { result ≡ sum p w h mem.now k }
 {
-    let depth = bank_depth(p, w, h, mem.len(), k);
-    match depth {
-        Ok(deep) => {
-            let start = (k * deep) as usize;
-            let end = ((k + 1) * deep) as usize;
-            Ok(sum_words(&mem[start..end]))
-        }
-        Err(r) => Err(r),
-    }
+    let deep = bank_depth(p, w, h, mem.len(), k)?;
+    let start = (k * deep) as usize;
+    let end = ((k + 1) * deep) as usize;
+    Ok(sum_words(&mem[start..end]))
 }

@@ -11,37 +11,30 @@ use scope::{Plan, Refusal};
 fn picture_depth(p: Plan, w: u32, h: u32, words: usize) -> Result<u64, Refusal>
     ensures { result ≡ picture_depth p w h words }
 {
-    let answer = p.depth(w, h);
-    if let Ok(depth) = answer {
-        if (words as u64) < p.banks() * depth {
-            return Err(Refusal::Memory);
-        }
+    let depth = p.depth(w, h)?;
+    if (words as u64) < p.banks() * depth {
+        return Err(Refusal::Memory);
     }
-    answer
+    Ok(depth)
 }
 
 // The same with so many entries for the sums: 11, 12, 13, also where they are too few.
 pub(crate) fn lent_depth(p: Plan, w: u32, h: u32, words: usize, entries: usize) -> Result<u64, Refusal>
     ensures { result ≡ lent_depth p w h (record { words = words; entries = entries }) }
 {
-    let answer = picture_depth(p, w, h, words);
-    if let Ok(_) = answer {
-        if (entries as u64) < p.banks() {
-            return Err(Refusal::Memory);
-        }
+    let depth = picture_depth(p, w, h, words)?;
+    if (entries as u64) < p.banks() {
+        return Err(Refusal::Memory);
     }
-    answer
+    Ok(depth)
 }
 
 // Whether there is a picture that the memory holds, or 11, 12, 13.
 pub(crate) fn picture_outcome(p: Plan, w: u32, h: u32, words: usize) -> Result<(), Refusal>
     ensures { result ≡ outcome_of (picture_test p w h words) }
 {
-    let depth = picture_depth(p, w, h, words);
-    match depth {
-        Ok(_) => Ok(()),
-        Err(r) => Err(r),
-    }
+    picture_depth(p, w, h, words)?;
+    Ok(())
 }
 
 // The place of the word of the pixel (i, j), or 11, 12, 13, 14.
@@ -56,11 +49,9 @@ pub(crate) fn word_place(p: Plan, w: u32, h: u32, words: usize, i: i16, j: i16) 
 pub(crate) fn bank_depth(p: Plan, w: u32, h: u32, words: usize, k: u64) -> Result<u64, Refusal>
     ensures { result ≡ bank_depth p w h words k }
 {
-    let answer = picture_depth(p, w, h, words);
-    if let Ok(_) = answer {
-        if p.banks() <= k {
-            return Err(Refusal::Cell);
-        }
+    let depth = picture_depth(p, w, h, words)?;
+    if p.banks() <= k {
+        return Err(Refusal::Cell);
     }
-    answer
+    Ok(depth)
 }

@@ -35,14 +35,9 @@ pub fn make_sums(p: Plan, w: u32, h: u32, mem: &[u16], sums: &mut [u64]) -> Resu
     ensures answer { result ≡ (make_sums p w h (lent mem.now sums.old)).answer }
     ensures left { lent mem.now sums.new ≡ (make_sums p w h (lent mem.now sums.old)).content }
 {
-    let depth = lent_depth(p, w, h, mem.len(), sums.len());
-    match depth {
-        Ok(deep) => {
-            put_sums(p.banks() as usize, deep as usize, mem, sums);
-            Ok(())
-        }
-        Err(r) => Err(r),
-    }
+    let deep = lent_depth(p, w, h, mem.len(), sums.len())?;
+    put_sums(p.banks() as usize, deep as usize, mem, sums);
+    Ok(())
 }
 
 // The sum that is kept of bank k, or 11, 13, 15.

@@ -5,7 +5,7 @@ ghost use Rattle.scope.specs.Calls.{lent, store, load};
 
 use crate::places::{lent_depth, word_place};
 use crate::sums::exchange;
-use scope::Plan;
+use scope::{Plan, Refusal};
 
 // Stores x at the pixel (i, j) and keeps its bank's sum, or 11, 12, 13, 14 and the memory and the sums as they were.
 pub fn store(
@@ -22,27 +22,19 @@ pub fn store(
     ensures left { lent mem.new sums.new ≡ (store p w h (lent mem.old sums.old) (at i j) x).content }
 {
     lent_depth(p, w, h, mem.len(), sums.len())?;
-    let placed = p.place(w, h, i, j);
-    match placed {
-        Ok(at) => {
-            let n = at.bank as usize;
-            let k = at.word as usize;
-            let old = mem[k];
-            mem[k] = x;
-            sums[n] = exchange(sums[n], old, x);
-            Ok(())
-        }
-        Err(r) => Err(r),
-    }
+    let at = p.place(w, h, i, j)?;
+    let n = at.bank as usize;
+    let k = at.word as usize;
+    let old = mem[k];
+    mem[k] = x;
+    sums[n] = exchange(sums[n], old, x);
+    Ok(())
 }
 
 // The word at the pixel (i, j), or 11, 12, 13, 14.
 pub fn load(p: Plan, w: u32, h: u32, mem: &[u16], i: i16, j: i16) -> Result<u16, Refusal>
     ensures { result ≡ load p w h mem.now (at i j) }
 {
-    let place = word_place(p, w, h, mem.len(), i, j);
-    match place {
-        Ok(k) => Ok(mem[k as usize]),
-        Err(r) => Err(r),
-    }
+    let k = word_place(p, w, h, mem.len(), i, j)?;
+    Ok(mem[k as usize])
 }

@@ -30,30 +30,30 @@ module _ (p : Plan) (W H : ℕ) (mem : List ℕ) (k : ℕ) where
   refused is e = gives_refusal (bank_refusal_shows p W H (length mem) k is e) Err (Ok (bank_sum p W H mem k))
 
 pub sum_words-requires : goal.sum_words-requires
-sum_words-requires c = part_at_most (bank_given c.bank_depth-depth.ensures c.in-Number.is).1
+sum_words-requires c = part_at_most (bank_given c.bank_depth-depth.ensures c.in-Ok.is).1
 
-pub returns-in-Number : goal.returns-in-Number
-returns-in-Number c = summed _ _ _ _ _ (bank_given c.bank_depth-depth.ensures c.in-Number.is) c.sum_words.ensures
+pub returns-in-Ok : goal.returns-in-Ok
+returns-in-Ok c = summed _ _ _ _ _ (bank_given c.bank_depth-depth.ensures c.in-Ok.is) c.sum_words.ensures
 
-pub returns-in-Refused : goal.returns-in-Refused
-returns-in-Refused c = refused _ _ _ _ _ c.bank_depth-depth.ensures c.in-Refused.is
+pub returns-in-Err : goal.returns-in-Err
+returns-in-Err c = refused _ _ _ _ _ c.bank_depth-depth.ensures c.in-Err.is
 
 pub overflow_mul-start : goal.overflow_mul-start
 overflow_mul-start c =
-    omega (arith, (bank_given c.bank_depth-depth.ensures c.in-Number.is).1)
+    omega (arith, (bank_given c.bank_depth-depth.ensures c.in-Ok.is).1)
 
 pub overflow_add-end : goal.overflow_add-end
 overflow_add-end c =
-    omega (arith, (bank_given c.bank_depth-depth.ensures c.in-Number.is).1)
+    omega (arith, (bank_given c.bank_depth-depth.ensures c.in-Ok.is).1)
 
 pub overflow_mul-end : goal.overflow_mul-end
 overflow_mul-end c =
-    omega (arith, (bank_given c.bank_depth-depth.ensures c.in-Number.is).1)
+    omega (arith, (bank_given c.bank_depth-depth.ensures c.in-Ok.is).1)
 
 pub offset_bounds-mem-start : goal.offset_bounds-mem-start
 offset_bounds-mem-start c =
-    omega (arith, (bank_given c.bank_depth-depth.ensures c.in-Number.is).1)
+    omega (arith, (bank_given c.bank_depth-depth.ensures c.in-Ok.is).1)
 
 pub slice_bounds-sum_words-end : goal.slice_bounds-sum_words-end
 slice_bounds-sum_words-end c =
-    omega (arith, (bank_given c.bank_depth-depth.ensures c.in-Number.is).1)
+    omega (arith, (bank_given c.bank_depth-depth.ensures c.in-Ok.is).1)

@@ -1,5 +1,6 @@
 -- `pictures::fetching::fetch_rest` meets its contract: the refusal of the first tests, that of the edge, or what is delivered.
 -- Assumes nothing.
+use mathlib.Core.Path.{◌∙◌}
 use Rattle.std.proofs.Common.{◌≡◌, ◌≤◌, length, ap}
 use mathlib.Core.Option.{none}
 use Rattle.scope.specs.Plans.{at}
@@ -9,6 +10,7 @@ use Rattle.scope.proofs.PlanFacts.{is_plan_iff}
 use Rattle.book.specs.Scan.{outcome_of}
 use Rattle.book.proofs.Outcomes.{refused_found, done_found_nothing}
 use Rattle.pictures.specs.Fetching.{found_by}
+use Rattle.checks.proofs.Chains.{handed_on}
 use Rattle.pictures.proofs.CallTests.{picture_test_iff}
 use Rattle.pictures.proofs.Deliveries.{plain_inside, rest_turned_down, rest_at_edge, rest_delivers}
 use Rattle.pictures.proofs.fetching.fetch_rest.Lts as lts
@@ -29,8 +31,10 @@ In_default-edge = lts.Past-After-enum_told2 tie.the-claims reads.Pre reads.Post
 abbrev Start : Type 0
 Start = lts.Start tie.the-claims reads.Pre reads.Post
 
-pub returns-in-Refused : goal.returns-in-Refused
-returns-in-Refused c = rest_turned_down _ _ _ _ _ _ _ _ _ _ (ap found_by c.in-Refused.is)
+pub returns-in_err-edge_outcome : goal.returns-in_err-edge_outcome
+returns-in_err-edge_outcome c =
+    handed_on _ c.from_residual.ensures
+    ∙ (rest_turned_down _ _ _ _ _ _ _ _ _ _ (ap found_by c.in_err-edge_outcome.was))
 
 -- the first tests found nothing
 module _ (c : In_default) where
@@ -38,7 +42,7 @@ module _ (c : In_default) where
   begun = c.before.before.before
 
   none_found : found_by begun.args.start ≡ none
-  none_found = ap found_by c.in_default.is
+  none_found = ap found_by c.in_ok-edge_outcome.was
 
   shown :
       let u = begun.args in
@@ -57,9 +61,10 @@ edge_outcome-edge-requires c =
     let here = (picture_test_iff _ _ _ _).0 (shown c.before).0 in
     ((is_plan_iff _).1 here.plan, here.h_side.1, (shown c.before).1)
 
-pub returns-in-Refused-edge : goal.returns-in-Refused-edge
-returns-in-Refused-edge c =
-    rest_at_edge _ _ _ _ _ _ _ _ _ (none_found c.before.before.before) _ (refused_found _ (edge-answer c.before.before) c.in-Refused-edge.is)
+pub returns-in_err-edge_outcome-edge : goal.returns-in_err-edge_outcome-edge
+returns-in_err-edge_outcome-edge c =
+    handed_on _ c.from_residual.ensures
+    ∙ (rest_at_edge _ _ _ _ _ _ _ _ _ (none_found c.before.before.before) _ (refused_found _ (edge-answer c.before.before) c.in-Err-edge.is))
 
 -- nor did the test of the edge
 none-at-edge :

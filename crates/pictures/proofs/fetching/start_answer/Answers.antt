@@ -5,15 +5,15 @@ use Rattle.pictures.specs.Fetching.{found_by}
 use Rattle.pictures.proofs.Starts.{refused_by_tested, refused_by_picture, refused_by_number, as_it_suits}
 use Rattle.pictures.proofs.fetching.start_answer.Goals as goal
 
-pub returns-in-Refused : goal.returns-in-Refused
-returns-in-Refused c =
-    let refused = c.in-Refused.is in
+pub returns-in-Err : goal.returns-in-Err
+returns-in-Err c =
+    let refused = c.in-Err.is in
     let (outcome, positions) = refused_by_tested _ _ _ _ _ _ _ (ap found_by refused) in
     (refused ∙ outcome, positions)
 
-pub returns-in-Refused-picture : goal.returns-in-Refused-picture
-returns-in-Refused-picture c =
-    let refused = c.in-Refused-picture.is in
+pub returns-in-Err-picture : goal.returns-in-Err-picture
+returns-in-Err-picture c =
+    let refused = c.in-Err-picture.is in
     let tested = ap found_by c.in_default.is in
     let (outcome, positions) = refused_by_picture _ _ _ _ _ _ _ tested (ap found_by refused) in
     (refused ∙ outcome, positions)

@@ -52,12 +52,12 @@ module _ (p : Plan) (W H words k : ℕ) where
 
 pub returns-then-banks-k : goal.returns-then-banks-k
 returns-then-banks-k c =
-    no-such-bank _ _ _ _ _ c.picture_depth-answer.ensures c.in-Number.is c.banks.ensures
+    no-such-bank _ _ _ _ _ c.picture_depth-answer.ensures c.in-Ok.is c.banks.ensures
     c.if-banks-k.true
 
 pub returns-else-banks-k : goal.returns-else-banks-k
 returns-else-banks-k c =
-    bank-there _ _ _ _ _ c.picture_depth-answer.ensures c.in-Number.is c.banks.ensures
+    bank-there _ _ _ _ _ c.picture_depth-answer.ensures c.in-Ok.is c.banks.ensures
     c.if-banks-k.false
 
 pub returns-in_default : goal.returns-in_default

@@ -52,11 +52,11 @@ module _ (p : Plan) (W H : ℕ) (s : Size) {answer : Result ℕ Refusal} (is : a
 
 pub returns-then-entries-banks : goal.returns-then-entries-banks
 returns-then-entries-banks c =
-    too_few _ _ _ _ c.picture_depth-answer.ensures c.in-Number.is c.banks.ensures c.if-entries-banks.true
+    too_few _ _ _ _ c.picture_depth-answer.ensures c.in-Ok.is c.banks.ensures c.if-entries-banks.true
 
 pub returns-else-entries-banks : goal.returns-else-entries-banks
 returns-else-entries-banks c =
-    enough-sums _ _ _ _ c.picture_depth-answer.ensures c.in-Number.is c.banks.ensures c.if-entries-banks.false
+    enough-sums _ _ _ _ c.picture_depth-answer.ensures c.in-Ok.is c.banks.ensures c.if-entries-banks.false
 
 pub returns-in_default : goal.returns-in_default
 returns-in_default c = no-picture _ _ _ _ c.picture_depth-answer.ensures _ c.in_default.is

@@ -81,13 +81,13 @@ module _ (p : Plan) (W H words : ℕ) where
           ∙ sym (given (past-depth ∙ (memory_decides p W H words).passes (omega (arith, count-is))))
 
 pub overflow_mul-banks : goal.overflow_mul-banks
-overflow_mul-banks c = omega (arith, words-at-most _ _ _ c.args.words c.depth-answer.ensures c.in-Number.is c.banks.ensures)
+overflow_mul-banks c = omega (arith, words-at-most _ _ _ c.args.words c.depth-answer.ensures c.in-Ok.is c.banks.ensures)
 
 pub returns-then-words-banks : goal.returns-then-words-banks
-returns-then-words-banks c = memory-short _ _ _ _ c.depth-answer.ensures c.in-Number.is c.banks.ensures c.if-words-banks.true
+returns-then-words-banks c = memory-short _ _ _ _ c.depth-answer.ensures c.in-Ok.is c.banks.ensures c.if-words-banks.true
 
 pub returns-else-words-banks : goal.returns-else-words-banks
-returns-else-words-banks c = memory-enough _ _ _ _ c.depth-answer.ensures c.in-Number.is c.banks.ensures c.if-words-banks.false
+returns-else-words-banks c = memory-enough _ _ _ _ c.depth-answer.ensures c.in-Ok.is c.banks.ensures c.if-words-banks.false
 
 pub returns-in_default : goal.returns-in_default
 returns-in_default c = no-depth _ _ _ _ c.depth-answer.ensures _ c.in_default.is

@@ -1,6 +1,7 @@
 -- `pictures::places::word_place` meets its contract: 11, 12, 13 are the picture's, and then only 14 is left of the plan's own
 -- tests for a word.
 -- Assumes nothing.
+use mathlib.Core.Path.{◌∙◌}
 use Rattle.std.specs.Prelude.{Ok, Err}
 use Rattle.std.proofs.Common.{◌≡◌, ℕ, [], ◌∷◌, ap, ◌∙◌}
 use mathlib.Core.Option.{Option, none, some}
@@ -13,7 +14,7 @@ use Rattle.scope.specs.declared.Plan.{Plan}
 use Rattle.scope.specs.declared.Refusal.{Refusal}
 use Rattle.scope.proofs.PlanFacts.{pixel_handed}
 use Rattle.book.proofs.Outcomes.{done_found_nothing, refused_found}
-use Rattle.checks.proofs.Chains.{chain_refuses, gives_refusal}
+use Rattle.checks.proofs.Chains.{handed_on, chain_refuses, gives_refusal}
 use Rattle.pictures.specs.Places.{word_place}
 use Rattle.pictures.proofs.CallTests.{picture_test_iff}
 use Rattle.pictures.proofs.PictureTests.{only_outside}
@@ -39,12 +40,13 @@ module _ (p : Plan) (W H words : ℕ) (v : Pixel) where
     unfolding word word_place
     word-is-place = ap (λ (t : Option Refusal). answered t Err (Ok (word_of p W H v))) tests_same
 
-pub returns-in-Refused : goal.returns-in-Refused
-returns-in-Refused c =
-    no-picture _ _ _ _ _ (refused_found _ c.picture_outcome.ensures c.in-Refused.is)
+pub returns-in_err-picture_outcome : goal.returns-in_err-picture_outcome
+returns-in_err-picture_outcome c =
+    handed_on _ c.from_residual.ensures
+    ∙ (no-picture _ _ _ _ _ (refused_found _ c.picture_outcome.ensures c.in_err-picture_outcome.was))
 
 pub returns : goal.returns
 returns c =
     c.word.ensures
     ∙ ap (word _ _ _) (pixel_handed c.ranges.i c.ranges.j)
-    ∙ word-is-place _ _ _ _ _ (done_found_nothing _ c.picture_outcome.ensures c.in_default.is)
+    ∙ word-is-place _ _ _ _ _ (done_found_nothing _ c.picture_outcome.ensures c.in_ok-picture_outcome.was)

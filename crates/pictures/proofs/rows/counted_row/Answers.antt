@@ -6,9 +6,9 @@ use Rattle.pictures.specs.Lists.{answer_numbers}
 use Rattle.pictures.proofs.ReplyRows.{same_row}
 use Rattle.pictures.proofs.rows.counted_row.Goals as goal
 
-pub returns-in-Number : goal.returns-in-Number
+pub returns-in-Ok : goal.returns-in-Ok
 unfolding answer_numbers
-returns-in-Number c = c.value_row.ensures ∙ same_row of_result (λ n. n ∷ []) c.in-Number.is
+returns-in-Ok c = c.value_row.ensures ∙ same_row of_result (λ n. n ∷ []) c.in-Ok.is
 
-pub returns-in-Refused : goal.returns-in-Refused
-returns-in-Refused c = c.refusal_row.ensures (λ n. n ∷ []) ∙ same_row of_result (λ n. n ∷ []) c.in-Refused.is
+pub returns-in-Err : goal.returns-in-Err
+returns-in-Err c = c.refusal_row.ensures (λ n. n ∷ []) ∙ same_row of_result (λ n. n ∷ []) c.in-Err.is

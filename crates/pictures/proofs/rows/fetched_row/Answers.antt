@@ -12,11 +12,11 @@ use Rattle.pictures.proofs.rows.fetched_row.Goals as goal
 abbrev told : ℕ → List ℕ → Result ℕ Refusal → Answer ℕ
 told r positions counted = with_positions (take (suc r) positions) (of_result counted)
 
-pub returns-in-Number : goal.returns-in-Number
+pub returns-in-Ok : goal.returns-in-Ok
 unfolding answer_numbers
-returns-in-Number c =
-    c.value_row.ensures ∙ same_row (told c.args.r c.args.a.positions) (λ n. n ∷ []) c.in-Number.is
+returns-in-Ok c =
+    c.value_row.ensures ∙ same_row (told c.args.r c.args.a.positions) (λ n. n ∷ []) c.in-Ok.is
 
-pub returns-in-Refused : goal.returns-in-Refused
-returns-in-Refused c =
-    c.clash_row.ensures (λ n. n ∷ []) ∙ same_row (told c.args.r c.args.a.positions) (λ n. n ∷ []) c.in-Refused.is
+pub returns-in-Err : goal.returns-in-Err
+returns-in-Err c =
+    c.clash_row.ensures (λ n. n ∷ []) ∙ same_row (told c.args.r c.args.a.positions) (λ n. n ∷ []) c.in-Err.is

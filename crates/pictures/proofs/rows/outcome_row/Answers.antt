@@ -6,10 +6,10 @@ use Rattle.pictures.specs.Lists.{answer_numbers, twelve}
 use Rattle.pictures.proofs.ReplyRows.{same_row}
 use Rattle.pictures.proofs.rows.outcome_row.Goals as goal
 
-pub returns-in-Done : goal.returns-in-Done
+pub returns-in-Ok : goal.returns-in-Ok
 unfolding twelve answer_numbers
-returns-in-Done c = same_row of_result (λ x. []) c.in-Done.is
+returns-in-Ok c = same_row of_result (λ x. []) c.in-Ok.is
 
-pub returns-in-Refused : goal.returns-in-Refused
+pub returns-in-Err : goal.returns-in-Err
 unfolding answer_numbers
-returns-in-Refused c = c.refusal_row.ensures (λ x. []) ∙ same_row of_result (λ x. []) c.in-Refused.is
+returns-in-Err c = c.refusal_row.ensures (λ x. []) ∙ same_row of_result (λ x. []) c.in-Err.is

@@ -50,14 +50,14 @@ module _ (p : Plan) (W H : ℕ) (l : Lent) {asked : Result ℕ Refusal} (is : as
 
 pub put_sums-requires : goal.put_sums-requires
 put_sums-requires c =
-    banks-there _ _ _ (lent c.args.mem.now c.args.sums.now) c.lent_depth-depth.ensures c.in-Number.is c.banks.ensures
+    banks-there _ _ _ (lent c.args.mem.now c.args.sums.now) c.lent_depth-depth.ensures c.in-Ok.is c.banks.ensures
 
-pub returns-in-Number : goal.returns-in-Number
-returns-in-Number c =
-    let (answer, left) = made _ _ _ (lent c.args.mem.now c.args.sums.now) c.lent_depth-depth.ensures c.in-Number.is c.banks.ensures c.put_sums.ensures in
+pub returns-in-Ok : goal.returns-in-Ok
+returns-in-Ok c =
+    let (answer, left) = made _ _ _ (lent c.args.mem.now c.args.sums.now) c.lent_depth-depth.ensures c.in-Ok.is c.banks.ensures c.put_sums.ensures in
     record { answer = answer; left = left }
 
-pub returns-in-Refused : goal.returns-in-Refused
-returns-in-Refused c =
-    let (answer, left) = refused _ _ _ (lent c.args.mem.now c.args.sums.now) c.lent_depth-depth.ensures c.in-Refused.is in
+pub returns-in-Err : goal.returns-in-Err
+returns-in-Err c =
+    let (answer, left) = refused _ _ _ (lent c.args.mem.now c.args.sums.now) c.lent_depth-depth.ensures c.in-Err.is in
     record { answer = answer; left = left }

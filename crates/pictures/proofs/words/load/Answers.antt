@@ -25,18 +25,18 @@ module _ (p : Plan) (W H : ℕ) (mem : List ℕ) (v : Pixel) where
   unfolding load
   refused handed is e = gives_refusal (place_refusal_shows p W H (length mem) handed is e) Err (Ok (word_in p W H mem v))
 
-pub returns-in-Number : goal.returns-in-Number
-returns-in-Number c = loaded _ _ _ _ _ (place_in _ _ _ _ (pixel_handed c.ranges.i c.ranges.j) c.word_place-place.ensures c.in-Number.is)
+pub returns-in-Ok : goal.returns-in-Ok
+returns-in-Ok c = loaded _ _ _ _ _ (place_in _ _ _ _ (pixel_handed c.ranges.i c.ranges.j) c.word_place-place.ensures c.in-Ok.is)
 
-pub returns-in-Refused : goal.returns-in-Refused
-returns-in-Refused c =
+pub returns-in-Err : goal.returns-in-Err
+returns-in-Err c =
     let f = c.ranges in
-    refused _ _ _ _ _ (pixel_handed f.i f.j) c.word_place-place.ensures c.in-Refused.is
+    refused _ _ _ _ _ (pixel_handed f.i f.j) c.word_place-place.ensures c.in-Err.is
 
 pub offset_bounds-mem-k : goal.offset_bounds-mem-k
 offset_bounds-mem-k c =
-    omega (arith, place_in _ _ _ _ (pixel_handed c.ranges.i c.ranges.j) c.word_place-place.ensures c.in-Number.is)
+    omega (arith, place_in _ _ _ _ (pixel_handed c.ranges.i c.ranges.j) c.word_place-place.ensures c.in-Ok.is)
 
 pub bounds-mem-k : goal.bounds-mem-k
 bounds-mem-k c =
-    (place_in _ _ _ _ (pixel_handed c.ranges.i c.ranges.j) c.word_place-place.ensures c.in-Number.is).in_memory
+    (place_in _ _ _ _ (pixel_handed c.ranges.i c.ranges.j) c.word_place-place.ensures c.in-Ok.is).in_memory

@@ -1,5 +1,6 @@
 -- `pictures::words::store` meets its contract: the tests come with the place, where the word is put and its bank's sum is kept.
 -- Assumes nothing.
+use mathlib.Core.Path.{◌∙◌}
 use Rattle.std.specs.Prelude.{Result, Ok, Err}
 use Rattle.std.proofs.Common.{◌≡◌, ℕ, ◌<◌, [], ◌∷◌, length, get_or, set, sym, refl, ap, ◌∙◌, ap₂, arith}
 use mathlib.Core.Option.{Option, none, some}
@@ -13,7 +14,7 @@ use Rattle.scope.specs.declared.Plan.{Plan}
 use Rattle.scope.specs.declared.Place.{Place}
 use Rattle.scope.specs.declared.Refusal.{Refusal}
 use Rattle.scope.proofs.PlanFacts.{pixel_handed}
-use Rattle.checks.proofs.Chains.{Gives, chain_refuses}
+use Rattle.checks.proofs.Chains.{handed_on, Gives, chain_refuses}
 use Rattle.lattice.proofs.SameBank.{banks_are_classes}
 use Rattle.lattice.proofs.Words.{pixels_have_words}
 use Rattle.pictures.specs.Places.{lent_depth}
@@ -123,41 +124,43 @@ module _ (p : Plan) (W H : ℕ) (l : Lent) (v : Pixel) (x : ℕ) where
         unfolding store
         done sum_is_lem = leaves_written passed l stored (ap₂ lent memory-is (sums-are sum_is_lem))
 
-pub returns-in-Refused : goal.returns-in-Refused
-returns-in-Refused c =
-    let (answer, left) = no-picture _ _ _ (lent c.args.mem.now c.args.sums.now) _ c.args.x c.lent_depth.ensures c.in-Refused.is in
-    record { answer = answer; left = left }
+pub returns-in_err-lent_depth : goal.returns-in_err-lent_depth
+returns-in_err-lent_depth c =
+    handed_on _ c.from_residual.ensures
+    ∙ (let (answer, left) = no-picture _ _ _ (lent c.args.mem.now c.args.sums.now) _ c.args.x c.lent_depth.ensures c.in_err-lent_depth.was in
+    record { answer = answer; left = left })
 
 pub returns-in-At : goal.returns-in-At
 returns-in-At c =
-    let (answer, left) = done _ _ _ (lent c.args.mem.now c.args.sums.now) _ c.args.x c.lent_depth.ensures c.in_default.is (pixel_handed c.ranges.i c.ranges.j) c.place-placed.ensures c.in-At.is c.exchange.ensures in
+    let (answer, left) = done _ _ _ (lent c.args.mem.now c.args.sums.now) _ c.args.x c.lent_depth.ensures c.in_ok-lent_depth.was (pixel_handed c.ranges.i c.ranges.j) c.place-placed.ensures c.in-At.is c.exchange.ensures in
     record { answer = answer; left = left }
 
-pub returns-in-Refused-placed : goal.returns-in-Refused-placed
-returns-in-Refused-placed c =
-    let (answer, left) = outside _ _ _ (lent c.args.mem.now c.args.sums.now) _ c.args.x c.lent_depth.ensures c.in_default.is (pixel_handed c.ranges.i c.ranges.j) c.place-placed.ensures c.in-Refused-placed.is in
-    record { answer = answer; left = left }
+pub returns-in_err-lent_depth-placed : goal.returns-in_err-lent_depth-placed
+returns-in_err-lent_depth-placed c =
+    handed_on _ c.from_residual.ensures
+    ∙ (let (answer, left) = outside _ _ _ (lent c.args.mem.now c.args.sums.now) _ c.args.x c.lent_depth.ensures c.in_ok-lent_depth.was (pixel_handed c.ranges.i c.ranges.j) c.place-placed.ensures c.in-Err-placed.is in
+    record { answer = answer; left = left })
 
 pub offset_bounds-mem-k : goal.offset_bounds-mem-k
-offset_bounds-mem-k c = omega (arith, in_memory _ _ _ (lent c.args.mem.now c.args.sums.now) _ c.args.x c.lent_depth.ensures c.in_default.is (pixel_handed c.ranges.i c.ranges.j) c.place-placed.ensures c.in-At.is)
+offset_bounds-mem-k c = omega (arith, in_memory _ _ _ (lent c.args.mem.now c.args.sums.now) _ c.args.x c.lent_depth.ensures c.in_ok-lent_depth.was (pixel_handed c.ranges.i c.ranges.j) c.place-placed.ensures c.in-At.is)
 
 pub bounds-mem-k : goal.bounds-mem-k
-bounds-mem-k c = in_memory _ _ _ (lent c.args.mem.now c.args.sums.now) _ c.args.x c.lent_depth.ensures c.in_default.is (pixel_handed c.ranges.i c.ranges.j) c.place-placed.ensures c.in-At.is
+bounds-mem-k c = in_memory _ _ _ (lent c.args.mem.now c.args.sums.now) _ c.args.x c.lent_depth.ensures c.in_ok-lent_depth.was (pixel_handed c.ranges.i c.ranges.j) c.place-placed.ensures c.in-At.is
 
 pub offset_bounds-mem-k-in-At : goal.offset_bounds-mem-k-in-At
-offset_bounds-mem-k-in-At c = omega (arith, in_memory _ _ _ (lent c.args.mem.now c.args.sums.now) _ c.args.x c.lent_depth.ensures c.in_default.is (pixel_handed c.ranges.i c.ranges.j) c.place-placed.ensures c.in-At.is)
+offset_bounds-mem-k-in-At c = omega (arith, in_memory _ _ _ (lent c.args.mem.now c.args.sums.now) _ c.args.x c.lent_depth.ensures c.in_ok-lent_depth.was (pixel_handed c.ranges.i c.ranges.j) c.place-placed.ensures c.in-At.is)
 
 pub bounds-mem-k-in-At : goal.bounds-mem-k-in-At
-bounds-mem-k-in-At c = in_memory _ _ _ (lent c.args.mem.now c.args.sums.now) _ c.args.x c.lent_depth.ensures c.in_default.is (pixel_handed c.ranges.i c.ranges.j) c.place-placed.ensures c.in-At.is
+bounds-mem-k-in-At c = in_memory _ _ _ (lent c.args.mem.now c.args.sums.now) _ c.args.x c.lent_depth.ensures c.in_ok-lent_depth.was (pixel_handed c.ranges.i c.ranges.j) c.place-placed.ensures c.in-At.is
 
 pub offset_bounds-sums-n : goal.offset_bounds-sums-n
-offset_bounds-sums-n c = omega (arith, in-sums _ _ _ (lent c.args.mem.now c.args.sums.now) _ c.args.x c.lent_depth.ensures c.in_default.is (pixel_handed c.ranges.i c.ranges.j) c.place-placed.ensures c.in-At.is)
+offset_bounds-sums-n c = omega (arith, in-sums _ _ _ (lent c.args.mem.now c.args.sums.now) _ c.args.x c.lent_depth.ensures c.in_ok-lent_depth.was (pixel_handed c.ranges.i c.ranges.j) c.place-placed.ensures c.in-At.is)
 
 pub bounds-sums-n : goal.bounds-sums-n
-bounds-sums-n c = in-sums _ _ _ (lent c.args.mem.now c.args.sums.now) _ c.args.x c.lent_depth.ensures c.in_default.is (pixel_handed c.ranges.i c.ranges.j) c.place-placed.ensures c.in-At.is
+bounds-sums-n c = in-sums _ _ _ (lent c.args.mem.now c.args.sums.now) _ c.args.x c.lent_depth.ensures c.in_ok-lent_depth.was (pixel_handed c.ranges.i c.ranges.j) c.place-placed.ensures c.in-At.is
 
 pub offset_bounds-sums-n-in-At : goal.offset_bounds-sums-n-in-At
-offset_bounds-sums-n-in-At c = omega (arith, in-sums _ _ _ (lent c.args.mem.now c.args.sums.now) _ c.args.x c.lent_depth.ensures c.in_default.is (pixel_handed c.ranges.i c.ranges.j) c.place-placed.ensures c.in-At.is)
+offset_bounds-sums-n-in-At c = omega (arith, in-sums _ _ _ (lent c.args.mem.now c.args.sums.now) _ c.args.x c.lent_depth.ensures c.in_ok-lent_depth.was (pixel_handed c.ranges.i c.ranges.j) c.place-placed.ensures c.in-At.is)
 
 pub bounds-sums-n-in-At : goal.bounds-sums-n-in-At
-bounds-sums-n-in-At c = in-sums _ _ _ (lent c.args.mem.now c.args.sums.now) _ c.args.x c.lent_depth.ensures c.in_default.is (pixel_handed c.ranges.i c.ranges.j) c.place-placed.ensures c.in-At.is
+bounds-sums-n-in-At c = in-sums _ _ _ (lent c.args.mem.now c.args.sums.now) _ c.args.x c.lent_depth.ensures c.in_ok-lent_depth.was (pixel_handed c.ranges.i c.ranges.j) c.place-placed.ensures c.in-At.is
