@@ -10,11 +10,7 @@ use scope::{Plan, Refusal};
 fn clear_words(words: &mut [u16])
     ensures { words.new ≡ replicate (length words.old) 0 }
 {
-    let mut e = 0;
-    while e < words.len() {
-        words[e] = 0;
-        e += 1;
-    }
+    words.fill(0);
 }
 
 // Clears bank k and its sum, or 11, 12, 13, 15 and the memory and the sums as they were.
@@ -38,13 +34,7 @@ pub(crate) fn sum_words(words: &[u16]) -> u64
     requires { length words.now ≤ 16777216 }
     ensures { result ≡ foldr ◌+◌ 0 words.now }
 {
-    let mut total = 0u64;
-    let mut n = 0;
-    while n < words.len() {
-        total += words[n] as u64;
-        n += 1;
-    }
-    total
+    words.iter().map(|word| *word as u64).sum()
 }
 
 // The sum of bank k's words, or 11, 12, 13, 15.
