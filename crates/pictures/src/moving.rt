@@ -40,15 +40,13 @@ pub(crate) fn all_inside(t: Pattern, w: u32, h: u32, i: i16, j: i16) -> bool
     requires { t.used ≤ 64 }
     ensures { result ≡ every (inside w h) (moved t (at i j)) }
 {
-    let mut e = 0;
-    while e < t.used {
+    for e in 0..t.used {
         if !is_within(i, t.columns[e], w) {
             return false;
         }
         if !is_within(j, t.rows[e], h) {
             return false;
         }
-        e += 1;
     }
     true
 }
@@ -80,12 +78,10 @@ fn find_places(
     requires { (picture_test p w h words ≡ none) × (t.used ≤ 64) × (length places.old ≡ 64) × (ring ≡ false → every (inside w h) (moved t (at i j)) ≡ true) }
     ensures { (e : ℕ) → e < t.used → slice_index places.new e ≡ word_of p w h (wrapped w h (plus (at i j) (pixel_at t e))) }
 {
-    let mut e = 0;
-    while e < t.used {
+    for e in 0..t.used {
         let x = wrapped_to(ring, i, t.columns[e], w);
         let y = wrapped_to(ring, j, t.rows[e], h);
         places[e] = place_at(p, w, h, words, x, y);
-        e += 1;
     }
 }
 
@@ -108,10 +104,8 @@ pub(crate) fn put_words(
     let used = t.used;
     let mut places = [0usize; 64];
     find_places(ring, t, p, w, h, mem.len(), i, j, &mut places);
-    let mut e = 0;
-    while e < used {
+    for e in 0..used {
         let k = places[e];
         out[e] = mem[k];
-        e += 1;
     }
 }

@@ -27,7 +27,7 @@ shown :
 shown x z side h e = sym (rw (number_handed w8 h) at e)
 
 pub loop-e-init : goal.loop-e-init
-loop-e-init c = (omega arith, none_inside _ _ _ _)
+loop-e-init c = none_inside _ _ _ _
 
 pub returns-then-not-is_within : goal.returns-then-not-is_within
 unfolding at
@@ -45,15 +45,13 @@ returns-then-not-is_within-2 c =
 
 pub loop-e-preserved : goal.loop-e-preserved
 unfolding at
-loop-e-preserved c = (
-  omega arith,
-  one_more_inside _ _ _ _ c.loop-e.e c.loop-e.invariant.1
-      (shown (to_z w16 (of_z w16 c.args.i)) (get_or c.args.t.columns c.loop-e.e (pos 0)) c.args.w c.is_within-arg-1.given c.is_within.ensures ∙ c.if-not-is_within.false)
-      (shown (to_z w16 (of_z w16 c.args.j)) (get_or c.args.t.rows c.loop-e.e (pos 0)) c.args.h c.is_within-arg-in-loop-e-1.given c.is_within-in-loop-e.ensures ∙ c.if-not-is_within-2.false),
-)
+loop-e-preserved c =
+    one_more_inside _ _ _ _ c.loop-e.e c.loop-e.invariant
+    (shown (to_z w16 (of_z w16 c.args.i)) (get_or c.args.t.columns c.loop-e.e (pos 0)) c.args.w c.is_within-arg-1.given c.is_within.ensures ∙ c.if-not-is_within.false)
+    (shown (to_z w16 (of_z w16 c.args.j)) (get_or c.args.t.rows c.loop-e.e (pos 0)) c.args.h c.is_within-arg-in-loop-e-1.given c.is_within-in-loop-e.ensures ∙ c.if-not-is_within-2.false)
 
 pub returns : goal.returns
 unfolding at
 returns c =
     let done : c.loop-e.e ≡ c.args.t.used = omega arith in
-    answers _ _ _ c.ranges.i c.ranges.j (every_inside _ _ _ _ (rw done at c.loop-e.invariant.1))
+    answers _ _ _ c.ranges.i c.ranges.j (every_inside _ _ _ _ (rw done at c.loop-e.invariant))

@@ -36,8 +36,7 @@ pixel-is i j t w h e fi fj fx fy column row =
     (record { sfits = fy }) column row
 
 pub loop-e-init : goal.loop-e-init
-loop-e-init c =
-    (omega arith, filled_none _)
+loop-e-init c = filled_none _
 
 pub wrapped_to-x-requires : goal.wrapped_to-x-requires
 wrapped_to-x-requires c =
@@ -72,10 +71,10 @@ loop-e-preserved c =
     let is =
     pixel-is c.args.i c.args.j c.args.t c.args.w c.args.h c.loop-e.e c.wrapped_to-arg-1.given c.wrapped_to-arg-in-loop-e-1.given
     c.wrapped_to-x.type_inv c.wrapped_to-y.type_inv c.wrapped_to-x.ensures c.wrapped_to-y.ensures in
-    (omega arith, filled_more c.loop-e.invariant.1 (c.place_at.ensures ∙ ap (word_of c.args.p c.args.w c.args.h) is))
+    filled_more c.loop-e.invariant (c.place_at.ensures ∙ ap (word_of c.args.p c.args.w c.args.h) is)
 
 pub returns : goal.returns
 unfolding at
 returns c e h =
     rw (position_handed c.ranges.i c.ranges.j)
-    at (c.loop-e.invariant.1.new e (omega arith) (omega (arith, c.loop-e.invariant.1.size, c.requires)))
+    at (c.loop-e.invariant.new e (omega arith) (omega (arith, c.loop-e.invariant.size, c.requires)))

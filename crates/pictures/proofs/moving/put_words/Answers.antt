@@ -50,22 +50,15 @@ turn-in-memory :
     → get_or (places c.before.before) c.loop-e.e 0 < length (start c.before.before).args.mem.now
 turn-in-memory c = in_memory c.before.before c.loop-e.e c.loop-e-test.true
 
-pub offset_bounds-mem-k : goal.offset_bounds-mem-k
-offset_bounds-mem-k c = omega (arith, turn-in-memory c.before)
-
-pub bounds-out-e : goal.bounds-out-e
-bounds-out-e c =
-    omega (arith, c.loop-e.invariant.1.same_length, (start c.before.before.before.before).requires.2)
-
 pub loop-e-preserved : goal.loop-e-preserved
 loop-e-preserved c =
-    (omega arith, one_more_word (start c.before.before.before.before).args.mem.now (places c.before.before.before.before) c.loop-e.e c.loop-e.invariant.1 (omega (arith, (start c.before.before.before.before).requires.2)))
+    one_more_word (start c.before.before.before.before).args.mem.now (places c.before.before.before.before) c.loop-e.e c.loop-e.invariant (omega (arith, (start c.before.before.before.before).requires.2))
 
 pub returns : goal.returns
 returns c =
     let u = (start c.before.before.before).args in
     let done : c.loop-e.e ≡ u.t.used = omega arith in
-    rw done at c.loop-e.invariant.1.is
+    rw done at c.loop-e.invariant.is
     ∙ ap (λ (xs : List ℕ). over_start xs u.out.now) (words_at_places u.mem.now (places c.before.before.before) _ _ _ _ _ (place_is c.before.before.before))
 
 pub find_places-requires : goal.find_places-requires
@@ -74,16 +67,12 @@ find_places-requires c =
 
 pub loop-e-init : goal.loop-e-init
 loop-e-init c =
-    (omega arith, no_words (start c.before).args.mem.now (places c.before) _)
-
-pub bounds-places-e : goal.bounds-places-e
-bounds-places-e c =
-    omega (arith, (start c.before.before.before).requires.1)
+    no_words (start c.before).args.mem.now (places c.before) _
 
 pub bounds-mem-k : goal.bounds-mem-k
 bounds-mem-k c =
     turn-in-memory c.before.before
 
-pub shape_of-out : goal.shape_of-out
-shape_of-out c =
-    c.loop-e.invariant.1.same_length
+pub offset_bounds-mem-k : goal.offset_bounds-mem-k
+offset_bounds-mem-k c =
+    omega (arith, turn-in-memory c.before)
