@@ -100,9 +100,5 @@ pub(crate) fn put_row(row: [u64; 12], out: &mut [u64])
     requires { (length row ≡ 12) × (12 ≤ length out.old) }
     ensures { out.new ≡ over_start row out.old }
 {
-    let mut e = 0;
-    while e < 12 {
-        out[e] = row[e];
-        e += 1;
-    }
+    out[..12].copy_from_slice(&row);
 }
