@@ -21,12 +21,10 @@ fn put_sums(n: usize, deep: usize, mem: &[u16], sums: &mut [u64])
     requires { (n * deep ≤ length mem.now) × (n ≤ length sums.old) × (n ≤ 1024) × (deep ≤ 16777216) }
     ensures { sums.new ≡ sums_over n deep mem.now sums.old }
 {
-    let mut k = 0;
-    while k < n {
+    for k in 0..n {
         let start = k * deep;
         let end = (k + 1) * deep;
         sums[k] = sum_words(&mem[start..end]);
-        k += 1;
     }
 }
 

@@ -1,6 +1,6 @@
 -- `pictures::sums::put_sums` meets its contract. The loop's invariant: the sums of the first k banks are put.
 -- Assumes nothing.
-use Rattle.std.proofs.Common.{◌≡◌, ℕ, suc, ◌+◌, ◌-◌, ◌*◌, ◌<◌, ◌≤◌, List, [], ◌∷◌, ◌++◌, length, take, drop, set, sym, refl, ap, ◌∙◌, mul-le-mul_right, mul-le-mul, zero-add, arith, length-take}
+use Rattle.std.proofs.Common.{◌≡◌, ℕ, suc, ◌+◌, ◌-◌, ◌*◌, ◌<◌, ◌≤◌, List, [], ◌∷◌, ◌++◌, length, take, drop, set, sym, refl, ap, ◌∙◌, zero-add, arith, length-take}
 use native.Mathlib.Nat.{min-le_left}
 use mathlib.Core.List.{foldr}
 use Rattle.scope.specs.Search.{gather}
@@ -47,48 +47,14 @@ module _ (deep : ℕ) (mem : List ℕ) (k : ℕ) where
 
 pub loop-k-init : goal.loop-k-init
 unfolding gather
-loop-k-init c = (omega arith, nothing_yet _)
-
--- in a turn the bank is in the memory
-end-in-memory : (k n deep : ℕ) {most : ℕ} → k < n → n * deep ≤ most → (k + 1) * deep ≤ most
-end-in-memory k n deep below fits = let h : (k + 1) * deep ≤ n * deep = mul-le-mul_right deep (omega arith) in omega arith
-
-end-small : (k n deep : ℕ) → k < n → n ≤ 1024 → deep ≤ 16777216 → (k + 1) * deep ≤ 17179869184
-end-small k n deep below banks most = mul-le-mul {n₁ = k + 1} {m₁ = deep} {n₂ = 1024} {m₂ = 16777216} (omega arith) most
-
-pub bounds-sums-k : goal.bounds-sums-k
-bounds-sums-k c = omega (arith, c.loop-k-test.true, c.requires.1, c.loop-k.invariant.1.same_length)
+loop-k-init c = nothing_yet _
 
 pub loop-k-preserved : goal.loop-k-preserved
 loop-k-preserved c =
-    let l = c.loop-k in
-    let below : l.k < c.args.n = c.loop-k-test.true in
-    let there : l.k < length l.sums = omega (arith, c.requires.1, l.invariant.1.same_length) in
-    (omega arith, one_more _ _ _ l.invariant.1 there c.sum_words.ensures)
-
-pub overflow_mul-start : goal.overflow_mul-start
-overflow_mul-start c = omega (arith, end-small c.loop-k.k c.args.n c.args.deep c.loop-k-test.true c.requires.2 c.requires.3)
-
-pub overflow_mul-end : goal.overflow_mul-end
-overflow_mul-end c = omega (arith, end-small c.loop-k.k c.args.n c.args.deep c.loop-k-test.true c.requires.2 c.requires.3)
-
-pub offset_bounds-mem-start : goal.offset_bounds-mem-start
-offset_bounds-mem-start c = omega (arith, end-small c.loop-k.k c.args.n c.args.deep c.loop-k-test.true c.requires.2 c.requires.3)
-
-pub overflow_add-end : goal.overflow_add-end
-overflow_add-end c = omega (arith, c.loop-k-test.true, c.requires.2)
-
-pub overflow_add-k : goal.overflow_add-k
-overflow_add-k c = omega (arith, c.loop-k-test.true, c.requires.2)
-
-pub slice_bounds-sum_words-end : goal.slice_bounds-sum_words-end
-slice_bounds-sum_words-end c = end-in-memory c.loop-k.k c.args.n c.args.deep c.loop-k-test.true c.requires.0
+    one_more _ _ _ c.loop-k.invariant (omega arith) c.sum_words.ensures
 
 pub sum_words-requires : goal.sum_words-requires
 sum_words-requires c = part-at-most _ _ c.loop-k.k c.requires.3
 
-pub shape_of-sums : goal.shape_of-sums
-shape_of-sums c = c.loop-k.invariant.1.same_length
-
 pub returns : goal.returns
-returns c = all-put _ _ _ c.loop-k.invariant.1 (omega (arith, c.loop-k.invariant.0))
+returns c = all-put _ _ _ c.loop-k.invariant (omega arith)
