@@ -2,11 +2,10 @@
 -- Assumes nothing.
 use Prim.Native.Nat.{ℕ, ◌+◌, ◌-◌, ◌/◌, ◌≤◌, ◌<◌}
 use native.Mathlib.Omega.{arith}
-use native.Mathlib.Numerals.{add-one}
 use mathlib.Core.Path.{◌≡◌, refl, sym, ◌∙◌, ap}
 use mathlib.Core.List.{List, [], ◌∷◌, ◌++◌, foldr, append_assoc, append-nil}
-use lib.ListN.{length, get_or, take, drop, set, length-append, length-take, length-drop, take-append-drop}
-use lib.Seq.{take-suc, drop-drop}
+use lib.ListN.{length, take, drop, set, length-append, length-take, length-drop, take-append-drop}
+use lib.Seq.{drop-drop}
 use Rattle.scope.specs.Banks.{over_start}
 use Rattle.scope.specs.Program.{decimal}
 use Rattle.checks.proofs.Outputs.{Put, one_more_put, part_put, over_start_first, over_start_rest, over_start_length}
@@ -46,14 +45,6 @@ module _
           place = sym length_one_more;
           put = one_more_put p.put at b p.place (omega (arith, length_one_more));
         }
-
--- One more byte of s.
-pub next_byte_put :
-    {before out : List ℕ} (s : List ℕ) (i : ℕ) → PutTo (take i s) i before out → i < length s → length s ≤ length before
-    → PutTo (take (i + 1) s) (i + 1) before (set out i (get_or s i 0))
-next_byte_put s i p h room =
-    let longer : take (i + 1) s ≡ take i s ++ (get_or s i 0 ∷ []) = rw (add-one i) (take-suc s i 0 h) in
-    rw longer (byte_put p (get_or s i 0) (rw (← longer) (simp length-take (omega arith))))
 
 -- The parts one after the other.
 abbrev pub joined : List (List ℕ) → List ℕ

@@ -13,12 +13,8 @@ fn put_bytes(s: &[u8], out: &mut [u8]) -> usize
     requires { length s.now ≤ length out.old }
     ensures { (result ≡ length s.now) × (out.new ≡ over_start s.now out.old) }
 {
-    let mut i = 0;
-    while i < s.len() {
-        out[i] = s[i];
-        i += 1;
-    }
-    i
+    out[..s.len()].copy_from_slice(s);
+    s.len()
 }
 
 // Puts the decimal digits of n.
