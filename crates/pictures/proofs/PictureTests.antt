@@ -94,14 +94,17 @@ module _ (p : Plan) (W H : ℕ) (s : Size) {answer : Result ℕ Refusal} (is : a
 
 -- A call that writes: where its tests found nothing it is done, and leaves what it wrote; where they found a refusal it leaves what it
 -- was lent as it was.
+abbrev done : Result Unit Refusal
+done = Ok tt
+
 module _ {t : Option Refusal} where
   pub leaves_written :
       t ≡ none → (old new : Lent) {left : Lent} → left ≡ new
-      → Gives (changed t Err old (Ok tt) new) (Ok tt) left
+      → Gives (changed t Err old done new) done left
   leaves_written passed old new e =
-      let (done, left) = value_given t Err old (Ok tt) new passed in
-      (done, e ∙ left)
+      let (answer, left) = value_given t Err old done new passed in
+      (answer, e ∙ left)
 
   pub leaves_as_it_was :
-      {r : Refusal} → t ≡ some r → (old new : Lent) → Gives (changed t Err old (Ok tt) new) (Err r) old
-  leaves_as_it_was {r} found old new = refusal_given t Err old (Ok tt) new r found
+      {r : Refusal} → t ≡ some r → (old new : Lent) → Gives (changed t Err old done new) (Err r) old
+  leaves_as_it_was {r} found old new = refusal_given t Err old done new r found

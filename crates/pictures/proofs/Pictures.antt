@@ -1,7 +1,7 @@
 -- The calls on a picture: a legal call is never refused and gives what it is for.
 -- Assumes nothing.
 use Rattle.std.specs.Prelude.{Ok, Err}
-use Rattle.std.proofs.Common.{◌≡◌, ℕ, zero, suc, ◌+◌, ◌*◌, ◌<◌, ◌≤◌, List, [], ◌∷◌, map, length, get_or, refl, ap, ◌∙◌, arith}
+use Rattle.std.proofs.Common.{Result, ◌≡◌, ℕ, zero, suc, ◌+◌, ◌*◌, ◌<◌, ◌≤◌, List, [], ◌∷◌, map, length, get_or, refl, ap, ◌∙◌, arith}
 use mathlib.Core.Option.{Option, none}
 use lib.ListN.{length-map}
 use Rattle.scope.specs.Plans.{Pixel, banks}
@@ -27,12 +27,15 @@ use Rattle.pictures.proofs.SumEntries.{fresh_sum, fresh_past, fresh_length}
 use Rattle.pictures.proofs.Fetches.{fetch_gives, ring_fetch_gives, cycles_given}
 
 -- a call that changes what it was lent and whose tests found nothing is done, and leaves the new content
-module _ {X : Type 0} {t : Option Refusal} (old new : X) (passed : t ≡ none) where
-  is_done : of_result (changed t Err old (Ok tt) new).answer ≡ value tt
-  is_done = ap of_result (changed_none_answer t Err old (Ok tt) new passed)
+abbrev done : Result Unit Refusal
+done = Ok tt
 
-  content_is : (changed t Err old (Ok tt) new).content ≡ new
-  content_is = changed_none_content t Err old (Ok tt) new passed
+module _ {X : Type 0} {t : Option Refusal} (old new : X) (passed : t ≡ none) where
+  is_done : of_result (changed t Err old done new).answer ≡ value tt
+  is_done = ap of_result (changed_none_answer t Err old done new passed)
+
+  content_is : (changed t Err old done new).content ≡ new
+  content_is = changed_none_content t Err old done new passed
 
 module _ (p : Plan) (W H : ℕ) (l : Lent) (legal : IsLent p W H (size_of l)) where
   abbrev held : List ℕ

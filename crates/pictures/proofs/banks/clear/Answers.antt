@@ -11,7 +11,7 @@ use Rattle.scope.specs.Calls.{Lent, lent, size_of, lent_test, clear_test, clear}
 use Rattle.scope.specs.promises.Meaning.{IsLent}
 use Rattle.scope.specs.declared.Plan.{Plan}
 use Rattle.scope.specs.declared.Refusal.{Refusal}
-use Rattle.checks.proofs.Chains.{Gives, chain_refuses, chain_goes_on, chain_of_one}
+use Rattle.checks.proofs.Chains.{handed_on, Gives, chain_refuses, chain_goes_on, chain_of_one}
 use Rattle.checks.proofs.Deciding.{bank_decides}
 use Rattle.pictures.specs.Places.{lent_depth}
 use Rattle.pictures.proofs.CallTests.{lent_test_iff}
@@ -62,38 +62,38 @@ module _ (p : Plan) (W H : ℕ) (l : Lent) (k : ℕ) where
 
 pub returns-then-banks-k : goal.returns-then-banks-k
 returns-then-banks-k c =
-    let (answer, left) = no-bank _ _ _ (lent c.args.mem.now c.args.sums.now) c.args.k c.lent_depth-depth.ensures c.in-Ok.is c.banks.ensures c.if-banks-k.true in
+    let (answer, left) = no-bank _ _ _ (lent c.args.mem.now c.args.sums.now) c.args.k c.lent_depth.ensures c.in_ok-deep.was c.banks.ensures c.if-banks-k.true in
     record { answer = answer; left = left }
 
-pub returns-else-banks-k : goal.returns-else-banks-k
+pub returns : goal.returns
 unfolding sums_after_clear
-returns-else-banks-k c =
-    let bank = there _ _ _ (lent c.args.mem.now c.args.sums.now) c.args.k c.lent_depth-depth.ensures c.in-Ok.is c.banks.ensures c.if-banks-k.false in
-    let (answer, left) = done _ _ _ (lent c.args.mem.now c.args.sums.now) c.args.k c.lent_depth-depth.ensures c.in-Ok.is c.banks.ensures c.if-banks-k.false (part_cleared bank c.clear_words.ensures) refl in
+returns c =
+    let bank = there _ _ _ (lent c.args.mem.now c.args.sums.now) c.args.k c.lent_depth.ensures c.in_ok-deep.was c.banks.ensures c.if-banks-k.false in
+    let (answer, left) = done _ _ _ (lent c.args.mem.now c.args.sums.now) c.args.k c.lent_depth.ensures c.in_ok-deep.was c.banks.ensures c.if-banks-k.false (part_cleared bank c.clear_words.ensures) refl in
     record { answer = answer; left = left }
 
-pub returns-in-Err : goal.returns-in-Err
-returns-in-Err c =
-    let (answer, left) = no-picture _ _ _ (lent c.args.mem.now c.args.sums.now) c.args.k c.lent_depth-depth.ensures c.in-Err.is in
-    record { answer = answer; left = left }
+pub returns-in_err-deep : goal.returns-in_err-deep
+returns-in_err-deep c =
+    let (answer, left) = no-picture _ _ _ (lent c.args.mem.now c.args.sums.now) c.args.k c.lent_depth.ensures c.in_err-deep.was in
+    record { answer = handed_on _ c.from_residual.ensures ∙ answer; left = left }
 
 pub overflow_mul-start : goal.overflow_mul-start
-overflow_mul-start c = omega (arith, there _ _ _ (lent c.args.mem.now c.args.sums.now) c.args.k c.lent_depth-depth.ensures c.in-Ok.is c.banks.ensures c.if-banks-k.false)
+overflow_mul-start c = omega (arith, there _ _ _ (lent c.args.mem.now c.args.sums.now) c.args.k c.lent_depth.ensures c.in_ok-deep.was c.banks.ensures c.if-banks-k.false)
 
 pub overflow_add-end : goal.overflow_add-end
-overflow_add-end c = omega (arith, there _ _ _ (lent c.args.mem.now c.args.sums.now) c.args.k c.lent_depth-depth.ensures c.in-Ok.is c.banks.ensures c.if-banks-k.false)
+overflow_add-end c = omega (arith, there _ _ _ (lent c.args.mem.now c.args.sums.now) c.args.k c.lent_depth.ensures c.in_ok-deep.was c.banks.ensures c.if-banks-k.false)
 
 pub overflow_mul-end : goal.overflow_mul-end
-overflow_mul-end c = omega (arith, there _ _ _ (lent c.args.mem.now c.args.sums.now) c.args.k c.lent_depth-depth.ensures c.in-Ok.is c.banks.ensures c.if-banks-k.false)
+overflow_mul-end c = omega (arith, there _ _ _ (lent c.args.mem.now c.args.sums.now) c.args.k c.lent_depth.ensures c.in_ok-deep.was c.banks.ensures c.if-banks-k.false)
 
 pub offset_bounds-mem-start : goal.offset_bounds-mem-start
-offset_bounds-mem-start c = omega (arith, there _ _ _ (lent c.args.mem.now c.args.sums.now) c.args.k c.lent_depth-depth.ensures c.in-Ok.is c.banks.ensures c.if-banks-k.false)
+offset_bounds-mem-start c = omega (arith, there _ _ _ (lent c.args.mem.now c.args.sums.now) c.args.k c.lent_depth.ensures c.in_ok-deep.was c.banks.ensures c.if-banks-k.false)
 
 pub slice_bounds-clear_words-end : goal.slice_bounds-clear_words-end
-slice_bounds-clear_words-end c = omega (arith, there _ _ _ (lent c.args.mem.now c.args.sums.now) c.args.k c.lent_depth-depth.ensures c.in-Ok.is c.banks.ensures c.if-banks-k.false)
+slice_bounds-clear_words-end c = omega (arith, there _ _ _ (lent c.args.mem.now c.args.sums.now) c.args.k c.lent_depth.ensures c.in_ok-deep.was c.banks.ensures c.if-banks-k.false)
 
 pub offset_bounds-sums-k : goal.offset_bounds-sums-k
-offset_bounds-sums-k c = omega (arith, sum-there _ _ _ (lent c.args.mem.now c.args.sums.now) c.args.k c.lent_depth-depth.ensures c.in-Ok.is c.banks.ensures c.if-banks-k.false)
+offset_bounds-sums-k c = omega (arith, sum-there _ _ _ (lent c.args.mem.now c.args.sums.now) c.args.k c.lent_depth.ensures c.in_ok-deep.was c.banks.ensures c.if-banks-k.false)
 
 pub bounds-sums-k : goal.bounds-sums-k
-bounds-sums-k c = sum-there _ _ _ (lent c.args.mem.now c.args.sums.now) c.args.k c.lent_depth-depth.ensures c.in-Ok.is c.banks.ensures c.if-banks-k.false
+bounds-sums-k c = sum-there _ _ _ (lent c.args.mem.now c.args.sums.now) c.args.k c.lent_depth.ensures c.in_ok-deep.was c.banks.ensures c.if-banks-k.false

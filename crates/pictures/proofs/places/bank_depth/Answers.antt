@@ -9,7 +9,7 @@ use Rattle.scope.specs.Numbers.{bank_test}
 use Rattle.scope.specs.Calls.{picture_test, whole_bank_test}
 use Rattle.scope.specs.declared.Plan.{Plan}
 use Rattle.scope.specs.declared.Refusal.{Refusal}
-use Rattle.checks.proofs.Chains.{chain_refuses, chain_goes_on, chain_of_one, answered_none, answered_some}
+use Rattle.checks.proofs.Chains.{passed_on, chain_refuses, chain_goes_on, chain_of_one, answered_none, answered_some}
 use Rattle.checks.proofs.Deciding.{bank_decides}
 use Rattle.pictures.specs.Places.{picture_depth, bank_depth}
 use Rattle.pictures.proofs.PictureTests.{picture_shows, picture_refusal_shows}
@@ -52,13 +52,13 @@ module _ (p : Plan) (W H words k : ℕ) where
 
 pub returns-then-banks-k : goal.returns-then-banks-k
 returns-then-banks-k c =
-    no-such-bank _ _ _ _ _ c.picture_depth-answer.ensures c.in-Ok.is c.banks.ensures
+    no-such-bank _ _ _ _ _ c.picture_depth.ensures c.in_ok-depth.was c.banks.ensures
     c.if-banks-k.true
 
-pub returns-else-banks-k : goal.returns-else-banks-k
-returns-else-banks-k c =
-    bank-there _ _ _ _ _ c.picture_depth-answer.ensures c.in-Ok.is c.banks.ensures
-    c.if-banks-k.false
+pub returns : goal.returns
+returns c =
+    sym c.in_ok-depth.was ∙ bank-there _ _ _ _ _ c.picture_depth.ensures c.in_ok-depth.was c.banks.ensures c.if-banks-k.false
 
-pub returns-in_default : goal.returns-in_default
-returns-in_default c = no-picture _ _ _ _ _ c.picture_depth-answer.ensures _ c.in_default.is
+pub returns-in_err-depth : goal.returns-in_err-depth
+returns-in_err-depth c =
+    passed_on _ c.from_residual.ensures c.in_err-depth.was ∙ no-picture _ _ _ _ _ c.picture_depth.ensures _ c.in_err-depth.was

@@ -9,7 +9,7 @@ use Rattle.scope.specs.Numbers.{sums_test}
 use Rattle.scope.specs.Calls.{Size, picture_test, lent_test}
 use Rattle.scope.specs.declared.Plan.{Plan}
 use Rattle.scope.specs.declared.Refusal.{Refusal}
-use Rattle.checks.proofs.Chains.{chain_refuses, chain_goes_on, chain_of_one, gives_value, gives_refusal}
+use Rattle.checks.proofs.Chains.{passed_on, chain_refuses, chain_goes_on, chain_of_one, gives_value, gives_refusal}
 use Rattle.checks.proofs.Deciding.{sums_decide}
 use Rattle.pictures.specs.Places.{picture_depth, lent_depth}
 use Rattle.pictures.proofs.PictureTests.{picture_shows, picture_refusal_shows}
@@ -52,11 +52,12 @@ module _ (p : Plan) (W H : ℕ) (s : Size) {answer : Result ℕ Refusal} (is : a
 
 pub returns-then-entries-banks : goal.returns-then-entries-banks
 returns-then-entries-banks c =
-    too_few _ _ _ _ c.picture_depth-answer.ensures c.in-Ok.is c.banks.ensures c.if-entries-banks.true
+    too_few _ _ _ _ c.picture_depth.ensures c.in_ok-depth.was c.banks.ensures c.if-entries-banks.true
 
-pub returns-else-entries-banks : goal.returns-else-entries-banks
-returns-else-entries-banks c =
-    enough-sums _ _ _ _ c.picture_depth-answer.ensures c.in-Ok.is c.banks.ensures c.if-entries-banks.false
+pub returns : goal.returns
+returns c =
+    sym c.in_ok-depth.was ∙ enough-sums _ _ _ _ c.picture_depth.ensures c.in_ok-depth.was c.banks.ensures c.if-entries-banks.false
 
-pub returns-in_default : goal.returns-in_default
-returns-in_default c = no-picture _ _ _ _ c.picture_depth-answer.ensures _ c.in_default.is
+pub returns-in_err-depth : goal.returns-in_err-depth
+returns-in_err-depth c =
+    passed_on _ c.from_residual.ensures c.in_err-depth.was ∙ no-picture _ _ _ _ c.picture_depth.ensures _ c.in_err-depth.was

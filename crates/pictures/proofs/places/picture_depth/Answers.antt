@@ -12,7 +12,7 @@ use Rattle.scope.specs.promises.Meaning.{IsPlan, IsSide}
 use Rattle.scope.specs.declared.Plan.{Plan}
 use Rattle.scope.specs.declared.Refusal.{Refusal}
 use Rattle.checks.proofs.Booleans.{last_test, test_before}
-use Rattle.checks.proofs.Chains.{chain_refuses, chain_goes_on, chain_of_one, answered_none, answered_some}
+use Rattle.checks.proofs.Chains.{passed_on, chain_refuses, chain_goes_on, chain_of_one, answered_none, answered_some}
 use Rattle.checks.proofs.Deciding.{memory_decides}
 use Rattle.checks.proofs.Tests.{plan_legal_iff, sides_legal_iff}
 use Rattle.lattice.proofs.Words.{depth_at_most}
@@ -81,13 +81,14 @@ module _ (p : Plan) (W H words : ℕ) where
           ∙ sym (given (past-depth ∙ (memory_decides p W H words).passes (omega (arith, count-is))))
 
 pub overflow_mul-banks : goal.overflow_mul-banks
-overflow_mul-banks c = omega (arith, words-at-most _ _ _ c.args.words c.depth-answer.ensures c.in-Ok.is c.banks.ensures)
+overflow_mul-banks c = omega (arith, words-at-most _ _ _ c.args.words c.depth.ensures c.in_ok-depth.was c.banks.ensures)
 
 pub returns-then-words-banks : goal.returns-then-words-banks
-returns-then-words-banks c = memory-short _ _ _ _ c.depth-answer.ensures c.in-Ok.is c.banks.ensures c.if-words-banks.true
+returns-then-words-banks c = memory-short _ _ _ _ c.depth.ensures c.in_ok-depth.was c.banks.ensures c.if-words-banks.true
 
-pub returns-else-words-banks : goal.returns-else-words-banks
-returns-else-words-banks c = memory-enough _ _ _ _ c.depth-answer.ensures c.in-Ok.is c.banks.ensures c.if-words-banks.false
+pub returns : goal.returns
+returns c = memory-enough _ _ _ _ c.depth.ensures c.in_ok-depth.was c.banks.ensures c.if-words-banks.false
 
-pub returns-in_default : goal.returns-in_default
-returns-in_default c = no-depth _ _ _ _ c.depth-answer.ensures _ c.in_default.is
+pub returns-in_err-depth : goal.returns-in_err-depth
+returns-in_err-depth c =
+    passed_on _ c.from_residual.ensures c.in_err-depth.was ∙ no-depth _ _ _ _ c.depth.ensures _ c.in_err-depth.was

@@ -1,7 +1,6 @@
 -- `pictures::places::word_place` meets its contract: 11, 12, 13 are the picture's, and then only 14 is left of the plan's own
 -- tests for a word.
 -- Assumes nothing.
-use mathlib.Core.Path.{◌∙◌}
 use Rattle.std.specs.Prelude.{Ok, Err}
 use Rattle.std.proofs.Common.{◌≡◌, ℕ, [], ◌∷◌, ap, ◌∙◌}
 use mathlib.Core.Option.{Option, none, some}

@@ -8,7 +8,7 @@ use Rattle.scope.specs.Calls.{Lent, lent, size_of, make_sums}
 use Rattle.scope.specs.promises.Meaning.{IsLent}
 use Rattle.scope.specs.declared.Plan.{Plan}
 use Rattle.scope.specs.declared.Refusal.{Refusal}
-use Rattle.checks.proofs.Chains.{Gives}
+use Rattle.checks.proofs.Chains.{handed_on, Gives}
 use Rattle.lattice.proofs.Words.{depth_at_most}
 use Rattle.pictures.specs.Places.{lent_depth, sums_over}
 use Rattle.pictures.proofs.CallTests.{lent_test_iff}
@@ -50,14 +50,14 @@ module _ (p : Plan) (W H : ℕ) (l : Lent) {asked : Result ℕ Refusal} (is : as
 
 pub put_sums-requires : goal.put_sums-requires
 put_sums-requires c =
-    banks-there _ _ _ (lent c.args.mem.now c.args.sums.now) c.lent_depth-depth.ensures c.in-Ok.is c.banks.ensures
+    banks-there _ _ _ (lent c.args.mem.now c.args.sums.now) c.lent_depth.ensures c.in_ok-deep.was c.banks.ensures
 
-pub returns-in-Ok : goal.returns-in-Ok
-returns-in-Ok c =
-    let (answer, left) = made _ _ _ (lent c.args.mem.now c.args.sums.now) c.lent_depth-depth.ensures c.in-Ok.is c.banks.ensures c.put_sums.ensures in
+pub returns : goal.returns
+returns c =
+    let (answer, left) = made _ _ _ (lent c.args.mem.now c.args.sums.now) c.lent_depth.ensures c.in_ok-deep.was c.banks.ensures c.put_sums.ensures in
     record { answer = answer; left = left }
 
-pub returns-in-Err : goal.returns-in-Err
-returns-in-Err c =
-    let (answer, left) = refused _ _ _ (lent c.args.mem.now c.args.sums.now) c.lent_depth-depth.ensures c.in-Err.is in
-    record { answer = answer; left = left }
+pub returns-in_err-deep : goal.returns-in_err-deep
+returns-in_err-deep c =
+    let (answer, left) = refused _ _ _ (lent c.args.mem.now c.args.sums.now) c.lent_depth.ensures c.in_err-deep.was in
+    record { answer = handed_on _ c.from_residual.ensures ∙ answer; left = left }

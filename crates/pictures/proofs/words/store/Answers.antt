@@ -126,41 +126,40 @@ module _ (p : Plan) (W H : ℕ) (l : Lent) (v : Pixel) (x : ℕ) where
 
 pub returns-in_err-lent_depth : goal.returns-in_err-lent_depth
 returns-in_err-lent_depth c =
-    handed_on _ c.from_residual.ensures
-    ∙ (let (answer, left) = no-picture _ _ _ (lent c.args.mem.now c.args.sums.now) _ c.args.x c.lent_depth.ensures c.in_err-lent_depth.was in
-    record { answer = answer; left = left })
+    let (answer, left) = no-picture _ _ _ (lent c.args.mem.now c.args.sums.now) _ c.args.x c.lent_depth.ensures c.in_err-lent_depth.was in
+    record { answer = handed_on _ c.from_residual.ensures ∙ answer; left = left }
 
-pub returns-in-At : goal.returns-in-At
-returns-in-At c =
-    let (answer, left) = done _ _ _ (lent c.args.mem.now c.args.sums.now) _ c.args.x c.lent_depth.ensures c.in_ok-lent_depth.was (pixel_handed c.ranges.i c.ranges.j) c.place-placed.ensures c.in-At.is c.exchange.ensures in
+pub returns : goal.returns
+returns c =
+    let (answer, left) = done _ _ _ (lent c.args.mem.now c.args.sums.now) _ c.args.x c.lent_depth.ensures c.in_ok-lent_depth.was (pixel_handed c.ranges.i c.ranges.j) c.place.ensures c.in_ok-at.was c.exchange.ensures in
     record { answer = answer; left = left }
 
-pub returns-in_err-lent_depth-placed : goal.returns-in_err-lent_depth-placed
-returns-in_err-lent_depth-placed c =
-    handed_on _ c.from_residual.ensures
-    ∙ (let (answer, left) = outside _ _ _ (lent c.args.mem.now c.args.sums.now) _ c.args.x c.lent_depth.ensures c.in_ok-lent_depth.was (pixel_handed c.ranges.i c.ranges.j) c.place-placed.ensures c.in-Err-placed.is in
-    record { answer = answer; left = left })
+pub returns-in_err-at : goal.returns-in_err-at
+returns-in_err-at c =
+    let (answer, left) = outside _ _ _ (lent c.args.mem.now c.args.sums.now) _ c.args.x c.lent_depth.ensures c.in_ok-lent_depth.was (pixel_handed c.ranges.i c.ranges.j) c.place.ensures c.in_err-at.was in
+    record { answer = handed_on _ c.from_residual-in_err-at.ensures ∙ answer; left = left }
 
 pub offset_bounds-mem-k : goal.offset_bounds-mem-k
-offset_bounds-mem-k c = omega (arith, in_memory _ _ _ (lent c.args.mem.now c.args.sums.now) _ c.args.x c.lent_depth.ensures c.in_ok-lent_depth.was (pixel_handed c.ranges.i c.ranges.j) c.place-placed.ensures c.in-At.is)
+offset_bounds-mem-k c = omega (arith, in_memory _ _ _ (lent c.args.mem.now c.args.sums.now) _ c.args.x c.lent_depth.ensures c.in_ok-lent_depth.was (pixel_handed c.ranges.i c.ranges.j) c.place.ensures c.in_ok-at.was)
+
+pub offset_bounds-mem-k-2 : goal.offset_bounds-mem-k-2
+offset_bounds-mem-k-2 c = omega (arith, in_memory _ _ _ (lent c.args.mem.now c.args.sums.now) _ c.args.x c.lent_depth.ensures c.in_ok-lent_depth.was (pixel_handed c.ranges.i c.ranges.j) c.place.ensures c.in_ok-at.was)
 
 pub bounds-mem-k : goal.bounds-mem-k
-bounds-mem-k c = in_memory _ _ _ (lent c.args.mem.now c.args.sums.now) _ c.args.x c.lent_depth.ensures c.in_ok-lent_depth.was (pixel_handed c.ranges.i c.ranges.j) c.place-placed.ensures c.in-At.is
+bounds-mem-k c = in_memory _ _ _ (lent c.args.mem.now c.args.sums.now) _ c.args.x c.lent_depth.ensures c.in_ok-lent_depth.was (pixel_handed c.ranges.i c.ranges.j) c.place.ensures c.in_ok-at.was
 
-pub offset_bounds-mem-k-in-At : goal.offset_bounds-mem-k-in-At
-offset_bounds-mem-k-in-At c = omega (arith, in_memory _ _ _ (lent c.args.mem.now c.args.sums.now) _ c.args.x c.lent_depth.ensures c.in_ok-lent_depth.was (pixel_handed c.ranges.i c.ranges.j) c.place-placed.ensures c.in-At.is)
-
-pub bounds-mem-k-in-At : goal.bounds-mem-k-in-At
-bounds-mem-k-in-At c = in_memory _ _ _ (lent c.args.mem.now c.args.sums.now) _ c.args.x c.lent_depth.ensures c.in_ok-lent_depth.was (pixel_handed c.ranges.i c.ranges.j) c.place-placed.ensures c.in-At.is
+pub bounds-mem-k-2 : goal.bounds-mem-k-2
+bounds-mem-k-2 c = in_memory _ _ _ (lent c.args.mem.now c.args.sums.now) _ c.args.x c.lent_depth.ensures c.in_ok-lent_depth.was (pixel_handed c.ranges.i c.ranges.j) c.place.ensures c.in_ok-at.was
 
 pub offset_bounds-sums-n : goal.offset_bounds-sums-n
-offset_bounds-sums-n c = omega (arith, in-sums _ _ _ (lent c.args.mem.now c.args.sums.now) _ c.args.x c.lent_depth.ensures c.in_ok-lent_depth.was (pixel_handed c.ranges.i c.ranges.j) c.place-placed.ensures c.in-At.is)
+offset_bounds-sums-n c = omega (arith, in-sums _ _ _ (lent c.args.mem.now c.args.sums.now) _ c.args.x c.lent_depth.ensures c.in_ok-lent_depth.was (pixel_handed c.ranges.i c.ranges.j) c.place.ensures c.in_ok-at.was)
+
+pub offset_bounds-sums-n-2 : goal.offset_bounds-sums-n-2
+offset_bounds-sums-n-2 c = omega (arith, in-sums _ _ _ (lent c.args.mem.now c.args.sums.now) _ c.args.x c.lent_depth.ensures c.in_ok-lent_depth.was (pixel_handed c.ranges.i c.ranges.j) c.place.ensures c.in_ok-at.was)
 
 pub bounds-sums-n : goal.bounds-sums-n
-bounds-sums-n c = in-sums _ _ _ (lent c.args.mem.now c.args.sums.now) _ c.args.x c.lent_depth.ensures c.in_ok-lent_depth.was (pixel_handed c.ranges.i c.ranges.j) c.place-placed.ensures c.in-At.is
+bounds-sums-n c = in-sums _ _ _ (lent c.args.mem.now c.args.sums.now) _ c.args.x c.lent_depth.ensures c.in_ok-lent_depth.was (pixel_handed c.ranges.i c.ranges.j) c.place.ensures c.in_ok-at.was
 
-pub offset_bounds-sums-n-in-At : goal.offset_bounds-sums-n-in-At
-offset_bounds-sums-n-in-At c = omega (arith, in-sums _ _ _ (lent c.args.mem.now c.args.sums.now) _ c.args.x c.lent_depth.ensures c.in_ok-lent_depth.was (pixel_handed c.ranges.i c.ranges.j) c.place-placed.ensures c.in-At.is)
+pub bounds-sums-n-2 : goal.bounds-sums-n-2
+bounds-sums-n-2 c = in-sums _ _ _ (lent c.args.mem.now c.args.sums.now) _ c.args.x c.lent_depth.ensures c.in_ok-lent_depth.was (pixel_handed c.ranges.i c.ranges.j) c.place.ensures c.in_ok-at.was
 
-pub bounds-sums-n-in-At : goal.bounds-sums-n-in-At
-bounds-sums-n-in-At c = in-sums _ _ _ (lent c.args.mem.now c.args.sums.now) _ c.args.x c.lent_depth.ensures c.in_ok-lent_depth.was (pixel_handed c.ranges.i c.ranges.j) c.place-placed.ensures c.in-At.is
