@@ -1,5 +1,6 @@
 -- How an answer is told: as the value or the refusal that it is, and as the answer that it equals.
 -- Assumes nothing.
+use Rattle.pictures.specs.declared.lists.ListFault.{ListFault}
 use Rattle.std.specs.Prelude.{Result, Ok, Err}
 use Prim.Native.Nat.{ℕ}
 use native.Mathlib.Omega.{arith}
@@ -19,11 +20,11 @@ use Rattle.scope.specs.declared.CheckAnswer.{CheckAnswer}
 use Rattle.scope.specs.declared.FetchAnswer.{FetchAnswer}
 use Rattle.checks.proofs.Chains.{Gives}
 use Rattle.capi.specs.Told.{Tells, number_told, row_in, plan_row, no_row, put_from, placed_at, of_listed, of_found_run}
-use Rattle.claims.specs.declared.FoundRun.{FoundRun}
+use Rattle.claims.specs.Demanded.{FoundRun}
 use Rattle.claims.specs.Demanded.{find_and_run, Demanded}
 use Rattle.scope.specs.promises.Demand.{Setting}
 use Rattle.pictures.specs.Lists.{clash_numbers, Buffers, run_list, SumsDemanded}
-use Rattle.pictures.specs.declared.lists.Listed.{Listed}
+use Rattle.pictures.specs.Lists.{Listed}
 use Rattle.capi.specs.Flat.{of_reading, when_read}
 
 pub told_of :
@@ -112,23 +113,23 @@ module _ (x : Reading) where
     kept_refused e = sym (ap (λ (o : Result Unit Refusal). elim o [ Ok u ↦ flat x.book | Err q ↦ out ]) e)
 
 -- What came of a list under the finder's plan: the plan's numbers where it was made, and what was wrong where it was not.
-module _ {p : Plan} {l : Listed} {r : FoundRun} {before mid : List ℕ} {n : ℕ} (is : r ≡ FoundRun.Ran p l) (told : Tells no_row (of_listed l) before mid n) where
+module _ {p : Plan} {l : Listed} {r : FoundRun} {before mid : List ℕ} {n : ℕ} (is : r ≡ Ok (p, l)) (told : Tells no_row (of_listed l) before mid n) where
   pub found_made : {after : List ℕ} → n ≡ 0 → after ≡ put_from 0 (plan_row p) mid → Tells plan_row (of_found_run r) before after n
   found_made {after} zero put = by_listed l is told
     where
-      by_listed : (m : Listed) → r ≡ FoundRun.Ran p m → Tells no_row (of_listed m) before mid n → Tells plan_row (of_found_run r) before after n
-      by_listed Listed.Made e t =
+      by_listed : (m : Listed) → r ≡ Ok (p, m) → Tells no_row (of_listed m) before mid n → Tells plan_row (of_found_run r) before after n
+      by_listed (Ok tt) e t =
           record { number = zero ∙ sym (ap (λ x. number_told (of_found_run x)) e); row_put = put ∙ cc (e, t.row_put) }
-      by_listed (Listed.NotCalls k) e t = absurd (omega (arith, t.number))
-      by_listed Listed.Short e t = absurd (omega (arith, t.number))
+      by_listed (Err (ListFault.NotCalls k)) e t = absurd (omega (arith, t.number))
+      by_listed (Err ListFault.Short) e t = absurd (omega (arith, t.number))
 
   pub found_wrong : (n ≡ 0 → ⊥) → Tells plan_row (of_found_run r) before mid n
   found_wrong not-zero = by_listed l is told
     where
-      by_listed : (m : Listed) → r ≡ FoundRun.Ran p m → Tells no_row (of_listed m) before mid n → Tells plan_row (of_found_run r) before mid n
-      by_listed Listed.Made e t = absurd (not-zero t.number)
-      by_listed (Listed.NotCalls k) e t = rw e (record { number = t.number; row_put = t.row_put })
-      by_listed Listed.Short e t = rw e (record { number = t.number; row_put = t.row_put })
+      by_listed : (m : Listed) → r ≡ Ok (p, m) → Tells no_row (of_listed m) before mid n → Tells plan_row (of_found_run r) before mid n
+      by_listed (Ok tt) e t = absurd (not-zero t.number)
+      by_listed (Err (ListFault.NotCalls k)) e t = rw e (record { number = t.number; row_put = t.row_put })
+      by_listed (Err ListFault.Short) e t = rw e (record { number = t.number; row_put = t.row_put })
 
 -- The finder and a list under its plan: what it answers is told, and what it left, and that demand 3 is met.
 pub found_told :

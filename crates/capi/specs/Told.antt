@@ -1,7 +1,8 @@
 -- How an answer is told to a caller in C or Rust: a number, 0 where the call was not refused, and a row of numbers at the start
 -- of a lent array of twelve.
 -- Assumes nothing.
-use Rattle.std.specs.Prelude.{ℕ, suc, ◌≡◌, List, [], ◌∷◌, ◌++◌, nat_abs, set}
+use Rattle.pictures.specs.declared.lists.ListFault.{ListFault}
+use Rattle.std.specs.Prelude.{ℕ, suc, ◌≡◌, List, [], ◌∷◌, ◌++◌, nat_abs, set, Ok, Err}
 use Rattle.std.proofs.Math.Option.{Option, none, some}
 use Rattle.scope.specs.Plans.{Pixel}
 use Rattle.scope.specs.Cycles.{LongClash}
@@ -9,8 +10,8 @@ use Rattle.scope.specs.Numbers.{Answer, value, refusal, turned_down}
 use Rattle.scope.specs.declared.Plan.{Plan}
 use Rattle.scope.specs.declared.Checked.{Checked}
 use Rattle.pictures.specs.Lists.{clash_numbers}
-use Rattle.pictures.specs.declared.lists.Listed.{Listed}
-use Rattle.claims.specs.declared.FoundRun.{FoundRun}
+use Rattle.pictures.specs.Lists.{Listed}
+use Rattle.claims.specs.Demanded.{FoundRun}
 
 -- 0, or the refusal's number
 abbrev pub number_told : {A : Type 0} → Answer A → ℕ
@@ -56,13 +57,13 @@ placed_at es (some c) = some (record { pattern = c.pattern; positions = es })
 -- What came of a list of calls. Document 01 has no number for a list that is none: 255, at the place of its first numbers that
 -- are no call's. Outputs or replies that are too short are 16.
 abbrev pub of_listed : Listed → Answer Unit
-of_listed Listed.Made = value tt
-of_listed (Listed.NotCalls k) = refusal 255 k none
-of_listed Listed.Short = refusal 16 0 none
+of_listed (Ok tt) = value tt
+of_listed (Err (ListFault.NotCalls k)) = refusal 255 k none
+of_listed (Err ListFault.Short) = refusal 16 0 none
 
 -- and of one that begins with the finder: the plan where the list was made
 abbrev pub of_found_run : FoundRun → Answer Plan
-of_found_run (FoundRun.Ran p Listed.Made) = value p
-of_found_run (FoundRun.Ran p (Listed.NotCalls k)) = refusal 255 k none
-of_found_run (FoundRun.Ran p Listed.Short) = refusal 16 0 none
-of_found_run (FoundRun.Refused r) = turned_down r
+of_found_run (Ok (p, Ok tt)) = value p
+of_found_run (Ok (p, (Err (ListFault.NotCalls k)))) = refusal 255 k none
+of_found_run (Ok (p, (Err ListFault.Short))) = refusal 16 0 none
+of_found_run (Err r) = turned_down r

@@ -1,5 +1,6 @@
 -- Worked values of what is told and of flat arrays, and the theorems that check them by computation.
 -- Assumes nothing.
+use Rattle.pictures.specs.declared.lists.ListFault.{ListFault}
 use Rattle.std.specs.Prelude.{ℕ, ◌≡◌, refl, ℤ, pos, negsuc, length, get_or, replicate, take, Result, Ok, Err}
 use mathlib.Core.List.{List, [], ◌∷◌, ◌++◌, map, flat_map}
 use Rattle.scope.specs.Plans.{Pixel, at, plan, pixels, pattern_at}
@@ -11,8 +12,8 @@ use Rattle.scope.specs.declared.Verdict.{Verdict}
 use Rattle.scope.specs.declared.Clash.{Clash}
 use Rattle.scope.specs.declared.CheckAnswer.{CheckAnswer}
 use Rattle.scope.specs.declared.FetchAnswer.{FetchAnswer}
-use Rattle.pictures.specs.declared.lists.Listed.{Listed}
-use Rattle.claims.specs.declared.FoundRun.{FoundRun}
+use Rattle.pictures.specs.Lists.{Listed}
+use Rattle.claims.specs.Demanded.{FoundRun}
 use Rattle.capi.specs.Told.{number_told, row_in, plan_row, checked_row, number_row, pixel_row, no_row, put_from, of_listed, of_found_run}
 use Rattle.capi.specs.Flat.{flat_book, flat_columns, flat_rows, flat_used}
 
@@ -72,14 +73,14 @@ answers_hold = refl
 lists : List (Row (List ℕ))
 unfolding row told plan
 lists =
-    row (told no_row (of_listed Listed.Made)) (0 ∷ replicate 12 9)
-    ∷ row (told no_row (of_listed (Listed.NotCalls 10))) (255 ∷ 10 ∷ replicate 11 9)
-    ∷ row (told no_row (of_listed Listed.Short)) (16 ∷ 0 ∷ replicate 11 9)
-    ∷ row (told plan_row (of_found_run (FoundRun.Ran (plan 5 2 1) Listed.Made))) (0 ∷ 5 ∷ 2 ∷ 1 ∷ replicate 9 9)
-    ∷ row (told plan_row (of_found_run (FoundRun.Ran (plan 5 2 1) (Listed.NotCalls 10)))) (255 ∷ 10 ∷ replicate 11 9)
-    ∷ row (told plan_row (of_found_run (FoundRun.Ran (plan 5 2 1) Listed.Short))) (16 ∷ 0 ∷ replicate 11 9)
-    ∷ row (told plan_row (of_found_run (FoundRun.Refused (Refusal.Repeat 4)))) (4 ∷ 4 ∷ replicate 11 9)
-    ∷ row (told plan_row (of_found_run (FoundRun.Refused (Refusal.Lower 0)))) (19 ∷ 0 ∷ replicate 11 9)
+    row (told no_row (of_listed (Ok tt))) (0 ∷ replicate 12 9)
+    ∷ row (told no_row (of_listed (Err (ListFault.NotCalls 10)))) (255 ∷ 10 ∷ replicate 11 9)
+    ∷ row (told no_row (of_listed (Err ListFault.Short))) (16 ∷ 0 ∷ replicate 11 9)
+    ∷ row (told plan_row (of_found_run (Ok ((plan 5 2 1), Ok tt)))) (0 ∷ 5 ∷ 2 ∷ 1 ∷ replicate 9 9)
+    ∷ row (told plan_row (of_found_run (Ok ((plan 5 2 1), (Err (ListFault.NotCalls 10)))))) (255 ∷ 10 ∷ replicate 11 9)
+    ∷ row (told plan_row (of_found_run (Ok ((plan 5 2 1), (Err ListFault.Short))))) (16 ∷ 0 ∷ replicate 11 9)
+    ∷ row (told plan_row (of_found_run (Err (Refusal.Repeat 4)))) (4 ∷ 4 ∷ replicate 11 9)
+    ∷ row (told plan_row (of_found_run (Err (Refusal.Lower 0)))) (19 ∷ 0 ∷ replicate 11 9)
     ∷ []
 
 lists_hold : map (λ r. r.computed) lists ≡ map (λ r. r.stated) lists

@@ -17,12 +17,12 @@ use Rattle.scope.specs.declared.Refusal.{Refusal}
 use Rattle.checks.proofs.CallLists.{state_after_append}
 use Rattle.checks.proofs.Chains.{Gives}
 use Rattle.pictures.specs.Lists.{setting, calls_of, output_of, reply_numbers, Buffers, made_list, run_list}
-use Rattle.pictures.specs.declared.lists.Listed.{Listed}
+use Rattle.pictures.specs.Lists.{Listed}
 use Rattle.pictures.proofs.DemandHolds.{demand_3}
 use Rattle.pictures.proofs.ListSums.{made_left}
 use Rattle.claims.specs.Demanded.{ran_for, find_and_run, replies_due, DemandMet, Demanded}
 use Rattle.claims.specs.DemandedExample.{DemandFollows}
-use Rattle.claims.specs.declared.FoundRun.{FoundRun}
+use Rattle.claims.specs.Demanded.{FoundRun}
 
 -- Each reply is the one that is due.
 replies_are_due :
@@ -57,13 +57,13 @@ demand_met g numbers b left is h =
     }
 
 -- an answer says which plan, and what came of the list
-same_plan : {p q : Plan} {l m : Listed} → FoundRun.Ran p l ≡ FoundRun.Ran q m → p ≡ q
+same_plan : {p q : Plan} {l m : Listed} → Ok (p, l) ≡ Ok (q, m) → p ≡ q
 same_plan e = cc
 
-same_listed : {p q : Plan} {l m : Listed} → FoundRun.Ran p l ≡ FoundRun.Ran q m → l ≡ m
+same_listed : {p q : Plan} {l m : Listed} → Ok (p, l) ≡ Ok (q, m) → l ≡ m
 same_listed e = cc
 
-refused_not_ran : {r : Refusal} {p : Plan} {l : Listed} → FoundRun.Refused r ≡ FoundRun.Ran p l → ⊥
+refused_not_ran : {r : Refusal} {p : Plan} {l : Listed} → Err r ≡ Ok (p, l) → ⊥
 refused_not_ran e = let z : ◌≡◌ {A = ℕ} 0 1 = cc in omega arith
 
 -- The contract, by the finder's answer: a plan and the list under it,
@@ -80,7 +80,7 @@ module _ (book : Book) (r limit W H : ℕ) (numbers : List ℕ) (b : Buffers) {p
   pub plan_kept :
       {p : Plan} {listed : Listed} {left : Buffers} → planned ≡ Ok p
       → Gives (run_list (setting book r p W H) numbers b) listed left
-      → Kept (FoundRun.Ran p listed) left
+      → Kept (Ok (p, listed)) left
   unfolding ran_for
   plan_kept {p} {listed} {left} found (answer, content) = (
     ap (FoundRun.Ran p) answer ∙ ap (λ (x : After FoundRun Buffers). x.answer) (sym (by_answer found)),
@@ -98,7 +98,7 @@ module _ (book : Book) (r limit W H : ℕ) (numbers : List ℕ) (b : Buffers) {p
   )
 
   -- or its refusal.
-  pub refusal_kept : {f : Refusal} → planned ≡ Err f → Kept (FoundRun.Refused f) b
+  pub refusal_kept : {f : Refusal} → planned ≡ Err f → Kept (Err f) b
   unfolding ran_for
   refusal_kept found = (
     ap (λ (x : After FoundRun Buffers). x.answer) (sym (by_answer found)),

@@ -11,18 +11,17 @@ use Rattle.scope.specs.promises.Demand.{Call, Reply, Setting, reply_due, last_st
 use Rattle.scope.specs.declared.Book.{Book}
 use Rattle.scope.specs.declared.Plan.{Plan}
 use Rattle.pictures.specs.Lists.{setting, calls_of, output_of, reply_numbers, Buffers, run_list}
-use Rattle.pictures.specs.declared.lists.Listed.{Listed}
-use Rattle.claims.specs.declared.FoundRun.{FoundRun}
+use Rattle.pictures.specs.Lists.{Listed}
 
 -- The finder's answer, and what came of the list under its plan; where it gave none, nothing is changed.
 unfoldable pub ran_for : Result Plan Refusal → Book → ℕ → ℕ → ℕ → List ℕ → Buffers → After FoundRun Buffers
 unfolding run_list
 ran_for (Ok p) book r W H numbers b =
     record {
-      answer = FoundRun.Ran p (run_list (setting book r p W H) numbers b).answer;
+      answer = Ok (p, (run_list (setting book r p W H) numbers b).answer);
       content = (run_list (setting book r p W H) numbers b).content;
     }
-ran_for (Err f) book r W H numbers b = record { answer = FoundRun.Refused f; content = b }
+ran_for (Err f) book r W H numbers b = record { answer = Err f; content = b }
 
 unfoldable pub find_and_run : Book → ℕ → ℕ → ℕ → ℕ → List ℕ → Buffers → After FoundRun Buffers
 unfolding ran_for find
@@ -58,7 +57,7 @@ pub record DemandMet (g : Setting) (calls : List Call) (b left : Buffers) : Type
 -- Where a plan was found and the list was made, on "a memory of at least N × depth words, the first N × depth of them 0".
 abbrev pub Demanded : FoundRun → Book → ℕ → ℕ → ℕ → List ℕ → Buffers → Buffers → Type 0
 Demanded x book r W H numbers b left =
-    (p : Plan) → x ≡ FoundRun.Ran p Listed.Made
+    (p : Plan) → x ≡ Ok (p, Ok tt)
     → picture_words (setting book r p W H) ≤ length b.picture.memory
     → take (picture_words (setting book r p W H)) b.picture.memory ≡ replicate (picture_words (setting book r p W H)) 0
     → DemandMet (setting book r p W H) (calls_of numbers b.outputs) b left

@@ -4,7 +4,7 @@
 -- plan for it is 2, 0, 1. The first picture is of 3 by 1: its pixels have the words 0, 2 and 1 of the memory, and word 3 is
 -- no pixel's.
 -- Assumes nothing.
-use Rattle.std.specs.Prelude.{ℕ, zero, suc, ◌<◌, ◌≡◌, false, pos, get_or, drop, replicate}
+use Rattle.std.specs.Prelude.{ℕ, zero, suc, ◌<◌, ◌≡◌, false, pos, get_or, drop, replicate, Err}
 use Rattle.std.proofs.Math.Path.{refl}
 use Rattle.std.proofs.Common.{◌∙◌, ap, arith}
 use mathlib.Core.List.{List, [], ◌∷◌, ◌++◌, flat_map}
@@ -18,7 +18,7 @@ use Rattle.scope.specs.declared.Book.{Book}
 use Rattle.scope.specs.declared.Refusal.{Refusal}
 use Rattle.pictures.specs.Lists.{setting, calls_of, reply_numbers, Buffers, buffers}
 use Rattle.claims.specs.Demanded.{find_and_run, replies_due, DemandMet, Demanded}
-use Rattle.claims.specs.declared.FoundRun.{FoundRun}
+use Rattle.claims.specs.Demanded.{FoundRun}
 
 -- Demand 3 follows where the answer r and what is left are those of the definition.
 abbrev pub DemandFollows : Type 0
@@ -87,7 +87,7 @@ pub record ReadOff (left : Buffers) : Type 0 where
   -- the two words of the fetch come from two banks
   pub banks_differ : bank_of (plan 2 0 1) (at (pos 1) (pos 0)) ≡ bank_of (plan 2 0 1) (at (pos 2) (pos 0)) → ⊥
   -- with limit 0 the finder refuses, and nothing is changed
-  pub refused : find_and_run small.book 1 0 3 1 six start ≡ record { answer = FoundRun.Refused Refusal.Limit; content = start }
+  pub refused : find_and_run small.book 1 0 3 1 six start ≡ record { answer = Err Refusal.Limit; content = start }
 
 in_picture : (i : ℕ) → i < 3 → Inside 3 1 (at (pos i) (pos 0))
 unfolding at
@@ -106,7 +106,7 @@ no_pixel v h e =
     let row : v.row ≡ pos 0 = h.row ∙ ap pos (omega (arith, h.j_below)) in
     no_word h.i h.i_below (rw (h.column, row) at e)
 
-no_plan_lem : find_and_run small.book 1 0 3 1 six start ≡ record { answer = FoundRun.Refused Refusal.Limit; content = start }
+no_plan_lem : find_and_run small.book 1 0 3 1 six start ≡ record { answer = Err Refusal.Limit; content = start }
 unfolding small find_and_run
 no_plan_lem = refl
 

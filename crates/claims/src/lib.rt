@@ -6,17 +6,11 @@ ghost use Rattle.pictures.specs.Lists.{buffers};
 ghost use Rattle.claims.specs.Demanded.{find_and_run, Demanded};
 
 use finder::find;
-use pictures::{Listed, run_list};
+use pictures::{ListFault, run_list};
 use scope::{Book, Plan, Refusal};
 
-// The finder's plan and what came of the list under it, or the finder's refusal: then nothing was changed.
-#[derive(Clone, Copy)]
-pub enum FoundRun {
-    Ran(Plan, Listed),
-    Refused(Refusal),
-}
-
-// Finds the plan for r with the fewest banks within the limit, and makes a list of calls for r under it, in the numbers of `run_list`.
+// Finds the plan for r with the fewest banks within the limit, and makes a list of calls for r under it, in the numbers of `run_list`:
+// the plan and what came of the list, or the finder's refusal, and then nothing was changed.
 pub fn find_and_run(
     book: Book,
     r: u32,
@@ -28,17 +22,11 @@ pub fn find_and_run(
     numbers: &[u64],
     outs: &mut [u16],
     rows: &mut [u64],
-) -> FoundRun
+) -> Result<(Plan, Result<(), ListFault>), Refusal>
     ensures answer { result ≡ (find_and_run book r limit w h numbers.now (buffers mem.old sums.old outs.old rows.old)).answer }
     ensures left { buffers mem.new sums.new outs.new rows.new ≡ (find_and_run book r limit w h numbers.now (buffers mem.old sums.old outs.old rows.old)).content }
     ensures demand { Demanded result book r w h numbers.now (buffers mem.old sums.old outs.old rows.old) (buffers mem.new sums.new outs.new rows.new) }
 {
-    let planned = find(book, r, limit);
-    match planned {
-        Ok(p) => FoundRun::Ran(
-            p,
-            run_list(book, r, p, w, h, mem, sums, numbers, outs, rows),
-        ),
-        Err(f) => FoundRun::Refused(f),
-    }
+    let plan = find(book, r, limit)?;
+    Ok((plan, run_list(book, r, plan, w, h, mem, sums, numbers, outs, rows)))
 }

@@ -1,5 +1,7 @@
 -- Document 02, Card 6, of a list that was made: its words have 16 bits, so the claim on the sums holds of what it left.
 -- Assumes nothing.
+use Rattle.pictures.specs.declared.lists.ListFault.{ListFault}
+use Rattle.std.specs.Prelude.{Ok}
 use Rattle.std.proofs.Common.{◌≡◌, ℕ, ◌/◌, List, length, get_or, take, drop, sym, ap, ◌∙◌, subst, arith}
 use mathlib.Core.Option.{Option}
 use mathlib.Core.List.{flat_map}
@@ -12,7 +14,7 @@ use Rattle.scope.specs.promises.SumPromises.{Words16, Stores16, AllStore16, Sums
 use Rattle.checks.proofs.Chains.{Gives}
 use Rattle.pictures.specs.Lists.{call_of, call_at, room_at, calls_from, calls_of, reply_numbers, Buffers, left_by, made_list, run_list, SumsMet, SumsDemanded}
 use Rattle.pictures.specs.SumsExample.{SumsFollow, five, start, ReadOff, read_off}
-use Rattle.pictures.specs.declared.lists.Listed.{Listed}
+use Rattle.pictures.specs.Lists.{Listed}
 use Rattle.pictures.proofs.ListFaults.{made_passes}
 use Rattle.pictures.proofs.MadeCalls.{any_call, each_call}
 use Rattle.pictures.proofs.KeptSums.{sums_kept}
@@ -29,11 +31,11 @@ calls_16 n xs outs =
 
 -- a list whose answer is that it was made
 pub made_left :
-    (g : Setting) (numbers : List ℕ) (b : Buffers) → Listed.Made ≡ (run_list g numbers b).answer
+    (g : Setting) (numbers : List ℕ) (b : Buffers) → (Ok tt) ≡ (run_list g numbers b).answer
     → (run_list g numbers b).content ≡ made_list g numbers b
 unfolding run_list left_by
 made_left g numbers b made =
-    ap (λ (t : Option Listed). left_by t b (made_list g numbers b)) (made_passes numbers (length b.outputs) (length b.rows) made).test
+    ap (λ (t : Option ListFault). left_by t b (made_list g numbers b)) (made_passes numbers (length b.outputs) (length b.rows) made).test
 
 module _ (g : Setting) (numbers : List ℕ) (b : Buffers) (words : Words16 b.picture.memory) where
   abbrev calls : List Call

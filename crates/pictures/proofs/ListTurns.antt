@@ -1,6 +1,8 @@
 -- A list of calls that is made one after the other. It goes by what is left: what the calls that are left do from here on is what
 -- the whole list does from the start.
 -- Assumes nothing.
+use Rattle.pictures.specs.declared.lists.ListFault.{ListFault}
+use Rattle.std.specs.Prelude.{Ok, Err}
 use Rattle.std.proofs.Common.{◌≡◌, ℕ, zero, suc, ◌+◌, ◌-◌, ◌*◌, ◌/◌, ◌<◌, ◌≤◌, min, List, [], ◌∷◌, ◌++◌, length, get_or, take, drop, sym, refl, ap, ◌∙◌, ap₂, append-nil, add-zero, arith, length-drop, drop_of_length-le, length-take-le, get_or-drop, take_all, drop-drop}
 use native.Mathlib.Decide.{dec_lt}
 use mathlib.Core.Option.{Option, none, some}
@@ -10,7 +12,7 @@ use Rattle.scope.specs.Banks.{over_start}
 use Rattle.scope.specs.Calls.{Lent}
 use Rattle.scope.specs.promises.Demand.{Call, Setting, after, reply, run, replies}
 use Rattle.pictures.specs.Lists.{call_of, call_at, room_of, room_at, calls_from, calls_of, list_fault, list_test, listed_by, left_by, reply_numbers, output_of, Buffers, buffers, made_list, run_list, BegunAt, no_start, Begun, OneMade}
-use Rattle.pictures.specs.declared.lists.Listed.{Listed}
+use Rattle.pictures.specs.Lists.{Listed}
 use Rattle.checks.proofs.Chains.{Gives}
 use Rattle.scope.specs.declared.Book.{Book}
 use Rattle.scope.specs.declared.Plan.{Plan}
@@ -242,14 +244,14 @@ module _ (book : Book) (r : ℕ) (p : Plan) (W H : ℕ) {words memory : ℕ} (n 
 
 -- A list that passes its test is made, and one that does not is answered with what is wrong, and nothing changes.
 module _ (g : Setting) (numbers : List ℕ) (b : Buffers) where
-  abbrev wrong : Option Listed
+  abbrev wrong : Option ListFault
   wrong = list_test numbers (length b.outputs) (length b.rows)
 
-  pub list_made : {content : Buffers} → wrong ≡ none → content ≡ made_list g numbers b → Gives (run_list g numbers b) Listed.Made content
+  pub list_made : {content : Buffers} → wrong ≡ none → content ≡ made_list g numbers b → Gives (run_list g numbers b) (Ok tt) content
   unfolding run_list listed_by left_by
   list_made none_wrong made =
-      (ap listed_by (sym none_wrong), made ∙ ap (λ (t : Option Listed). left_by t b (made_list g numbers b)) (sym none_wrong))
+      (ap listed_by (sym none_wrong), made ∙ ap (λ (t : Option ListFault). left_by t b (made_list g numbers b)) (sym none_wrong))
 
-  pub list_not_made : {fault : Listed} → wrong ≡ some fault → Gives (run_list g numbers b) fault b
+  pub list_not_made : {fault : ListFault} → wrong ≡ some fault → Gives (run_list g numbers b) (Err fault) b
   unfolding run_list listed_by left_by
-  list_not_made is = (ap listed_by (sym is), ap (λ (t : Option Listed). left_by t b (made_list g numbers b)) (sym is))
+  list_not_made is = (ap listed_by (sym is), ap (λ (t : Option ListFault). left_by t b (made_list g numbers b)) (sym is))

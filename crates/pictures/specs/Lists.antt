@@ -5,7 +5,8 @@
 -- number in two's complement; the number is below 65536, also of a call that has no use for it. The fourth number of a load and of kind 5,
 -- and the fifth of every call but a fetch, are not looked at. Each fetch has the next `room` words of the outputs as "an output of its own".
 -- Assumes nothing.
-use Rattle.std.specs.Prelude.{◌≡◌, ℕ, zero, suc, ◌+◌, ◌-◌, ◌*◌, ◌/◌, ◌%◌, ◌<◌, Bool, true, false, cond, not, ◌&&◌, ◌||◌, List, [], ◌∷◌, ◌++◌, length, take, drop, replicate, ℤ, pos, ◌-ℤ◌, ◌==◌, nat_le, nat_lt, slice_index, slice_index_or, Ok}
+use Rattle.pictures.specs.declared.lists.ListFault.{ListFault}
+use Rattle.std.specs.Prelude.{◌≡◌, ℕ, zero, suc, ◌+◌, ◌-◌, ◌*◌, ◌/◌, ◌%◌, ◌<◌, Bool, true, false, cond, not, ◌&&◌, ◌||◌, List, [], ◌∷◌, ◌++◌, length, take, drop, replicate, ℤ, pos, ◌-ℤ◌, ◌==◌, nat_le, nat_lt, slice_index, slice_index_or, Ok, Result, Err}
 use Rattle.std.proofs.Math.Option.{Option, none, some}
 use mathlib.Core.List.{flat_map}
 use Rattle.scope.specs.Search.{whenever, first_of}
@@ -20,7 +21,6 @@ use Rattle.scope.specs.declared.Book.{Book}
 use Rattle.scope.specs.declared.Plan.{Plan}
 use Rattle.finder.specs.declared.clash.Suited.{Suited}
 use Rattle.book.specs.Scan.{outcome_of}
-use Rattle.pictures.specs.declared.lists.Listed.{Listed}
 
 abbrev pub setting : Book → ℕ → Plan → ℕ → ℕ → Setting
 setting book r p W H = record { book = book; r = r; plan = p; W = W; H = H }
@@ -72,28 +72,32 @@ is_call_at xs = is_call (slice_index xs 0) (slice_index xs 1) (slice_index xs 2)
 
 -- What is wrong with n calls whose numbers begin at place k, with `room` words for their outputs: the first numbers that are no
 -- call's, or the first fetch whose room is not there
-unfoldable pub list_fault : ℕ → ℕ → List ℕ → ℕ → Option Listed
+unfoldable pub list_fault : ℕ → ℕ → List ℕ → ℕ → Option ListFault
 unfolding is_call_at room_at
 list_fault zero k xs room = none
 list_fault (suc n) k xs room =
     elim (is_call_at xs) [
-      | false ↦ some (Listed.NotCalls k)
-      | true ↦ elim (nat_le (room_at xs) room) [ false ↦ some Listed.Short | true ↦ list_fault n (k + 5) (drop 5 xs) (room - room_at xs) ]
+      | false ↦ some (ListFault.NotCalls k)
+      | true ↦ elim (nat_le (room_at xs) room) [ false ↦ some ListFault.Short | true ↦ list_fault n (k + 5) (drop 5 xs) (room - room_at xs) ]
     ]
 
 -- That, then fewer than five numbers at the end, then less than twelve numbers to a call for the replies
-unfoldable pub list_test : List ℕ → ℕ → ℕ → Option Listed
+unfoldable pub list_test : List ℕ → ℕ → ℕ → Option ListFault
 unfolding first_of whenever list_fault
 list_test xs outs rows =
     first_of
     (list_fault (length xs / 5) 0 xs outs
-    ∷ whenever (not (length xs % 5 == 0)) (Listed.NotCalls (5 * (length xs / 5)))
-    ∷ whenever (nat_lt rows (12 * (length xs / 5))) Listed.Short
+    ∷ whenever (not (length xs % 5 == 0)) (ListFault.NotCalls (5 * (length xs / 5)))
+    ∷ whenever (nat_lt rows (12 * (length xs / 5))) ListFault.Short
     ∷ [])
 
-unfoldable pub listed_by : Option Listed → Listed
-listed_by none = Listed.Made
-listed_by (some fault) = fault
+-- what came of a list: it was made, or what was wrong with it
+abbrev pub Listed : Type 0
+Listed = Result Unit ListFault
+
+unfoldable pub listed_by : Option ListFault → Listed
+listed_by none = Ok tt
+listed_by (some fault) = Err fault
 
 -- an answer in numbers: 0 and its values, or the refusal's number, its place and, of 10, the clash: its pattern and its positions
 abbrev pub clash_numbers : Option LongClash → List ℕ
@@ -144,7 +148,7 @@ made_list g xs b =
       rows = over_start (flat_map reply_numbers given) b.rows;
     }
 
-unfoldable pub left_by : Option Listed → Buffers → Buffers → Buffers
+unfoldable pub left_by : Option ListFault → Buffers → Buffers → Buffers
 left_by none old new = new
 left_by (some fault) old new = old
 
@@ -152,7 +156,7 @@ left_by (some fault) old new = old
 unfoldable pub run_list : Setting → List ℕ → Buffers → After Listed Buffers
 unfolding list_test listed_by left_by made_list
 run_list g xs b =
-    let wrong : Option Listed = list_test xs (length b.outputs) (length b.rows) in
+    let wrong : Option ListFault = list_test xs (length b.outputs) (length b.rows) in
     record { answer = listed_by wrong; content = left_by wrong b (made_list g xs b) }
 
 -- Document 02, Card 6, of what a list left.
@@ -171,7 +175,7 @@ pub record SumsMet (g : Setting) (calls : List Call) (b left : Buffers) : Type 0
 
 -- where the list was made
 abbrev pub SumsDemanded : Listed → Setting → List ℕ → Buffers → Buffers → Type 0
-SumsDemanded x g numbers b left = x ≡ Listed.Made → SumsMet g (calls_of numbers b.outputs) b left
+SumsDemanded x g numbers b left = x ≡ Ok tt → SumsMet g (calls_of numbers b.outputs) b left
 
 -- what a fetch of pattern number n begins with, as the code has it: what its tests found, and the positions of the clash
 pub record BegunAt (book : Book) (r : ℕ) (p : Plan) (W H words n : ℕ) (start : Suited) : Type 0 where

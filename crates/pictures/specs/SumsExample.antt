@@ -2,7 +2,7 @@
 -- speaks of every answer and all buffers that are those of the definition `run_list`, and names no code: that the code's are, the
 -- contract of the function `run_list` says. The picture is that of SumEdges (scope).
 -- Assumes nothing.
-use Rattle.std.specs.Prelude.{◌≡◌, ℕ, List, [], ◌∷◌, ◌++◌, drop, replicate, slice_index_or}
+use Rattle.std.specs.Prelude.{◌≡◌, ℕ, List, [], ◌∷◌, ◌++◌, drop, replicate, slice_index_or, Ok}
 use Rattle.std.proofs.Math.Path.{refl}
 use mathlib.Core.List.{flat_map}
 use Rattle.std.proofs.Common.{arith}
@@ -13,7 +13,7 @@ use Rattle.scope.specs.promises.Demand.{Setting, replies, test}
 use Rattle.scope.specs.promises.SumPromises.{Words16, walking}
 use Rattle.scope.specs.values.SumEdges.{square, begun, words_16}
 use Rattle.pictures.specs.Lists.{calls_of, reply_numbers, Buffers, buffers, run_list, SumsMet, SumsDemanded}
-use Rattle.pictures.specs.declared.lists.Listed.{Listed}
+use Rattle.pictures.specs.Lists.{Listed}
 
 -- The claim follows where the answer and what is left are those of the definition.
 abbrev pub SumsFollow : Type 0
@@ -50,7 +50,7 @@ module _ (follow : SumsFollow) (left : Buffers) (is : left ≡ (run_list square 
   -- the premises hold
   met : SumsMet square (calls_of five []) start left
   unfolding square run_list
-  met = follow square five start words_16 Listed.Made left refl is refl
+  met = follow square five start words_16 (Ok tt) left refl is refl
 
   pub read_off : ReadOff left
   unfolding square calls_of replies test banks walking over_start flat_map reply_numbers

@@ -12,6 +12,6 @@ mod words;
 
 pub use banks::{clear, sum};
 pub use fetching::{fetch, ring_fetch};
-pub use lists::{Listed, run_list};
+pub use lists::{ListFault, run_list};
 pub use sums::{make_sums, read_sum};
 pub use words::{load, store};

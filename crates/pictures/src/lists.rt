@@ -17,11 +17,10 @@ use book::entry_number;
 use finder::{Suited, book_outcome};
 use scope::{Book, FetchAnswer, Pattern, Plan};
 
-// What came of a list: it was made, or it was not and nothing changed, because the numbers from this place on are no call's, or
-// because the outputs or the replies are too short.
+// Why a list was not made, and nothing changed: the numbers from this place on are no call's, or the outputs or the replies are too
+// short.
 #[derive(Clone, Copy)]
-pub enum Listed {
-    Made,
+pub enum ListFault {
     NotCalls(u64),
     Short,
 }
@@ -68,7 +67,7 @@ fn is_call(kind: u64, i: u64, j: u64, n: u64) -> bool
 }
 
 // The first numbers that are no call's, or the first fetch whose room is not there.
-fn list_fault(numbers: &[u64], outs: usize) -> Listed
+fn list_fault(numbers: &[u64], outs: usize) -> Result<(), ListFault>
     ensures { result ≡ listed_by (list_fault (length numbers.now / 5) 0 numbers.now outs) }
 {
     let mut left = numbers.len() / 5;
@@ -77,34 +76,32 @@ fn list_fault(numbers: &[u64], outs: usize) -> Listed
     while 0 < left {
         let kind = numbers[k];
         if !is_call(kind, numbers[k + 1], numbers[k + 2], numbers[k + 3]) {
-            return Listed::NotCalls(k as u64);
+            return Err(ListFault::NotCalls(k as u64));
         }
         let own = room_of(kind, numbers[k + 4]);
         if (room as u64) < own {
-            return Listed::Short;
+            return Err(ListFault::Short);
         }
         room -= own as usize;
         k += 5;
         left -= 1;
     }
-    Listed::Made
+    Ok(())
 }
 
 // Whether the numbers are a list of calls, with outputs and replies that are long enough.
-fn list_outcome(numbers: &[u64], outs: usize, rows: usize) -> Listed
+fn list_outcome(numbers: &[u64], outs: usize, rows: usize) -> Result<(), ListFault>
     ensures { result ≡ listed_by (list_test numbers.now outs rows) }
 {
-    let fault = list_fault(numbers, outs);
-    if let Listed::Made = fault {
-        let calls = numbers.len() / 5;
-        if numbers.len() % 5 != 0 {
-            return Listed::NotCalls((5 * calls) as u64);
-        }
-        if rows / 12 < calls {
-            return Listed::Short;
-        }
+    list_fault(numbers, outs)?;
+    let calls = numbers.len() / 5;
+    if numbers.len() % 5 != 0 {
+        return Err(ListFault::NotCalls((5 * calls) as u64));
     }
-    fault
+    if rows / 12 < calls {
+        return Err(ListFault::Short);
+    }
+    Ok(())
 }
 
 // What a fetch of the pattern numbers 0 to 16 begins with; the record has no entry 16.
@@ -253,15 +250,13 @@ pub fn run_list(
     numbers: &[u64],
     outs: &mut [u16],
     rows: &mut [u64],
-) -> Listed
+) -> Result<(), ListFault>
     ensures answer { result ≡ (run_list (setting book r p w h) numbers.now (buffers mem.old sums.old outs.old rows.old)).answer }
     ensures left { buffers mem.new sums.new outs.new rows.new ≡ (run_list (setting book r p w h) numbers.now (buffers mem.old sums.old outs.old rows.old)).content }
     ensures kept { SumsDemanded result (setting book r p w h) numbers.now (buffers mem.old sums.old outs.old rows.old) (buffers mem.new sums.new outs.new rows.new) }
 {
-    let outcome = list_outcome(numbers, outs.len(), rows.len());
-    if let Listed::Made = outcome {
-        let starts = starts_of(book, r, p, w, h, mem.len());
-        make_calls(book, starts, r, p, w, h, mem, sums, numbers, outs, rows);
-    }
-    outcome
+    list_outcome(numbers, outs.len(), rows.len())?;
+    let starts = starts_of(book, r, p, w, h, mem.len());
+    make_calls(book, starts, r, p, w, h, mem, sums, numbers, outs, rows);
+    Ok(())
 }

@@ -126,11 +126,11 @@ module _ {outcome : Result Unit Refusal} (t : Option Refusal) (is : outcome ≡ 
       same_refusal s h = ap (refusal_or s) h
 
 -- What `?` answers where a callee refused: the callee's refusal.
-pub handed_on : {A : Type 0} (x : Result A Refusal) {r : Refusal} → IsErr x × IsErrAnd x (λ f. f ≡ r) → x ≡ Err r
+pub handed_on : {A E : Type 0} (x : Result A E) {r : E} → IsErr x × IsErrAnd x (λ f. f ≡ r) → x ≡ Err r
 handed_on x h = let p = err_from_is_err_and x h.1 in p.1 ∙ ap Err p.2
 
 -- and where that answer is of the same type, it is the callee's.
 pub passed_on :
-    {A : Type 0} (x : Result A Refusal) {y : Result A Refusal} {r : Refusal}
+    {A E : Type 0} (x : Result A E) {y : Result A E} {r : E}
     → IsErr x × IsErrAnd x (λ f. f ≡ r) → y ≡ Err r → x ≡ y
 passed_on x h e = handed_on x h ∙ sym e

@@ -1,10 +1,11 @@
 -- `pictures::lists::list_fault` meets its contract. The loop's invariant: the test of what is left is the test of the list.
 -- Assumes nothing.
+use Rattle.pictures.specs.declared.lists.ListFault.{ListFault}
 use Rattle.std.proofs.Common.{◌≡◌, ℕ, ◌+◌, ◌-◌, ◌<◌, ◌≤◌, true, List, drop, sym, refl, ap, ◌∙◌, arith, drop-drop}
 use mathlib.Core.Option.{Option}
 use borrow.Author.Tests.{not-true, not-false}
 use Rattle.pictures.specs.Lists.{room_at, is_call_at, list_fault}
-use Rattle.pictures.specs.declared.lists.Listed.{Listed}
+use Rattle.pictures.specs.Lists.{Listed}
 use Rattle.pictures.proofs.ListFaults.{listed_fault, listed_made, call_at, room_at_lem, no_calls, first_no_call, first_lacks_room, past_first}
 use Rattle.pictures.proofs.lists.list_fault.Lts as lts
 use Rattle.pictures.proofs.lists.list_fault.Tie as tie
@@ -48,7 +49,7 @@ module _ (c : After-room_of-own) where
 
 -- one call more is tested
 one_more :
-    (xs : List ℕ) (left k room own : ℕ) {t : Option Listed} → 0 < left → is_call_at (drop k xs) ≡ true
+    (xs : List ℕ) (left k room own : ℕ) {t : Option ListFault} → 0 < left → is_call_at (drop k xs) ≡ true
     → own ≡ room_at (drop k xs) → own ≤ room → list_fault left k (drop k xs) room ≡ t
     → list_fault (left - 1) (k + 5) (drop (k + 5) xs) (room - own) ≡ t
 one_more xs left k room own h e f fits before =
