@@ -5,9 +5,9 @@ use Rattle.capi.specs.Flat.{flat_columns, flat_rows, flat_used}
 use Rattle.capi.proofs.Passed.{told_value, told_refusal, reading_done, reading_refused, filled_read, kept_refused}
 use Rattle.capi.proofs.bankplan_read_book.Goals as goal
 
-pub returns-in-Refused : goal.returns-in-Refused
-returns-in-Refused c =
-    let refused = rw c.read_book-reading.ensures at c.in-Refused.is in
+pub returns-in-Err : goal.returns-in-Err
+returns-in-Err c =
+    let refused = rw c.read_book-reading.ensures at c.in-Err.is in
     record {
       told = told_refusal (reading_refused _ refused) c.tell_refusal.ensures;
       columns = kept_refused _ flat_columns _ refused;

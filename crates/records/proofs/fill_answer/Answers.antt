@@ -12,7 +12,7 @@ use Rattle.scope.specs.Numbers.{plan_test, sides_test}
 use Rattle.scope.specs.Calls.{depth}
 use Rattle.scope.specs.declared.Plan.{Plan}
 use Rattle.scope.specs.declared.Refusal.{Refusal}
-use Rattle.checks.proofs.Chains.{chain_refuses, chain_goes_on, chain_of_one, tests_as_one, answered_none, answered_some}
+use Rattle.checks.proofs.Chains.{handed_on, chain_refuses, chain_goes_on, chain_of_one, tests_as_one, answered_none, answered_some}
 use Rattle.checks.proofs.CountedAnswers.{number_shows, refusal_shows}
 use Rattle.records.specs.Filling.{fill_answer}
 use Rattle.records.proofs.fill_answer.Goals as goal
@@ -61,11 +61,13 @@ module _ (p : Plan) (W H : ℕ) (inside : Bool) where
       unfolding whenever
       one_outside e = refused Refusal.Outside (past-depth ∙ ap (λ (b : Bool). whenever (not b) Refusal.Outside) e)
 
-pub returns-in-Refused : goal.returns-in-Refused
-returns-in-Refused c = no-depth _ _ _ _ c.depth.ensures _ c.in-Refused.is
+pub returns-in_err-depth : goal.returns-in_err-depth
+returns-in_err-depth c =
+    handed_on _ c.from_residual.ensures
+    ∙ (no-depth _ _ _ _ c.depth.ensures _ c.in_err-depth.was)
 
 pub returns-then-inside : goal.returns-then-inside
-returns-then-inside c = all-inside _ _ _ _ c.depth.ensures c.in_default.is c.if-inside.true
+returns-then-inside c = all-inside _ _ _ _ c.depth.ensures c.in_ok-depth.was c.if-inside.true
 
 pub returns-else-inside : goal.returns-else-inside
-returns-else-inside c = one_outside _ _ _ _ c.depth.ensures c.in_default.is c.if-inside.false
+returns-else-inside c = one_outside _ _ _ _ c.depth.ensures c.in_ok-depth.was c.if-inside.false

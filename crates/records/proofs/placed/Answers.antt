@@ -14,15 +14,15 @@ pub returns-in_default-bank : goal.returns-in_default-bank
 returns-in_default-bank c =
     let a = address_handed c.args.r (omega arith) (omega arith) c.args.p c.args.w c.args.h c.address.ensures in
     let b = bank_handed c.args.r (omega arith) (omega arith) c.args.p c.bank.ensures in
-    absurd (no_bank _ _ _ _ a c.in-Number.is b c.in_default-bank.is)
+    absurd (no_bank _ _ _ _ a c.in-Ok.is b c.in_default-bank.is)
 
 -- each from both bounds, so that an exchange of the two numbers is refused where the record is returned
-module _ (c : goal.In-Number-bank) where
-  both-fit : (c.in-Number-bank.bank < 4294967296) × (c.in-Number.address < 4294967296)
+module _ (c : goal.In-Ok-bank) where
+  both-fit : (c.in-Ok-bank.bank < 4294967296) × (c.in-Ok.address < 4294967296)
   both-fit =
       let a = address_handed c.args.r (omega arith) (omega arith) c.args.p c.args.w c.args.h c.address.ensures in
       let b = bank_handed c.args.r (omega arith) (omega arith) c.args.p c.bank.ensures in
-      (bank_small _ _ _ _ a c.in-Number.is b c.in-Number-bank.is, address_small _ _ _ _ a c.in-Number.is)
+      (bank_small _ _ _ _ a c.in-Ok.is b c.in-Ok-bank.is, address_small _ _ _ _ a c.in-Ok.is)
 
 pub overflow_cast-result : goal.overflow_cast-result
 overflow_cast-result c = record { fits = omega (arith, both-fit c) }
@@ -34,4 +34,4 @@ pub returns : goal.returns
 returns c =
     let a = address_handed c.args.r (omega arith) (omega arith) c.args.p c.args.w c.args.h c.address.ensures in
     let b = bank_handed c.args.r (omega arith) (omega arith) c.args.p c.bank.ensures in
-    record_put c.args.r _ _ (omega arith) (omega arith) ∙ is_placed _ _ _ _ a c.in-Number.is b c.in-Number-bank.is
+    record_put c.args.r _ _ (omega arith) (omega arith) ∙ is_placed _ _ _ _ a c.in-Ok.is b c.in-Ok-bank.is

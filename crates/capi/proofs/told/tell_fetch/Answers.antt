@@ -14,10 +14,10 @@ use Rattle.capi.proofs.told.tell_fetch.Goals as goal
 abbrev told : List ℕ → ℕ → Result ℕ Refusal → Answer ℕ
 told positions r c = with_positions (take (suc r) positions) (of_result c)
 
-pub returns-in-Number : goal.returns-in-Number
-returns-in-Number c =
-    told_value (ap (told c.args.a.positions c.args.r) c.in-Number.is) refl
+pub returns-in-Ok : goal.returns-in-Ok
+returns-in-Ok c =
+    told_value (ap (told c.args.a.positions c.args.r) c.in-Ok.is) refl
 
-pub returns-in-Refused : goal.returns-in-Refused
-returns-in-Refused c =
-    told_refusal (ap (told c.args.a.positions c.args.r) c.in-Refused.is ∙ placed_refusal (take (suc c.args.r) c.args.a.positions) c.in-Refused.f) c.tell_clash.ensures
+pub returns-in-Err : goal.returns-in-Err
+returns-in-Err c =
+    told_refusal (ap (told c.args.a.positions c.args.r) c.in-Err.is ∙ placed_refusal (take (suc c.args.r) c.args.a.positions) c.in-Err.f) c.tell_clash.ensures

@@ -3,10 +3,10 @@
 use Rattle.scope.specs.Program.{plan_text}
 use Rattle.text.proofs.lines.planned_text.Goals as goal
 
-pub returns-in-Plan : goal.returns-in-Plan
+pub returns-in-Ok : goal.returns-in-Ok
 unfolding plan_text
-returns-in-Plan c = rw c.in-Plan.is c.plan_text.ensures
+returns-in-Ok c = rw c.in-Ok.is c.plan_text.ensures
 
-pub returns-in-Refused : goal.returns-in-Refused
+pub returns-in-Err : goal.returns-in-Err
 unfolding plan_text
-returns-in-Refused c = rw c.in-Refused.is c.refused_text.ensures
+returns-in-Err c = rw c.in-Err.is c.refused_text.ensures

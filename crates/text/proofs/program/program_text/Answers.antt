@@ -28,16 +28,16 @@ module _ (s : List ℕ) (reading : Reading) (is_read : reading ≡ read_book s) 
   text_of_found p t done found is =
       is ∙ ap (λ q. text_of (plan_text q)) (rw is_read at found) ∙ ap text_of (text_of_read s (outcome_is (Ok tt) done))
 
-pub returns-in-Refused-clause-text : goal.returns-in-Refused-clause-text
-returns-in-Refused-clause-text c =
-    text_of_refusal c.args.s.now c.read_book-reading.result c.read_book-reading.ensures c.in-Refused.r _ c.in-Refused.is
+pub returns-in-Err-clause-text : goal.returns-in-Err-clause-text
+returns-in-Err-clause-text c =
+    text_of_refusal c.args.s.now c.read_book-reading.result c.read_book-reading.ensures c.in-Err.r _ c.in-Err.is
     c.refused_text.ensures
 
-pub returns-in-Refused-clause-longer : goal.returns-in-Refused-clause-longer
-returns-in-Refused-clause-longer c =
+pub returns-in-Err-clause-longer : goal.returns-in-Err-clause-longer
+returns-in-Err-clause-longer c =
     let e =
-    text_of_refusal c.args.s.now c.read_book-reading.result c.read_book-reading.ensures c.in-Refused.r c.refused_text.result
-    c.in-Refused.is c.refused_text.ensures in
+    text_of_refusal c.args.s.now c.read_book-reading.result c.read_book-reading.ensures c.in-Err.r c.refused_text.result
+    c.in-Err.is c.refused_text.ensures in
     (also_of_longer _ _ e).1
 
 pub returns-clause-text : goal.returns-clause-text
