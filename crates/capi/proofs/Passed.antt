@@ -118,8 +118,14 @@ module _ {p : Plan} {l : Listed} {r : FoundRun} {before mid : List ℕ} {n : ℕ
   found_made {after} zero put = by_listed l is told
     where
       by_listed : (m : Listed) → r ≡ Ok (p, m) → Tells no_row (of_listed m) before mid n → Tells plan_row (of_found_run r) before after n
-      by_listed (Ok tt) e t =
-          record { number = zero ∙ sym (ap (λ x. number_told (of_found_run x)) e); row_put = put ∙ cc (e, t.row_put) }
+      by_listed (Ok u) e t =
+          record {
+            number = zero ∙ sym (ap (λ x. number_told (of_found_run x)) e);
+            row_put =
+                put
+                ∙ ap (put_from 0 (plan_row p)) t.row_put
+                ∙ sym (ap (λ x. put_from 0 (row_in plan_row (of_found_run x)) before) e);
+          }
       by_listed (Err (ListFault.NotCalls k)) e t = absurd (omega (arith, t.number))
       by_listed (Err ListFault.Short) e t = absurd (omega (arith, t.number))
 
@@ -127,7 +133,7 @@ module _ {p : Plan} {l : Listed} {r : FoundRun} {before mid : List ℕ} {n : ℕ
   found_wrong not-zero = by_listed l is told
     where
       by_listed : (m : Listed) → r ≡ Ok (p, m) → Tells no_row (of_listed m) before mid n → Tells plan_row (of_found_run r) before mid n
-      by_listed (Ok tt) e t = absurd (not-zero t.number)
+      by_listed (Ok u) e t = absurd (not-zero t.number)
       by_listed (Err (ListFault.NotCalls k)) e t = rw e (record { number = t.number; row_put = t.row_put })
       by_listed (Err ListFault.Short) e t = rw e (record { number = t.number; row_put = t.row_put })
 

@@ -57,13 +57,13 @@ placed_at es (some c) = some (record { pattern = c.pattern; positions = es })
 -- What came of a list of calls. Document 01 has no number for a list that is none: 255, at the place of its first numbers that
 -- are no call's. Outputs or replies that are too short are 16.
 abbrev pub of_listed : Listed → Answer Unit
-of_listed (Ok tt) = value tt
+of_listed (Ok u) = value tt
 of_listed (Err (ListFault.NotCalls k)) = refusal 255 k none
 of_listed (Err ListFault.Short) = refusal 16 0 none
 
 -- and of one that begins with the finder: the plan where the list was made
 abbrev pub of_found_run : FoundRun → Answer Plan
-of_found_run (Ok (p, Ok tt)) = value p
-of_found_run (Ok (p, (Err (ListFault.NotCalls k)))) = refusal 255 k none
-of_found_run (Ok (p, (Err ListFault.Short))) = refusal 16 0 none
+of_found_run (Ok (p, Ok u)) = value p
+of_found_run (Ok (p, Err (ListFault.NotCalls k))) = refusal 255 k none
+of_found_run (Ok (p, Err ListFault.Short)) = refusal 16 0 none
 of_found_run (Err r) = turned_down r

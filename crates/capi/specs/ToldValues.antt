@@ -76,9 +76,9 @@ lists =
     row (told no_row (of_listed (Ok tt))) (0 ∷ replicate 12 9)
     ∷ row (told no_row (of_listed (Err (ListFault.NotCalls 10)))) (255 ∷ 10 ∷ replicate 11 9)
     ∷ row (told no_row (of_listed (Err ListFault.Short))) (16 ∷ 0 ∷ replicate 11 9)
-    ∷ row (told plan_row (of_found_run (Ok ((plan 5 2 1), Ok tt)))) (0 ∷ 5 ∷ 2 ∷ 1 ∷ replicate 9 9)
-    ∷ row (told plan_row (of_found_run (Ok ((plan 5 2 1), (Err (ListFault.NotCalls 10)))))) (255 ∷ 10 ∷ replicate 11 9)
-    ∷ row (told plan_row (of_found_run (Ok ((plan 5 2 1), (Err ListFault.Short))))) (16 ∷ 0 ∷ replicate 11 9)
+    ∷ row (told plan_row (of_found_run (Ok (plan 5 2 1, Ok tt)))) (0 ∷ 5 ∷ 2 ∷ 1 ∷ replicate 9 9)
+    ∷ row (told plan_row (of_found_run (Ok (plan 5 2 1, Err (ListFault.NotCalls 10))))) (255 ∷ 10 ∷ replicate 11 9)
+    ∷ row (told plan_row (of_found_run (Ok (plan 5 2 1, Err ListFault.Short)))) (16 ∷ 0 ∷ replicate 11 9)
     ∷ row (told plan_row (of_found_run (Err (Refusal.Repeat 4)))) (4 ∷ 4 ∷ replicate 11 9)
     ∷ row (told plan_row (of_found_run (Err (Refusal.Lower 0)))) (19 ∷ 0 ∷ replicate 11 9)
     ∷ []

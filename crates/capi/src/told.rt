@@ -4,9 +4,8 @@ ghost use Rattle.scope.specs.Numbers.{number_of, place_of, clash_of, of_result, 
 ghost use Rattle.pictures.specs.Lists.{clash_numbers};
 ghost use Rattle.capi.specs.Told.{Tells, placed_at, plan_row, checked_row, number_row, pixel_row, no_row, put_from, of_listed, of_found_run};
 
-use claims::FoundRun;
 use integers::size;
-use pictures::Listed;
+use pictures::ListFault;
 use scope::{CheckAnswer, FetchAnswer, Plan, Refusal, Row, Verdict, row_of};
 
 // A refusal's number; its place and its clash go to the array.
@@ -159,16 +158,16 @@ pub(crate) fn tell_outcome(o: Result<(), Refusal>, answer: &mut [u64; 12]) -> u6
 }
 
 // A list that was made, or 255 and the place of numbers that are no call's, or 16.
-pub(crate) fn tell_listed(l: Listed, answer: &mut [u64; 12]) -> u64
+pub(crate) fn tell_listed(l: Result<(), ListFault>, answer: &mut [u64; 12]) -> u64
     ensures { Tells no_row (of_listed l) answer.old answer.new result }
 {
     match l {
-        Listed::Made => 0,
-        Listed::NotCalls(k) => {
+        Ok(()) => 0,
+        Err(ListFault::NotCalls(k)) => {
             answer[0] = k;
             255
         }
-        Listed::Short => {
+        Err(ListFault::Short) => {
             answer[0] = 0;
             16
         }
@@ -176,17 +175,20 @@ pub(crate) fn tell_listed(l: Listed, answer: &mut [u64; 12]) -> u64
 }
 
 // The plan's numbers where the list under it was made; else what was wrong with the list, or the finder's refusal.
-pub(crate) fn tell_found(r: FoundRun, answer: &mut [u64; 12]) -> u64
+pub(crate) fn tell_found(
+    r: Result<(Plan, Result<(), ListFault>), Refusal>,
+    answer: &mut [u64; 12],
+) -> u64
     ensures { Tells plan_row (of_found_run r) answer.old answer.new result }
 {
     match r {
-        FoundRun::Ran(p, l) => {
+        Ok((p, l)) => {
             let number = tell_listed(l, answer);
             if number == 0 {
                 put_plan(p, answer);
             }
             number
         }
-        FoundRun::Refused(q) => tell_refusal(q, answer),
+        Err(q) => tell_refusal(q, answer),
     }
 }

@@ -57,13 +57,19 @@ demand_met g numbers b left is h =
     }
 
 -- an answer says which plan, and what came of the list
-same_plan : {p q : Plan} {l m : Listed} → Ok (p, l) ≡ Ok (q, m) → p ≡ q
-same_plan e = cc
+run_or : Plan × Listed → FoundRun → Plan × Listed
+run_or other (Ok run) = run
+run_or other (Err r) = other
 
-same_listed : {p q : Plan} {l m : Listed} → Ok (p, l) ≡ Ok (q, m) → l ≡ m
-same_listed e = cc
+same_plan : {p q : Plan} {l m : Listed} → ◌≡◌ {A = FoundRun} (Ok (p, l)) (Ok (q, m)) → p ≡ q
+unfolding run_or
+same_plan {p} {q} {l} {m} e = ap (λ (x : FoundRun). (run_or (p, l) x).0) e
 
-refused_not_ran : {r : Refusal} {p : Plan} {l : Listed} → Err r ≡ Ok (p, l) → ⊥
+same_listed : {p q : Plan} {l m : Listed} → ◌≡◌ {A = FoundRun} (Ok (p, l)) (Ok (q, m)) → l ≡ m
+unfolding run_or
+same_listed {p} {q} {l} {m} e = ap (λ (x : FoundRun). (run_or (p, l) x).1) e
+
+refused_not_ran : {r : Refusal} {p : Plan} {l : Listed} → ◌≡◌ {A = FoundRun} (Err r) (Ok (p, l)) → ⊥
 refused_not_ran e = let z : ◌≡◌ {A = ℕ} 0 1 = cc in omega arith
 
 -- The contract, by the finder's answer: a plan and the list under it,
@@ -83,7 +89,7 @@ module _ (book : Book) (r limit W H : ℕ) (numbers : List ℕ) (b : Buffers) {p
       → Kept (Ok (p, listed)) left
   unfolding ran_for
   plan_kept {p} {listed} {left} found (answer, content) = (
-    ap (FoundRun.Ran p) answer ∙ ap (λ (x : After FoundRun Buffers). x.answer) (sym (by_answer found)),
+    ap (λ (l : Listed). Ok (p, l)) answer ∙ ap (λ (x : After FoundRun Buffers). x.answer) (sym (by_answer found)),
     (
       content ∙ ap (λ (x : After FoundRun Buffers). x.content) (sym (by_answer found)),
       λ q ran enough zeros.
@@ -104,6 +110,13 @@ module _ (book : Book) (r limit W H : ℕ) (numbers : List ℕ) (b : Buffers) {p
     ap (λ (x : After FoundRun Buffers). x.answer) (sym (by_answer found)),
     (ap (λ (x : After FoundRun Buffers). x.content) (sym (by_answer found)), λ q ran enough zeros. absurd (refused_not_ran ran)),
   )
+
+-- and what is demanded of an answer is demanded of one that is equal to it
+pub same_demand :
+    (numbers : List ℕ) {x y : FoundRun} {book : Book} {r W H : ℕ} {b left : Buffers} → x ≡ y
+    → Demanded y book r W H numbers b left → Demanded x book r W H numbers b left
+same_demand numbers {book = book} {r = r} {W = W} {H = H} {b = b} {left = left} e demand =
+    subst (λ (s : FoundRun). Demanded s book r W H numbers b left) (sym e) demand
 
 -- So the third clause of the contract follows from the first two.
 module _ (book : Book) (r limit W H : ℕ) (numbers : List ℕ) (b : Buffers) (x : FoundRun) (left : Buffers) where

@@ -23,6 +23,6 @@ pub returns-in-Clashes : goal.returns-in-Clashes
 returns-in-Clashes c =
     told_refusal (ap (told c.args.a.positions c.args.r) c.in-Clashes.is ∙ placed_refusal (take (suc c.args.r) c.args.a.positions) (Refusal.Unsuited c.in-Clashes.c)) c.tell_clash.ensures
 
-pub returns-in-Err : goal.returns-in-Err
-returns-in-Err c =
-    told_refusal (ap (told c.args.a.positions c.args.r) c.in-Err.is ∙ placed_refusal (take (suc c.args.r) c.args.a.positions) c.in-Err.f) c.tell_clash-in-Err.ensures
+pub returns-in-Refused : goal.returns-in-Refused
+returns-in-Refused c =
+    told_refusal (ap (told c.args.a.positions c.args.r) c.in-Refused.is ∙ placed_refusal (take (suc c.args.r) c.args.a.positions) c.in-Refused.f) c.tell_clash-in-Refused.ensures
