@@ -19,12 +19,7 @@ fn entries_of(xs: &[i8; 1024], n: usize) -> [i8; 64]
     ensures { result ≡ entries xs.now n }
 {
     let mut out = [0i8; 64];
-    let mut e = 0;
-    while e < 64 {
-        let x = xs[64 * n + e];
-        out[e] = x;
-        e += 1;
-    }
+    out.copy_from_slice(&xs[64 * n..64 * n + 64]);
     out
 }
 
@@ -65,10 +60,8 @@ pub(crate) fn book_of(
         patterns: [empty; 16],
         count,
     };
-    let mut n = 0;
-    while n < end {
+    for n in 0..end {
         book.patterns[n] = pattern_of(columns, rows, used, n);
-        n += 1;
     }
     book
 }
@@ -79,15 +72,13 @@ pub(crate) fn put_pixels(book: Book, columns: &mut [i8; 1024], rows: &mut [i8; 1
 {
     *columns = [0i8; 1024];
     *rows = [0i8; 1024];
-    let mut k = 0;
-    while k < 1024 {
+    for k in 0..1024 {
         let t = book.patterns[k / 64];
         let e = k % 64;
         let x = t.columns[e];
         let y = t.rows[e];
         columns[k] = x;
         rows[k] = y;
-        k += 1;
     }
 }
 
@@ -96,10 +87,8 @@ pub(crate) fn put_used(book: Book, out: &mut [usize; 16])
     ensures { out.new ≡ flat_used book }
 {
     *out = [0usize; 16];
-    let mut n = 0;
-    while n < 16 {
+    for n in 0..16 {
         let t = book.patterns[n];
         out[n] = t.used;
-        n += 1;
     }
 }

@@ -30,25 +30,13 @@ same_count : {book : Book} {count : ℕ} → book.count ≡ count → book ≡ r
 same_count {book} e = ap (λ (n : ℕ). record { patterns = book.patterns; count = n }) e
 
 pub loop-n-init : goal.loop-n-init
-loop-n-init c = (omega arith, rw c.empty_pattern-empty.ensures (filled_none _), refl)
+loop-n-init c = (rw c.empty_pattern-empty.ensures (filled_none _), refl)
 
 pub loop-n-preserved : goal.loop-n-preserved
 loop-n-preserved c =
-    let i = c.loop-n.invariant in (omega (arith, c.loop-n-test.true), filled_more i.1 c.pattern_of.ensures, i.2)
+    let i = c.loop-n.invariant in (filled_more i.0 c.pattern_of.ensures, i.1)
 
 pub returns : goal.returns
 returns c =
     let all : c.loop-n.n ≡ min c.args.count 16 = omega (arith, c.entries_used-end.ensures) in
-    same_count c.loop-n.invariant.2 ∙ book-filled _ _ _ _ (rw all at c.loop-n.invariant.1)
-
-pub pattern_of-requires : goal.pattern_of-requires
-pattern_of-requires c =
-    omega (arith, c.entries_used-end.ensures, c.loop-n-test.true)
-
-pub offset_bounds-book-n : goal.offset_bounds-book-n
-offset_bounds-book-n c =
-    record { fits = omega (arith, c.entries_used-end.ensures, c.loop-n-test.true) }
-
-pub bounds-book-n : goal.bounds-book-n
-bounds-book-n c =
-    omega (arith, c.entries_used-end.ensures, c.loop-n-test.true)
+    same_count c.loop-n.invariant.1 ∙ book-filled _ _ _ _ (rw all at c.loop-n.invariant.0)

@@ -1,6 +1,6 @@
 -- `capi::flat::book_of` meets its contract. The loop's invariant: the first n patterns are those of the arrays, the others empty.
 -- Assumes nothing.
-use Prim.Native.Nat.{ℕ, ◌-◌, ◌≤◌}
+use Prim.Native.Nat.{ℕ}
 use mathlib.Core.Path.{◌≡◌}
 use mathlib.Core.List.{List, []}
 use lib.IntN.{ℤ}
@@ -17,7 +17,4 @@ FilledTo columns rows used n patterns =
 
 abbrev pub invariant-loop-n : goal.invariant-loop-n
 invariant-loop-n l =
-    (l.n ≤ l.end) × FilledTo l.columns l.rows l.used l.n l.book.patterns × (l.book.count ≡ l.count)
-
-abbrev pub decreases-loop-n : goal.decreases-loop-n
-decreases-loop-n l = l.end - l.n
+    FilledTo l.columns l.rows l.used l.n l.book.patterns × (l.book.count ≡ l.count)

@@ -1,6 +1,6 @@
 -- `capi::flat::put_pixels` meets its contract. The loop's invariant: the first k entries are the record's.
 -- Assumes nothing.
-use Prim.Native.Nat.{ℕ, ◌/◌, ◌%◌, ◌-◌, ◌≤◌}
+use Prim.Native.Nat.{ℕ, ◌/◌, ◌%◌}
 use mathlib.Core.List.{List}
 use lib.IntN.{ℤ, pos}
 use lib.ListN.{get_or, replicate}
@@ -17,7 +17,4 @@ Flattened part book k xs =
 
 abbrev pub invariant-loop-k : goal.invariant-loop-k
 invariant-loop-k l =
-    (l.k ≤ 1024) × Flattened (λ t. t.columns) l.book l.k l.columns × Flattened (λ t. t.rows) l.book l.k l.rows
-
-abbrev pub decreases-loop-k : goal.decreases-loop-k
-decreases-loop-k l = 1024 - l.k
+    Flattened (λ t. t.columns) l.book l.k l.columns × Flattened (λ t. t.rows) l.book l.k l.rows

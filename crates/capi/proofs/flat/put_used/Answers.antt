@@ -8,12 +8,12 @@ use Rattle.capi.specs.Flat.{flat_used}
 use Rattle.capi.proofs.flat.put_used.Goals as goal
 
 pub loop-n-init : goal.loop-n-init
-loop-n-init c = (omega arith, filled_none _)
+loop-n-init c = filled_none _
 
 pub loop-n-preserved : goal.loop-n-preserved
 unfolding pattern_at
-loop-n-preserved c = (omega arith, filled_more c.loop-n.invariant.1 refl)
+loop-n-preserved c = filled_more c.loop-n.invariant refl
 
 pub returns : goal.returns
 unfolding flat_used
-returns c = filled_all c.loop-n.invariant.1 (omega arith)
+returns c = filled_all c.loop-n.invariant (omega arith)
