@@ -49,11 +49,9 @@ fn put_positions(positions: [usize; 9], r: u32, answer: &mut [u64; 12])
     requires { length positions ≡ 9 }
     ensures { answer.new ≡ put_from 2 (take (suc r) positions) answer.old }
 {
-    let last = if r < 8 { r as usize } else { 8 };
-    let mut e = 0;
-    while e <= last {
+    let count = (r as usize + 1).min(9);
+    for e in 0..count {
         answer[2 + e] = positions[e] as u64;
-        e += 1;
     }
 }
 

@@ -1,56 +1,30 @@
--- `capi::told::put_positions` meets its contract. The loop's invariant: the first e positions stand in the array. The measure is the
--- number of those that are left.
+-- `capi::told::put_positions` meets its contract. The loop's invariant: the first e positions stand in the array.
 -- Assumes nothing.
+use Prim.Native.Nat.{ℕ, ◌<◌, suc, min}
+use native.Mathlib.Decide.{dec_lt}
 use native.Mathlib.Omega.{arith}
 use mathlib.Core.Path.{◌≡◌}
-use mathlib.Core.Logic.{inl, inr, ⊎_elim}
-use Rattle.capi.proofs.Positions.{none_placed, one_placed, all_placed, nine_placed}
+use mathlib.Core.List.{List}
+use lib.ListN.{length, take}
+use Rattle.capi.specs.Told.{put_from}
+use Rattle.capi.proofs.Positions.{Placed, none_placed, one_placed, all_placed, nine_placed}
 use Rattle.capi.proofs.told.put_positions.Goals as goal
-use Rattle.capi.proofs.told.put_positions.Goals.{then-r-lt8, else-r-lt8}
 
 pub loop-e-init : goal.loop-e-init
-loop-e-init c = (
-  omega arith,
-  elim c.if-r-lt8.branch [
-    | then-r-lt8 w ↦ (omega (arith, w.if-r-lt8.true, w.last-is), inl w.last-is)
-    | else-r-lt8 w ↦ (omega (arith, w.last-is), inr (omega (arith, w.if-r-lt8.false), w.last-is))
-  ],
-  none_placed,
-)
-
-pub offset_bounds-positions-e : goal.offset_bounds-positions-e
-offset_bounds-positions-e c = record { fits = omega (arith, c.loop-e.invariant.1.0, c.loop-e-test.true) }
-
-pub bounds-positions-e : goal.bounds-positions-e
-bounds-positions-e c = omega (arith, c.loop-e.invariant.1.0, c.loop-e-test.true)
-
-pub overflow_add-answer : goal.overflow_add-answer
-overflow_add-answer c = record { fits = omega (arith, c.loop-e.invariant.1.0, c.loop-e-test.true) }
-
-pub offset_bounds-answer-e : goal.offset_bounds-answer-e
-offset_bounds-answer-e c = record { fits = omega (arith, c.loop-e.invariant.1.0, c.loop-e-test.true) }
-
-pub bounds-answer-e : goal.bounds-answer-e
-bounds-answer-e c = omega (arith, c.loop-e.invariant.1.0, c.loop-e-test.true)
-
-pub overflow_add-e : goal.overflow_add-e
-overflow_add-e c = record { fits = omega (arith, c.loop-e.invariant.1.0, c.loop-e-test.true) }
-
-pub loop-e-smaller : goal.loop-e-smaller
-loop-e-smaller c = omega (arith, c.loop-e-test.true)
+loop-e-init c = none_placed
 
 pub loop-e-preserved : goal.loop-e-preserved
-loop-e-preserved c = (
-  omega (arith, c.loop-e-test.true),
-  c.loop-e.invariant.1,
-  one_placed (omega (arith, c.loop-e.invariant.1.0, c.loop-e-test.true, c.requires)) c.loop-e.invariant.2,
-)
+loop-e-preserved c = one_placed (omega (arith, c.requires)) c.loop-e.invariant
+
+-- the positions that stand are the first r + 1
+placed-all :
+    {positions before out : List ℕ} (r e : ℕ) → length positions ≡ 9 → e ≡ min (suc r) 9 → Placed positions before e out
+    → out ≡ put_from 2 (take (suc r) positions) before
+placed-all {positions} {before} {out} r e size is placed = by-r (dec_lt r 8)
+  where
+    by-r : Dec (r < 8) → out ≡ put_from 2 (take (suc r) positions) before
+    by-r (yes h) = all_placed {r = r} (omega arith) placed
+    by-r (no h) = nine_placed size (omega arith) (omega arith) placed
 
 pub returns : goal.returns
-returns c =
-    let size = c.requires in
-    let (within, (most, last-is), placed) = c.loop-e.invariant in
-    ⊎_elim
-    (λ (same : c.if-r-lt8.last ≡ c.args.r). all_placed {r = c.args.r} (omega (arith, within, c.loop-e-test.false, same)) placed)
-    (λ w. nine_placed size w.0 (omega (arith, within, c.loop-e-test.false, w.1)) placed)
-    last-is
+returns c = placed-all c.args.r c.loop-e.e c.requires (omega (arith, c.min-count.ensures)) c.loop-e.invariant
