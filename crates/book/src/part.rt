@@ -14,10 +14,8 @@ fn start_of(s: &[u8], n: usize) -> usize
     ensures { result ≡ start s.now n }
 {
     let mut at = 1;
-    let mut m = 0;
-    while m < n {
+    for _ in 0..n {
         at = at + 1 + 2 * s[at] as usize;
-        m += 1;
     }
     at
 }

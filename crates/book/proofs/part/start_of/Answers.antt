@@ -1,4 +1,5 @@
--- `book::part::start_of` meets its contract: before each turn `at` is the place of pattern m's pixel count.
+-- `book::part::start_of` meets its contract: before each turn `at` is the place of the pixel count of the pattern whose number
+-- the loop has reached.
 -- Assumes nothing.
 use Prim.Native.Nat.{ℕ, ◌+◌, ◌*◌, ◌≤◌, ◌<◌}
 use native.Mathlib.Omega.{arith}
@@ -17,36 +18,28 @@ bounds :
     → (m < 16) × (byte s at ≤ 64) × (at + 1 + 2 * byte s at ≤ length s)
 bounds s {n} {m} legal below here = pattern_bounds s legal.0 m here (omega (arith, legal.1))
 
-pub loop-m-init : goal.loop-m-init
+pub loop-init : goal.loop-init
 unfolding start
-loop-m-init c = (omega arith, refl)
+loop-init c = refl
 
-pub loop-m-preserved : goal.loop-m-preserved
+pub loop-preserved : goal.loop-preserved
 unfolding byte
-loop-m-preserved c =
-    (omega arith, step_to_next c.args.s.now c.loop-m.m c.loop-m.invariant.1)
+loop-preserved c = step_to_next c.args.s.now c.loop.counter c.loop.invariant
 
 pub returns : goal.returns
 returns c =
-    let end : c.loop-m.m ≡ c.args.n = omega arith in
-    c.loop-m.invariant.1 ∙ ap (start c.args.s.now) end
+    let end : c.loop.counter ≡ c.args.n = omega arith in
+    c.loop.invariant ∙ ap (start c.args.s.now) end
 
 pub overflow_add-at : goal.overflow_add-at
 overflow_add-at c =
-    omega (arith, bounds _ c.requires c.loop-m-test.true c.loop-m.invariant.1)
+    omega (arith, bounds _ c.requires c.loop-test.true c.loop.invariant)
 
 pub bounds-s-at : goal.bounds-s-at
 bounds-s-at c =
-    omega (arith, bounds _ c.requires c.loop-m-test.true c.loop-m.invariant.1)
+    omega (arith, bounds _ c.requires c.loop-test.true c.loop.invariant)
 
-pub overflow_cast-at : goal.overflow_cast-at
-overflow_cast-at c =
-    omega (arith, bounds _ c.requires c.loop-m-test.true c.loop-m.invariant.1)
-
-pub overflow_mul-at : goal.overflow_mul-at
-overflow_mul-at c =
-    omega (arith, bounds _ c.requires c.loop-m-test.true c.loop-m.invariant.1)
-
-pub overflow_add-at-in-loop-m : goal.overflow_add-at-in-loop-m
-overflow_add-at-in-loop-m c =
-    omega (arith, bounds _ c.requires c.loop-m-test.true c.loop-m.invariant.1)
+pub overflow_add-at-in-loop : goal.overflow_add-at-in-loop
+unfolding byte
+overflow_add-at-in-loop c =
+    omega (arith, bounds _ c.requires c.loop-test.true c.loop.invariant)
