@@ -16,14 +16,12 @@ fn pattern_at(s: &[u8], at: usize) -> Pattern
     let used = s[at] as usize;
     let mut columns = [0i8; 64];
     let mut rows = [0i8; 64];
-    let mut e = 0;
-    while e < used {
+    for e in 0..used {
         let i = at + 1 + 2 * e;
         let x = signed_byte(s[i]);
         let y = signed_byte(s[i + 1]);
         columns[e] = x;
         rows[e] = y;
-        e += 1;
     }
     Pattern {
         columns,
@@ -63,12 +61,10 @@ fn book_at(s: &[u8]) -> Book
     let mut patterns = [empty; 16];
     let count = s[0] as usize;
     let mut at = 1;
-    let mut n = 0;
-    while n < count {
+    for n in 0..count {
         let t = pattern_at(s, at);
         patterns[n] = t;
         at = at + 1 + 2 * s[at] as usize;
-        n += 1;
     }
     Book { patterns, count }
 }

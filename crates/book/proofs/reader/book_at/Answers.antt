@@ -27,14 +27,13 @@ bounds-s-0 c = count_inside _ c.requires
 
 pub loop-n-init : goal.loop-n-init
 unfolding start
-loop-n-init c = (omega arith, refl, rw c.empty_pattern-empty.ensures (filled_none _))
+loop-n-init c = (refl, rw c.empty_pattern-empty.ensures (filled_none _))
 
 pub loop-n-preserved : goal.loop-n-preserved
 unfolding byte
 loop-n-preserved c =
     let n = c.loop-n.n in
-    let (below, here, filled) = c.loop-n.invariant in (
-      omega arith,
+    let (here, filled) = c.loop-n.invariant in (
       step_to_next c.args.s.now n here,
       filled_more filled (c.pattern_at-t.ensures ∙ ap (λ i. pattern_of (pattern_from c.args.s.now i)) here),
     )
@@ -43,40 +42,36 @@ pub returns : goal.returns
 unfolding book_in
 returns c =
     let end : get_or c.args.s.now 0 0 ≡ c.loop-n.n = omega arith in
-    rw (end, book_in) (patterns_filled (pattern_in c.args.s.now) c.loop-n.n c.loop-n.invariant.2)
+    rw (end, book_in) (patterns_filled (pattern_in c.args.s.now) c.loop-n.n c.loop-n.invariant.1)
 
 pub pattern_at-t-requires : goal.pattern_at-t-requires
 pattern_at-t-requires c =
-    ((bounds _ c.requires c.loop-n-test.true c.loop-n.invariant.1).1, (bounds _ c.requires c.loop-n-test.true c.loop-n.invariant.1).2)
+    ((bounds _ c.requires c.loop-n-test.true c.loop-n.invariant.0).1, (bounds _ c.requires c.loop-n-test.true c.loop-n.invariant.0).2)
 
 pub offset_bounds-patterns-n : goal.offset_bounds-patterns-n
 offset_bounds-patterns-n c =
-    omega (arith, bounds _ c.requires c.loop-n-test.true c.loop-n.invariant.1)
+    omega (arith, bounds _ c.requires c.loop-n-test.true c.loop-n.invariant.0)
 
 pub bounds-patterns-n : goal.bounds-patterns-n
 bounds-patterns-n c =
-    omega (arith, bounds _ c.requires c.loop-n-test.true c.loop-n.invariant.1)
+    omega (arith, bounds _ c.requires c.loop-n-test.true c.loop-n.invariant.0)
 
 pub overflow_add-at : goal.overflow_add-at
 overflow_add-at c =
-    omega (arith, bounds _ c.requires c.loop-n-test.true c.loop-n.invariant.1)
+    omega (arith, bounds _ c.requires c.loop-n-test.true c.loop-n.invariant.0)
 
 pub bounds-s-at : goal.bounds-s-at
 bounds-s-at c =
-    omega (arith, bounds _ c.requires c.loop-n-test.true c.loop-n.invariant.1)
+    omega (arith, bounds _ c.requires c.loop-n-test.true c.loop-n.invariant.0)
 
 pub overflow_cast-at : goal.overflow_cast-at
 overflow_cast-at c =
-    omega (arith, bounds _ c.requires c.loop-n-test.true c.loop-n.invariant.1)
+    omega (arith, bounds _ c.requires c.loop-n-test.true c.loop-n.invariant.0)
 
 pub overflow_mul-at : goal.overflow_mul-at
 overflow_mul-at c =
-    omega (arith, bounds _ c.requires c.loop-n-test.true c.loop-n.invariant.1)
+    omega (arith, bounds _ c.requires c.loop-n-test.true c.loop-n.invariant.0)
 
 pub overflow_add-at-in-loop-n : goal.overflow_add-at-in-loop-n
 overflow_add-at-in-loop-n c =
-    omega (arith, bounds _ c.requires c.loop-n-test.true c.loop-n.invariant.1)
-
-pub overflow_add-n : goal.overflow_add-n
-overflow_add-n c =
-    omega (arith, bounds _ c.requires c.loop-n-test.true c.loop-n.invariant.1)
+    omega (arith, bounds _ c.requires c.loop-n-test.true c.loop-n.invariant.0)

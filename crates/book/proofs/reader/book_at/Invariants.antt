@@ -1,7 +1,6 @@
 -- `book::reader::book_at` meets its contract: before each turn `at` is the place of pattern n's pixel count, and the
 -- array is filled with the first n patterns.
 -- Assumes nothing.
-use Prim.Native.Nat.{◌-◌, ◌≤◌}
 use mathlib.Core.Path.{◌≡◌}
 use mathlib.Core.List.{[]}
 use lib.ListN.{replicate}
@@ -12,9 +11,5 @@ use Rattle.book.proofs.reader.book_at.Given as goal
 
 abbrev pub invariant-loop-n : goal.invariant-loop-n
 invariant-loop-n l =
-    (l.n ≤ l.count)
-    × (l.at ≡ start l.s l.n)
+    (l.at ≡ start l.s l.n)
     × Filled (pattern_of []) (λ m. pattern_of (pattern_in l.s m)) l.n (replicate 16 (pattern_of [])) l.patterns
-
-abbrev pub decreases-loop-n : goal.decreases-loop-n
-decreases-loop-n l = l.count - l.n

@@ -12,16 +12,15 @@ use Rattle.book.proofs.Fills.{pixels_filled}
 use Rattle.book.proofs.reader.pattern_at.Goals as goal
 
 pub loop-e-init : goal.loop-e-init
-loop-e-init c = (omega arith, filled_none _, filled_none _)
+loop-e-init c = (filled_none _, filled_none _)
 
 pub loop-e-preserved : goal.loop-e-preserved
 unfolding pixel_from
 loop-e-preserved c =
     let x = c.signed_byte-x in
     let y = c.signed_byte-y in (
-      omega arith,
-      filled_more c.loop-e.invariant.1 (number_handed w8 x.type_inv ∙ x.ensures),
-      filled_more c.loop-e.invariant.2 (number_handed w8 y.type_inv ∙ y.ensures),
+      filled_more c.loop-e.invariant.0 (number_handed w8 x.type_inv ∙ x.ensures),
+      filled_more c.loop-e.invariant.1 (number_handed w8 y.type_inv ∙ y.ensures),
     )
 
 pub returns : goal.returns
@@ -29,7 +28,7 @@ unfolding pattern_from
 returns c =
     let u = c.args in
     let end : get_or u.s.now u.at 0 ≡ c.loop-e.e = omega arith in
-    rw (end, pattern_from) (pixels_filled (pixel_from u.s.now (u.at + 1)) c.loop-e.e c.loop-e.invariant.1 c.loop-e.invariant.2)
+    rw (end, pattern_from) (pixels_filled (pixel_from u.s.now (u.at + 1)) c.loop-e.e c.loop-e.invariant.0 c.loop-e.invariant.1)
 
 pub bounds-s-i : goal.bounds-s-i
 unfolding byte
