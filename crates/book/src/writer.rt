@@ -27,11 +27,9 @@ fn put_pattern(t: Pattern, out: &mut [u8])
     let rows = t.rows;
     let used = t.used;
     out[0] = used as u8;
-    let mut e = 0;
-    while e < used {
+    for e in 0..used {
         out[1 + 2 * e] = unsigned_byte(columns[e]);
         out[2 + 2 * e] = unsigned_byte(rows[e]);
-        e += 1;
     }
 }
 
@@ -42,11 +40,8 @@ fn byte_count(book: Book) -> usize
 {
     let count = book.count;
     let mut size = 1;
-    let mut n = 0;
-    while n < count {
-        let t = book.patterns[n];
-        size = size + 1 + 2 * t.used;
-        n += 1;
+    for n in 0..count {
+        size += 1 + 2 * book.patterns[n].used;
     }
     size
 }
@@ -59,12 +54,10 @@ fn put_book(book: Book, out: &mut [u8])
     let count = book.count;
     out[0] = count as u8;
     let mut at = 1;
-    let mut n = 0;
-    while n < count {
+    for n in 0..count {
         let t = book.patterns[n];
         put_pattern(t, &mut out[at..]);
         at = at + 1 + 2 * t.used;
-        n += 1;
     }
 }
 

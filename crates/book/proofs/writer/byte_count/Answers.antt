@@ -11,18 +11,18 @@ use Rattle.book.proofs.PutBooks.{pattern_fits}
 use Rattle.book.proofs.writer.byte_count.Goals as goal
 
 pub loop-n-init : goal.loop-n-init
-loop-n-init c = (omega arith, sym (length_no_pattern c.args.book))
+loop-n-init c = sym (length_no_pattern c.args.book)
 
 pub loop-n-preserved : goal.loop-n-preserved
 unfolding pattern_at
 loop-n-preserved c =
-    (omega arith, sym (length_one_more_pattern c.args.book c.loop-n.n ∙ omega (arith, c.loop-n.invariant.1)))
+    sym (length_one_more_pattern c.args.book c.loop-n.n ∙ omega (arith, c.loop-n.invariant))
 
 pub returns : goal.returns
 returns c =
     let book = c.args.book in
     let done : c.loop-n.n ≡ book.count = omega arith in
-    c.loop-n.invariant.1 ∙ ap (λ (n : ℕ). length (patterns_put book n)) done ∙ ap length (all_patterns_put book)
+    c.loop-n.invariant ∙ ap (λ (n : ℕ). length (patterns_put book n)) done ∙ ap length (all_patterns_put book)
 
 pub offset_bounds-book-n : goal.offset_bounds-book-n
 offset_bounds-book-n c =
@@ -45,9 +45,4 @@ overflow_mul-size c =
 pub overflow_add-size-in-loop-n : goal.overflow_add-size-in-loop-n
 unfolding pattern_at
 overflow_add-size-in-loop-n c =
-    omega (arith, pattern_fits c.args.book c.loop-n.n c.requires c.loop-n-test.true)
-
-pub overflow_add-n : goal.overflow_add-n
-unfolding pattern_at
-overflow_add-n c =
     omega (arith, pattern_fits c.args.book c.loop-n.n c.requires c.loop-n-test.true)

@@ -39,7 +39,7 @@ bounds-out-0 c = omega (arith, c.requires.1)
 pub loop-n-init : goal.loop-n-init
 unfolding flat_map gather
 loop-n-init c =
-    let u = c.args in (omega arith, sym (length_no_pattern u.book), first_put u.book.count u.out.now (bounds-out-0 c))
+    let u = c.args in (sym (length_no_pattern u.book), first_put u.book.count u.out.now (bounds-out-0 c))
 
 pub offset_bounds-book-n : goal.offset_bounds-book-n
 offset_bounds-book-n c = omega (arith, fits c.args.book c.requires.0 c.loop-n-test.true)
@@ -48,51 +48,46 @@ pub bounds-book-n : goal.bounds-book-n
 bounds-book-n c = omega (arith, fits c.args.book c.requires.0 c.loop-n-test.true)
 
 pub slice_bounds-put_pattern-count : goal.slice_bounds-put_pattern-count
-slice_bounds-put_pattern-count c = omega (arith, room c.args.book c.requires.0 c.loop-n-test.true _ c.requires.1 c.loop-n.invariant.1 c.loop-n.invariant.2)
+slice_bounds-put_pattern-count c = omega (arith, room c.args.book c.requires.0 c.loop-n-test.true _ c.requires.1 c.loop-n.invariant.0 c.loop-n.invariant.1)
 
 pub slice_bounds-put_pattern-start : goal.slice_bounds-put_pattern-start
-slice_bounds-put_pattern-start c = omega (arith, room c.args.book c.requires.0 c.loop-n-test.true _ c.requires.1 c.loop-n.invariant.1 c.loop-n.invariant.2)
+slice_bounds-put_pattern-start c = omega (arith, room c.args.book c.requires.0 c.loop-n-test.true _ c.requires.1 c.loop-n.invariant.0 c.loop-n.invariant.1)
 
 pub put_pattern-requires : goal.put_pattern-requires
 unfolding pattern_at
 put_pattern-requires c = (
   (fits c.args.book c.requires.0 c.loop-n-test.true).pixel_count,
   simp (length-take, length-drop)
-      (omega (arith, room c.args.book c.requires.0 c.loop-n-test.true _ c.requires.1 c.loop-n.invariant.1 c.loop-n.invariant.2)),
+      (omega (arith, room c.args.book c.requires.0 c.loop-n-test.true _ c.requires.1 c.loop-n.invariant.0 c.loop-n.invariant.1)),
 )
 
 pub overflow_add-at : goal.overflow_add-at
 unfolding pattern_at
-overflow_add-at c = omega (arith, fits c.args.book c.requires.0 c.loop-n-test.true, c.loop-n.invariant.1)
+overflow_add-at c = omega (arith, fits c.args.book c.requires.0 c.loop-n-test.true, c.loop-n.invariant.0)
 
 pub overflow_mul-at : goal.overflow_mul-at
 unfolding pattern_at
-overflow_mul-at c = omega (arith, fits c.args.book c.requires.0 c.loop-n-test.true, c.loop-n.invariant.1)
+overflow_mul-at c = omega (arith, fits c.args.book c.requires.0 c.loop-n-test.true, c.loop-n.invariant.0)
 
 pub overflow_add-at-in-loop-n : goal.overflow_add-at-in-loop-n
 unfolding pattern_at
-overflow_add-at-in-loop-n c = omega (arith, fits c.args.book c.requires.0 c.loop-n-test.true, c.loop-n.invariant.1)
-
-pub overflow_add-n : goal.overflow_add-n
-unfolding pattern_at
-overflow_add-n c = omega (arith, fits c.args.book c.requires.0 c.loop-n-test.true, c.loop-n.invariant.1)
+overflow_add-at-in-loop-n c = omega (arith, fits c.args.book c.requires.0 c.loop-n-test.true, c.loop-n.invariant.0)
 
 pub loop-n-preserved : goal.loop-n-preserved
 unfolding pattern_at
 loop-n-preserved c =
     let book = c.args.book in
     let l = c.loop-n in
-    let (bounded, place, put) = l.invariant in (
-      omega arith,
+    let (place, put) = l.invariant in (
       sym (length_one_more_pattern book l.n ∙ omega (arith, place)),
       pattern_put book l.n c.put_pattern.new.out l.at (length l.out - l.at) put place
           (omega (arith, put.same_length))
-          (omega (arith, room c.args.book c.requires.0 c.loop-n-test.true _ c.requires.1 c.loop-n.invariant.1 c.loop-n.invariant.2, put.same_length))
+          (omega (arith, room c.args.book c.requires.0 c.loop-n-test.true _ c.requires.1 c.loop-n.invariant.0 c.loop-n.invariant.1, put.same_length))
           c.put_pattern.ensures,
     )
 
 pub shape_of-out : goal.shape_of-out
-shape_of-out c = c.loop-n.invariant.2.same_length ∙ length-set c.args.out.now 0 _
+shape_of-out c = c.loop-n.invariant.1.same_length ∙ length-set c.args.out.now 0 _
 
 pub returns : goal.returns
 returns c =
@@ -100,5 +95,5 @@ returns c =
     let book = u.book in
     let done : c.loop-n.n ≡ book.count = omega arith in
     let put : Put (patterns_put book book.count) (set u.out.now 0 book.count) c.loop-n.out =
-    rw done at c.loop-n.invariant.2 in
+    rw done at c.loop-n.invariant.1 in
     all_put book.count book.count _ (book_bytes book) u.out.now c.loop-n.out put (all_patterns_put book)

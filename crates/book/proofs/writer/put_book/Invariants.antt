@@ -1,7 +1,6 @@
 -- `book::writer::put_book` meets its contract. The loop's invariant: the pattern count and the bytes of the first n patterns
 -- were put, and end at `at`.
 -- Assumes nothing.
-use Prim.Native.Nat.{◌-◌, ◌≤◌}
 use mathlib.Core.Path.{◌≡◌}
 use lib.ListN.{length}
 use Rattle.checks.proofs.Outputs.{Put}
@@ -10,7 +9,4 @@ use Rattle.book.proofs.writer.put_book.Given as goal
 
 abbrev pub invariant-loop-n : goal.invariant-loop-n
 invariant-loop-n l =
-    (l.n ≤ l.count) × (l.at ≡ length (patterns_put l.book l.n)) × Put (patterns_put l.book l.n) l.initial.out l.out
-
-abbrev pub decreases-loop-n : goal.decreases-loop-n
-decreases-loop-n l = l.count - l.n
+    (l.at ≡ length (patterns_put l.book l.n)) × Put (patterns_put l.book l.n) l.initial.out l.out

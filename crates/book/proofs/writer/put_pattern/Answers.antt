@@ -37,33 +37,31 @@ turn c = c.before.before.before.before
 room : (c : In-loop-e) → 2 + 2 * c.loop-e.e < length c.loop-e.out
 room c =
     let u = (entry c.before.before).args in
-    omega (arith, c.loop-e.invariant.1, length-set u.out.now 0 u.t.used)
+    omega (arith, c.loop-e.invariant, length-set u.out.now 0 u.t.used)
 
 pub loop-e-init : goal.loop-e-init
 unfolding flat_map gather
-loop-e-init c = let u = (entry c).args in (omega arith, first_put u.t.used u.out.now (omega arith))
+loop-e-init c = let u = (entry c).args in first_put u.t.used u.out.now (omega arith)
 
 pub loop-e-preserved : goal.loop-e-preserved
 loop-e-preserved c =
-    let l = (turn c).before in (
-      omega arith,
-      pixel_put (entry l.before).args.t l.loop-e.e
-          (c.unsigned_byte.ensures ∙ ap unsigned (number_handed w8 c.unsigned_byte-arg-1.given))
-          (c.unsigned_byte-in-loop-e.ensures ∙ ap unsigned (number_handed w8 c.unsigned_byte-arg-in-loop-e-1.given))
-          l.loop-e.invariant.1
-          (omega (arith, room (turn c))),
-    )
+    let l = (turn c).before in
+    pixel_put (entry l.before).args.t l.loop-e.e
+    (c.unsigned_byte.ensures ∙ ap unsigned (number_handed w8 c.unsigned_byte-arg-1.given))
+    (c.unsigned_byte-in-loop-e.ensures ∙ ap unsigned (number_handed w8 c.unsigned_byte-arg-in-loop-e-1.given))
+    l.loop-e.invariant
+    (omega (arith, room (turn c)))
 
 pub shape_of-out : goal.shape_of-out
 shape_of-out c =
-    c.loop-e.invariant.1.same_length ∙ length-set (entry c.before.before).args.out.now 0 _
+    c.loop-e.invariant.same_length ∙ length-set (entry c.before.before).args.out.now 0 _
 
 pub returns : goal.returns
 returns c =
     let u = (entry c.before.before).args in
     let done : c.loop-e.e ≡ u.t.used = omega arith in
     let put : Put (pixels_put u.t u.t.used) (set u.out.now 0 u.t.used) c.loop-e.out =
-    rw done at c.loop-e.invariant.1 in
+    rw done at c.loop-e.invariant in
     all_put u.t.used u.t.used _ (pattern_bytes (pixels u.t)) u.out.now c.loop-e.out put (all_pixels_put u.t)
 
 pub bounds-out-e : goal.bounds-out-e

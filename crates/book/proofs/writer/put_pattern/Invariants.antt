@@ -1,14 +1,10 @@
 -- `book::writer::put_pattern` meets its contract. The loop's invariant: the pixel count and the bytes of the first e pixels
 -- were put.
 -- Assumes nothing.
-use Prim.Native.Nat.{◌-◌, ◌≤◌}
 use Rattle.checks.proofs.Outputs.{Put}
 use Rattle.book.proofs.PutBooks.{pixels_put}
 use Rattle.book.proofs.writer.put_pattern.Given as goal
 
 abbrev pub invariant-loop-e : goal.invariant-loop-e
 invariant-loop-e l =
-    (l.e ≤ l.used) × Put (pixels_put (record { columns = l.columns; rows = l.rows; used = l.used }) l.e) l.initial.out l.out
-
-abbrev pub decreases-loop-e : goal.decreases-loop-e
-decreases-loop-e l = l.used - l.e
+    Put (pixels_put (record { columns = l.columns; rows = l.rows; used = l.used }) l.e) l.initial.out l.out
