@@ -32,14 +32,7 @@ fn is_among(least: &[u16], e: usize, k: u16) -> bool
     requires { e < length least.now }
     ensures { result ≡ is_among least.now e k }
 {
-    let mut l = 0;
-    while l < e {
-        if least[l + 1] == k {
-            return true;
-        }
-        l += 1;
-    }
-    false
+    least[1..e + 1].contains(&k)
 }
 
 // The tests of the pixel (x, y) at position e of its pattern; i and j are the places of its column and its row. `least` has the
