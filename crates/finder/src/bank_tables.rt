@@ -17,11 +17,9 @@ pub(crate) fn put_lanes(a: usize, lanes: &mut [u16])
     ensures { lanes.new ≡ lanes_of a }
 {
     let mut x = 0;
-    let mut c = 0;
-    while c < 32 {
+    for c in 0..32 {
         lanes[c] = x as u16;
         x = next_below(a, x);
-        c += 1;
     }
 }
 
@@ -31,11 +29,9 @@ pub(crate) fn put_bases(a: usize, d: usize, bases: &mut [u16])
     ensures { bases.new ≡ bases_of a d }
 {
     let mut row = 0;
-    let mut j = 0;
-    while j < 32 {
+    for j in 0..32 {
         bases[j] = (row * a) as u16;
         row = next_below(d, row);
-        j += 1;
     }
 }
 
@@ -54,10 +50,8 @@ pub(crate) fn put_shifts(a: usize, b: usize, d: usize, shifts: &mut [u16])
 {
     let mut x = 0;
     let mut row = 0;
-    let mut j = 0;
-    while j < 32 {
+    for j in 0..32 {
         shifts[j] = x as u16;
-        j += 1;
         row += 1;
         if row == d {
             row = 0;

@@ -13,7 +13,7 @@ use Rattle.finder.proofs.CellEntries.{remainder_below, next_remainder}
 use Rattle.finder.proofs.bank_tables.put_bases.Goals as goal
 
 pub loop-j-init : goal.loop-j-init
-loop-j-init c = (omega arith, sym (zero-mod _), filled_none _)
+loop-j-init c = (sym (zero-mod _), filled_none _)
 
 -- a row's first bank is below 1024, and so is d
 small : (a d j row : ℕ) → 1 ≤ a → 1 ≤ d → a * d ≤ 1024 → row ≡ j % d → row * a < 1024
@@ -25,23 +25,23 @@ factor-small a d h m = omega (arith, mul-le-mul_right d h)
 module _ (c : goal.In-loop-j) where
   base-small : c.loop-j.row * c.args.a < 1024
   base-small =
-      small _ c.args.d c.loop-j.j _ (omega arith) (omega arith) c.requires.2 c.loop-j.invariant.1
+      small _ c.args.d c.loop-j.j _ (omega arith) (omega arith) c.requires.2 c.loop-j.invariant.0
 
 pub next_below-row-requires : goal.next_below-row-requires
 next_below-row-requires c =
-    (remainder_below _ c.loop-j.j _ c.requires.1 c.loop-j.invariant.1, factor-small c.args.a c.args.d c.requires.0 c.requires.2)
+    (remainder_below _ c.loop-j.j _ c.requires.1 c.loop-j.invariant.0, factor-small c.args.a c.args.d c.requires.0 c.requires.2)
 
 pub loop-j-preserved : goal.loop-j-preserved
 loop-j-preserved c =
-    (omega arith, next_remainder c.loop-j.row _ c.loop-j.j _ c.loop-j.invariant.1 c.next_below-row.ensures, filled_more c.loop-j.invariant.2 (ap (λ (k : ℕ). k * c.args.a) c.loop-j.invariant.1))
+    (next_remainder c.loop-j.row _ c.loop-j.j _ c.loop-j.invariant.0 c.next_below-row.ensures, filled_more c.loop-j.invariant.1 (ap (λ (k : ℕ). k * c.args.a) c.loop-j.invariant.0))
 
 pub shape_of-bases : goal.shape_of-bases
-shape_of-bases c = c.loop-j.invariant.2.size
+shape_of-bases c = c.loop-j.invariant.1.size
 
 pub returns : goal.returns
 unfolding bases_of
 returns c =
-    let t = c.loop-j.invariant.2 in
+    let t = c.loop-j.invariant.1 in
     filled_all t (omega (arith, t.size)) ∙ ap (λ (n : ℕ). gather 0 n (λ m. (m % c.args.d) * c.args.a)) c.requires.3
 
 pub overflow_mul-bases : goal.overflow_mul-bases
@@ -58,12 +58,4 @@ offset_bounds-bases-j c =
 
 pub bounds-bases-j : goal.bounds-bases-j
 bounds-bases-j c =
-    omega (arith, c.loop-j.invariant.2.size)
-
-pub overflow_add-j : goal.overflow_add-j
-overflow_add-j c =
-    omega arith
-
-pub loop-j-smaller : goal.loop-j-smaller
-loop-j-smaller c =
-    omega arith
+    omega (arith, c.loop-j.invariant.1.size)

@@ -4,52 +4,41 @@
 use native.Mathlib.Omega.{arith}
 use native.Mathlib.Nat.{mod-le}
 use Rattle.finder.proofs.Shifts.{none_put, put_in_strip, put_last_of_strip, all_put}
+use Rattle.finder.proofs.bank_tables.put_shifts.Goals.{then-row-d, else-row-d}
 use Rattle.finder.proofs.bank_tables.put_shifts.Goals as goal
 
 pub loop-j-init : goal.loop-j-init
-loop-j-init c = (omega arith, none_put (omega arith) (omega arith))
+loop-j-init c = none_put (omega arith) (omega arith)
 
 -- in a turn: the shift is below a, and the row in its strip is at most j
 pub overflow_cast-shifts : goal.overflow_cast-shifts
-overflow_cast-shifts c = omega (arith, c.loop-j.invariant.1.shift.below)
+overflow_cast-shifts c = omega (arith, c.loop-j.invariant.shift.below)
 
 pub bounds-shifts-j : goal.bounds-shifts-j
-bounds-shifts-j c = omega (arith, c.loop-j.invariant.1.size)
+bounds-shifts-j c = omega (arith, c.loop-j.invariant.size)
 
 pub overflow_add-row : goal.overflow_add-row
 overflow_add-row c =
-    let l = c.loop-j in omega (arith, l.invariant.1.row, mod-le l.j c.args.d)
+    let l = c.loop-j in omega (arith, l.invariant.row, mod-le l.j c.args.d)
 
 pub next_shift-x-requires : goal.next_shift-x-requires
-next_shift-x-requires c = (omega arith, c.loop-j.invariant.1.shift.below, omega arith)
-
-pub loop-j-preserved-then-row-d : goal.loop-j-preserved-then-row-d
-loop-j-preserved-then-row-d c =
-    let (below, sum) = c.next_shift-x.ensures in
-    (omega arith, put_last_of_strip (omega arith) (omega arith) below sum c.loop-j.invariant.1)
+next_shift-x-requires c = (omega arith, c.loop-j.invariant.shift.below, omega arith)
 
 pub loop-j-preserved : goal.loop-j-preserved
 loop-j-preserved c =
-    (omega arith, put_in_strip (omega arith) (omega arith) (λ e. omega arith) c.loop-j.invariant.1)
+    elim c.if-row-d.branch [
+      | then-row-d w ↦
+          rw (w.row-is, w.x-is)
+          (put_last_of_strip (omega arith) (omega arith) w.next_shift-x.ensures.0 w.next_shift-x.ensures.1 c.loop-j.invariant)
+      | else-row-d w ↦ rw (w.row-is, w.x-is) (put_in_strip (omega arith) (omega arith) (λ e. omega arith) c.loop-j.invariant)
+    ]
 
 pub shape_of-shifts : goal.shape_of-shifts
-shape_of-shifts c = omega (arith, c.loop-j.invariant.1.size)
+shape_of-shifts c = omega (arith, c.loop-j.invariant.size)
 
 pub returns : goal.returns
-returns c = all_put (omega arith) c.loop-j.invariant.1
+returns c = all_put (omega arith) c.loop-j.invariant
 
 pub offset_bounds-shifts-j : goal.offset_bounds-shifts-j
 offset_bounds-shifts-j c =
-    omega arith
-
-pub overflow_add-j : goal.overflow_add-j
-overflow_add-j c =
-    omega arith
-
-pub loop-j-smaller-then-row-d : goal.loop-j-smaller-then-row-d
-loop-j-smaller-then-row-d c =
-    omega arith
-
-pub loop-j-smaller : goal.loop-j-smaller
-loop-j-smaller c =
     omega arith
