@@ -29,10 +29,8 @@ fn put_entries(t: Pattern, n: usize, cells: &mut [u16])
     requires { (t.used ≤ 64) × (n < 16) × (length cells.old ≡ 1040) }
     ensures { EntriesPut t n 65 cells.old cells.new }
 {
-    let mut e = 0;
-    while e < 65 {
+    for e in 0..65 {
         cells[65 * n + e] = entry_of(t, e);
-        e += 1;
     }
 }
 
@@ -42,10 +40,8 @@ pub(crate) fn put_cells(book: Book, cells: &mut [u16])
     ensures { cells.new ≡ cells_of book }
 {
     let count = book.count;
-    let mut n = 0;
-    while n < count {
+    for n in 0..count {
         let t = book.patterns[n];
         put_entries(t, n, cells);
-        n += 1;
     }
 }

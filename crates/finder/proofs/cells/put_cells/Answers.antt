@@ -23,7 +23,7 @@ abbrev Start : Type 0
 Start = lts.Start tie.the-claims reads.Pre reads.Post goal.the-invariant-loop-n goal.the-decreases-loop-n
 
 pub loop-n-init : goal.loop-n-init
-loop-n-init c = (omega arith, filled_none _)
+loop-n-init c = filled_none _
 
 -- at the head of the loop: the record is a book, and the cells keep their length
 module _ (c : At-loop-n) where
@@ -34,7 +34,7 @@ module _ (c : At-loop-n) where
   legal = (book_legal_iff start.args.book).0 start.requires.0
 
   size : length c.loop-n.cells ≡ 1040
-  size = c.loop-n.invariant.1.size ∙ ap length start.requires.1 ∙ length-replicate {A = ℕ} 1040 0
+  size = c.loop-n.invariant.size ∙ ap length start.requires.1 ∙ length-replicate {A = ℕ} 1040 0
 
 pub put_entries-requires : goal.put_entries-requires
 unfolding pattern_at
@@ -44,13 +44,13 @@ put_entries-requires c =
 pub loop-n-preserved : goal.loop-n-preserved
 unfolding pattern_at
 loop-n-preserved c =
-    (omega (arith, c.loop-n-test.true), one_more_pattern (start c.before.before.before.before.before.before.before).args.book c.loop-n.n c.loop-n.invariant.1 c.put_entries.ensures)
+    one_more_pattern (start c.before.before.before.before.before.before.before).args.book c.loop-n.n c.loop-n.invariant c.put_entries.ensures
 
 pub returns : goal.returns
 returns c =
     let book = (start c.before).args.book in
     all_entries_put book (65 * c.loop-n.n)
-    (subst (λ (xs : List ℕ). Filled 0 (entry_at book) (65 * c.loop-n.n) xs c.loop-n.cells) (start c.before).requires.1 c.loop-n.invariant.1)
+    (subst (λ (xs : List ℕ). Filled 0 (entry_at book) (65 * c.loop-n.n) xs c.loop-n.cells) (start c.before).requires.1 c.loop-n.invariant)
     (omega arith)
 
 pub offset_bounds-book-n : goal.offset_bounds-book-n
@@ -61,14 +61,6 @@ pub bounds-book-n : goal.bounds-book-n
 bounds-book-n c =
     omega (arith, (legal c.before).most)
 
-pub overflow_add-n : goal.overflow_add-n
-overflow_add-n c =
-    omega arith
-
-pub loop-n-smaller : goal.loop-n-smaller
-loop-n-smaller c =
-    omega arith
-
 pub shape_of-cells : goal.shape_of-cells
 shape_of-cells c =
-    c.loop-n.invariant.1.size
+    c.loop-n.invariant.size

@@ -1,12 +1,9 @@
 -- `finder::cells::put_cells` meets its contract. The loop's invariant: the entries of the patterns before n are put.
 -- Assumes nothing.
-use Prim.Native.Nat.{◌*◌, ◌-◌, ◌≤◌}
+use Prim.Native.Nat.{◌*◌}
 use Rattle.checks.proofs.FilledArrays.{Filled}
 use Rattle.finder.proofs.BookCells.{entry_at}
 use Rattle.finder.proofs.cells.put_cells.Given as goal
 
 abbrev pub invariant-loop-n : goal.invariant-loop-n
-invariant-loop-n l = (l.n ≤ l.count) × Filled 0 (entry_at l.book) (65 * l.n) l.initial.cells l.cells
-
-abbrev pub decreases-loop-n : goal.decreases-loop-n
-decreases-loop-n l = l.count - l.n
+invariant-loop-n l = Filled 0 (entry_at l.book) (65 * l.n) l.initial.cells l.cells

@@ -16,7 +16,7 @@ abbrev At-loop-e : Type 0
 At-loop-e = lts.At-loop tie.the-claims reads.Pre reads.Post goal.the-invariant-loop-e goal.the-decreases-loop-e
 
 pub loop-e-init : goal.loop-e-init
-loop-e-init c = (omega arith, none_put _)
+loop-e-init c = none_put _
 
 -- in a turn the entry's place is among the cells
 module _ (c : goal.After-entry_of) where
@@ -25,19 +25,19 @@ module _ (c : goal.After-entry_of) where
 
   within : let u = head.args in 65 * u.n + head.loop-e.e < length head.loop-e.cells
   within =
-      omega (arith, head.requires.1, head.requires.2, head.loop-e.invariant.1.size, c.loop-e-test.true)
+      omega (arith, head.requires.1, head.requires.2, head.loop-e.invariant.size, c.loop-e-test.true)
 
 pub entry_of-requires : goal.entry_of-requires
 entry_of-requires c = (c.requires.0, omega (arith, c.loop-e-test.true))
 
 pub loop-e-preserved : goal.loop-e-preserved
-loop-e-preserved c = (omega (arith, c.loop-e-test.true), one_more_put _ (head c).loop-e.invariant.1 (within c) c.entry_of.ensures)
+loop-e-preserved c = one_more_put _ (head c).loop-e.invariant (within c) c.entry_of.ensures
 
 pub returns : goal.returns
 returns c =
     let u = c.args in
-    let all : c.loop-e.e ≡ 65 = omega (arith, c.loop-e.invariant.0, c.loop-e-test.false) in
-    subst (λ (m : ℕ). EntriesPut u.t u.n m u.cells.now c.loop-e.cells) all c.loop-e.invariant.1
+    let all : c.loop-e.e ≡ 65 = omega (arith, c.loop-e-test.false) in
+    subst (λ (m : ℕ). EntriesPut u.t u.n m u.cells.now c.loop-e.cells) all c.loop-e.invariant
 
 pub overflow_mul-cells : goal.overflow_mul-cells
 overflow_mul-cells c =
@@ -55,14 +55,6 @@ pub bounds-cells-n : goal.bounds-cells-n
 bounds-cells-n c =
     within c
 
-pub overflow_add-e : goal.overflow_add-e
-overflow_add-e c =
-    omega arith
-
-pub loop-e-smaller : goal.loop-e-smaller
-loop-e-smaller c =
-    omega arith
-
 pub shape_of-cells : goal.shape_of-cells
 shape_of-cells c =
-    c.loop-e.invariant.1.size
+    c.loop-e.invariant.size
