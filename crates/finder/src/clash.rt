@@ -64,15 +64,13 @@ pub(crate) fn class_positions(p: Plan, t: Pattern, e: usize, r: u8) -> [usize; 9
     let mut positions = [0usize; 9];
     positions[0] = e;
     let mut m = 0;
-    let mut l = e + 1;
-    while l < t.used {
+    for l in e + 1..t.used {
         if m < last {
             if bank_in(p, columns[l], rows[l]) == k {
                 m += 1;
                 positions[m] = l;
             }
         }
-        l += 1;
     }
     positions
 }

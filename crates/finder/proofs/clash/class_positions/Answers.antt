@@ -16,18 +16,18 @@ abbrev At-loop-l : Type 0
 At-loop-l = lts.At-loop tie.the-claims reads.Pre reads.Post goal.the-invariant-loop-l goal.the-decreases-loop-l
 
 abbrev In-loop-l : Type 0
-In-loop-l = lts.Then1 tie.the-claims reads.Pre reads.Post goal.the-invariant-loop-l goal.the-decreases-loop-l
+In-loop-l = lts.In-loop tie.the-claims reads.Pre reads.Post goal.the-invariant-loop-l goal.the-decreases-loop-l
 
 abbrev Start : Type 0
 Start = lts.Start tie.the-claims reads.Pre reads.Post goal.the-invariant-loop-l goal.the-decreases-loop-l
 
 pub loop-l-init : goal.loop-l-init
-loop-l-init c = (omega arith, none_placed _ _ _ _)
+loop-l-init c = none_placed _ _ _ _
 
 -- in a turn, at position l
 module _ (c : In-loop-l) where
   abbrev head : At-loop-l
-  head = c.before.before
+  head = c.before
 
   abbrev bank-known : goal.After-bank_in-k
   bank-known = head.before
@@ -42,22 +42,20 @@ module _ (c : In-loop-l) where
 
 pub loop-l-preserved : goal.loop-l-preserved
 loop-l-preserved c =
-    let placed = (head c.before).loop-l.invariant.1 in (
-      omega arith,
-      elim c.if-m-last.branch [
-        | then-m-last+then-bank_in-k w ↦
-            rw (w.positions-is, w.m-is) (one_placed placed w.if-m-last.true (start c.before).requires.3
-            (sym (bank_asked _ _ _ w.bank_in-arg-then-m-last-1.given w.bank_in-arg-then-m-last-2-1.given w.bank_in.ensures.0) ∙ w.if-bank_in-k.true ∙ class-bank c.before))
-        | then-m-last+else-bank_in-k w ↦
-            rw (w.positions-is, w.m-is) (other_bank placed
-            (λ same. w.if-bank_in-k.false (bank_asked _ _ _ w.bank_in-arg-then-m-last-1.given w.bank_in-arg-then-m-last-2-1.given w.bank_in.ensures.0 ∙ same ∙ sym (class-bank c.before))))
-        | else-m-last w ↦ rw (w.positions-is, w.m-is) (enough_placed placed w.if-m-last.false)
-      ],
-    )
+    let placed = (head c.before).loop-l.invariant in
+    elim c.if-m-last.branch [
+      | then-m-last+then-bank_in-k w ↦
+          rw (w.positions-is, w.m-is) (one_placed placed w.if-m-last.true (start c.before).requires.3
+          (sym (bank_asked _ _ _ w.bank_in-arg-then-m-last-1.given w.bank_in-arg-then-m-last-2-1.given w.bank_in.ensures.0) ∙ w.if-bank_in-k.true ∙ class-bank c.before))
+      | then-m-last+else-bank_in-k w ↦
+          rw (w.positions-is, w.m-is) (other_bank placed
+          (λ same. w.if-bank_in-k.false (bank_asked _ _ _ w.bank_in-arg-then-m-last-1.given w.bank_in-arg-then-m-last-2-1.given w.bank_in.ensures.0 ∙ same ∙ sym (class-bank c.before))))
+      | else-m-last w ↦ rw (w.positions-is, w.m-is) (enough_placed placed w.if-m-last.false)
+    ]
 
 pub returns : goal.returns
 returns c =
-    all_placed c.requires.0 c.requires.2 c.loop-l.invariant.1 c.loop-l.invariant.0 c.loop-l-test.false
+    all_placed c.requires.0 c.requires.2 c.loop-l.invariant (omega arith) c.loop-l-test.false
 
 pub bounds-columns-e : goal.bounds-columns-e
 bounds-columns-e c =
@@ -66,10 +64,6 @@ bounds-columns-e c =
 pub bounds-rows-e : goal.bounds-rows-e
 bounds-rows-e c =
     omega arith
-
-pub overflow_add-l : goal.overflow_add-l
-overflow_add-l c =
-    record { fits = omega arith }
 
 pub bounds-columns-l : goal.bounds-columns-l
 bounds-columns-l c =
@@ -89,12 +83,4 @@ offset_bounds-positions-m c =
 
 pub bounds-positions-m : goal.bounds-positions-m
 bounds-positions-m c =
-    omega arith
-
-pub overflow_add-l-in-loop-l : goal.overflow_add-l-in-loop-l
-overflow_add-l-in-loop-l c =
-    record { fits = omega arith }
-
-pub loop-l-smaller : goal.loop-l-smaller
-loop-l-smaller c =
     omega arith

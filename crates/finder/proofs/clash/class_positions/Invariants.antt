@@ -1,12 +1,8 @@
 -- `finder::clash::class_positions` meets its contract. The loop's invariant: the pixel's position and the first r after it with its
 -- bank, as far as l, are put. The measure is how many positions are left.
 -- Assumes nothing.
-use Prim.Native.Nat.{◌-◌, ◌≤◌}
 use Rattle.finder.proofs.ClassPositions.{PlacedTo}
 use Rattle.finder.proofs.clash.class_positions.Given as goal
 
 abbrev pub invariant-loop-l : goal.invariant-loop-l
-invariant-loop-l l = (l.l ≤ l.t.used) × PlacedTo l.r l.p l.t l.e l.positions l.m l.l
-
-abbrev pub decreases-loop-l : goal.decreases-loop-l
-decreases-loop-l l = l.t.used - l.l
+invariant-loop-l l = PlacedTo l.r l.p l.fn.t l.e l.positions l.m l.l
