@@ -47,15 +47,13 @@ fn pattern_crowded(
 {
     let used = pixels_in(cells, n);
     let mut counts = [0u8; 1024];
-    let mut e = 0;
-    while e < used {
+    for e in 0..used {
         let k = cell_bank(p, lanes, bases, shifts, cells[65 * n + (e + 1)]);
         let count = counts[k];
         if r <= count {
             return true;
         }
         counts[k] = count + 1;
-        e += 1;
     }
     false
 }
@@ -67,12 +65,10 @@ fn book_crowded(p: Plan, lanes: &[u16], bases: &[u16], cells: &[u16], r: u8) -> 
 {
     let mut shifts = [0u16; 32];
     put_shifts(p.a as usize, p.b as usize, p.d as usize, &mut shifts);
-    let mut n = 0;
-    while n < 16 {
+    for n in 0..16 {
         if pattern_crowded(p, lanes, bases, &shifts, cells, n, r) {
             return true;
         }
-        n += 1;
     }
     false
 }

@@ -29,7 +29,7 @@ put_shifts-requires c =
     (l.b_below, omega (arith, mul-le-mul_left c.args.p.a l.d_least, l.most), l.d_least, refl)
 
 pub loop-n-init : goal.loop-n-init
-loop-n-init c = (omega arith, λ m h. absurd (omega arith))
+loop-n-init c = λ m h. absurd (omega arith)
 
 pub pattern_crowded-requires : goal.pattern_crowded-requires
 pattern_crowded-requires c =
@@ -42,15 +42,7 @@ returns-then-pattern_crowded c =
 
 pub loop-n-preserved : goal.loop-n-preserved
 loop-n-preserved c =
-    (omega arith, one_more _ _ _ c.loop-n.n c.loop-n.invariant.1 (sym c.pattern_crowded.ensures ∙ c.if-pattern_crowded.false))
+    one_more _ _ _ c.loop-n.n c.loop-n.invariant (sym c.pattern_crowded.ensures ∙ c.if-pattern_crowded.false)
 
 pub returns : goal.returns
-returns c = sym (none_some_below 16 _ (λ m h. c.loop-n.invariant.1 m (omega (arith, c.loop-n-test.false))))
-
-pub overflow_add-n : goal.overflow_add-n
-overflow_add-n c =
-    omega arith
-
-pub loop-n-smaller : goal.loop-n-smaller
-loop-n-smaller c =
-    omega arith
+returns c = sym (none_some_below 16 _ (λ m h. c.loop-n.invariant m (omega (arith, c.loop-n-test.false))))

@@ -1,6 +1,6 @@
 -- `finder::counting::book_crowded` meets its contract. The loop's invariant: the patterns before n are not crowded.
 -- Assumes nothing.
-use Prim.Native.Nat.{ℕ, ◌-◌, ◌≤◌, ◌<◌}
+use Prim.Native.Nat.{ℕ, ◌<◌}
 use mathlib.Core.Path.{◌≡◌}
 use mathlib.Core.Bool.{Bool, false, not}
 use mathlib.Core.List.{List}
@@ -14,7 +14,4 @@ abbrev pub crowded : ℕ → Plan → List ℕ → ℕ → Bool
 crowded r p cells m = not (suits_for r p (pattern_in cells m))
 
 abbrev pub invariant-loop-n : goal.invariant-loop-n
-invariant-loop-n l = (l.n ≤ 16) × ((m : ℕ) → m < l.n → crowded l.r l.p l.cells m ≡ false)
-
-abbrev pub decreases-loop-n : goal.decreases-loop-n
-decreases-loop-n l = 16 - l.n
+invariant-loop-n l = ((m : ℕ) → m < l.n → crowded l.r l.p l.cells m ≡ false)

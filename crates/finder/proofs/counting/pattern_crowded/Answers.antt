@@ -51,7 +51,7 @@ module _ (s : After-pixels_in-used) where
   used-most = omega (arith, s.pixels_in-used.ensures, min-le_right (get_or start.args.cells.now (65 * start.args.n) 0) 64)
 
 pub loop-e-init : goal.loop-e-init
-loop-e-init c = (omega arith, none_counted _ _ _)
+loop-e-init c = none_counted _ _ _
 
 -- in a turn, where the bank of the pixel at e is known
 module _ (c : After-cell_bank-k) where
@@ -72,18 +72,18 @@ module _ (c : After-cell_bank-k) where
 pub returns-then-r-count : goal.returns-then-r-count
 returns-then-r-count c =
     let s = (head c.before.before).before in
-    counted_crowded _ _ (head c.before.before).loop-e.invariant.1 (bank-is c.before.before) c.cell_bank-k.ensures.1 (legal s) (omega (arith, used-is s)) c.if-r-count.true
+    counted_crowded _ _ (head c.before.before).loop-e.invariant (bank-is c.before.before) c.cell_bank-k.ensures.1 (legal s) (omega (arith, used-is s)) c.if-r-count.true
 
 pub overflow_add-counts : goal.overflow_add-counts
 overflow_add-counts c = omega (arith, c.if-r-count.false, (start (head c.before.before).before).ranges.r)
 
 pub loop-e-preserved : goal.loop-e-preserved
 loop-e-preserved c =
-    (omega arith, one_more_counted _ _ (head c.before.before).loop-e.invariant.1 (bank-is c.before.before) c.cell_bank-k.ensures.1 c.if-r-count.false)
+    one_more_counted _ _ (head c.before.before).loop-e.invariant (bank-is c.before.before) c.cell_bank-k.ensures.1 c.if-r-count.false
 
 pub returns : goal.returns
 returns c =
-    all_counted _ _ (legal c.before.before.before) c.loop-e.invariant.1 (omega (arith, used-is c.before.before.before, c.loop-e-test.false))
+    all_counted _ _ (legal c.before.before.before) c.loop-e.invariant (omega (arith, used-is c.before.before.before, c.loop-e-test.false))
 
 pub overflow_mul-n : goal.overflow_mul-n
 overflow_mul-n c =
@@ -112,11 +112,3 @@ bounds-counts-k c =
 pub bounds-counts-k-in-loop-e : goal.bounds-counts-k-in-loop-e
 bounds-counts-k-in-loop-e c =
     c.cell_bank-k.ensures.1
-
-pub overflow_add-e-in-loop-e : goal.overflow_add-e-in-loop-e
-overflow_add-e-in-loop-e c =
-    omega arith
-
-pub loop-e-smaller : goal.loop-e-smaller
-loop-e-smaller c =
-    omega arith

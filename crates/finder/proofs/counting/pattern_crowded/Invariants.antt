@@ -1,14 +1,10 @@
 -- `finder::counting::pattern_crowded` meets its contract. The loop's invariant: the first e pixels are counted, and each has a cycle
 -- below r.
 -- Assumes nothing.
-use Prim.Native.Nat.{◌-◌, ◌≤◌}
 use Rattle.finder.specs.Counting.{pattern_in}
 use Rattle.finder.proofs.CountedBanks.{CountedTo}
 use Rattle.finder.proofs.counting.pattern_crowded.Given as goal
 
 abbrev pub invariant-loop-e : goal.invariant-loop-e
 invariant-loop-e l =
-    (l.e ≤ l.used) × CountedTo l.p (pattern_in l.cells l.n) l.r l.counts l.e
-
-abbrev pub decreases-loop-e : goal.decreases-loop-e
-decreases-loop-e l = l.used - l.e
+    CountedTo l.p (pattern_in l.cells l.n) l.r l.counts l.e
