@@ -46,13 +46,11 @@ fn put_cycles(p: Plan, t: Pattern, out: &mut [u8])
     let columns = t.columns;
     let rows = t.rows;
     let mut taken = [0u8; 1024];
-    let mut e = 0;
-    while e < t.used {
+    for e in 0..t.used {
         let k = bank_in(p, columns[e], rows[e]);
         let cycle = taken[k];
         out[e] = cycle;
         taken[k] = cycle + 1;
-        e += 1;
     }
 }
 

@@ -20,12 +20,12 @@ abbrev Start : Type 0
 Start = lts.Start tie.the-claims reads.Pre reads.Post goal.the-invariant-loop-e goal.the-decreases-loop-e
 
 pub loop-e-init : goal.loop-e-init
-loop-e-init c = (omega arith, no_cycle_put _ _ _)
+loop-e-init c = no_cycle_put _ _ _
 
 -- in a turn, at pixel e, whose bank is known
 module _ (c : goal.After-bank_in-k) where
   abbrev head : At-loop-e
-  head = c.before.before.before.before.before
+  head = c.before.before.before.before
 
   abbrev start : Start
   start = head.before.before.before.before
@@ -37,23 +37,21 @@ module _ (c : goal.After-bank_in-k) where
   bank-small = c.bank_in-k.ensures.1
 
 pub bounds-out-e : goal.bounds-out-e
-bounds-out-e c = omega (arith, (head c).loop-e.invariant.1.put.same_length, (start c).requires.2)
+bounds-out-e c = omega (arith, (head c).loop-e.invariant.put.same_length, (start c).requires.2)
 
 pub overflow_add-taken : goal.overflow_add-taken
 overflow_add-taken c =
-    record { fits = omega (arith, cycle_below (head c).loop-e.invariant.1 (omega arith) (start c).requires.1 (bank-is c) (bank-small c)) }
+    record { fits = omega (arith, cycle_below (head c).loop-e.invariant (omega arith) (start c).requires.1 (bank-is c) (bank-small c)) }
 
 pub loop-e-preserved : goal.loop-e-preserved
-loop-e-preserved c = (
-  omega arith,
-  one_cycle_put (head c).loop-e.invariant.1 (omega arith) (start c).requires.1 (bank-is c) (bank-small c) (start c).requires.2,
-)
+loop-e-preserved c =
+    one_cycle_put (head c).loop-e.invariant (omega arith) (start c).requires.1 (bank-is c) (bank-small c) (start c).requires.2
 
 pub shape_of-out : goal.shape_of-out
-shape_of-out c = c.loop-e.invariant.1.put.same_length
+shape_of-out c = c.loop-e.invariant.put.same_length
 
 pub returns : goal.returns
-returns c = all_cycles_put c.loop-e.invariant.1 c.loop-e.invariant.0 c.loop-e-test.false
+returns c = all_cycles_put c.loop-e.invariant (omega arith) c.loop-e-test.false
 
 pub bounds-columns-e : goal.bounds-columns-e
 bounds-columns-e c =
@@ -68,11 +66,3 @@ bounds-taken-k = bank-small
 
 pub bounds-taken-k-in-loop-e : goal.bounds-taken-k-in-loop-e
 bounds-taken-k-in-loop-e = bank-small
-
-pub overflow_add-e : goal.overflow_add-e
-overflow_add-e c =
-    record { fits = omega arith }
-
-pub loop-e-smaller : goal.loop-e-smaller
-loop-e-smaller c =
-    omega arith
