@@ -51,11 +51,9 @@ fn mark_from(t: Pattern, e: usize, marks: &mut [u8])
     let used = t.used;
     let x = columns[e];
     let y = rows[e];
-    let mut l = 0;
-    while l < used {
+    for l in 0..used {
         let k = difference_cell(columns[l], rows[l], x, y);
         marks[k] = 1;
-        l += 1;
     }
 }
 
@@ -64,11 +62,8 @@ fn mark_pattern(t: Pattern, marks: &mut [u8])
     requires { (t.used ≤ 64) × (length marks.old ≡ 2017) }
     ensures { marks.new ≡ mark_pattern t t.used marks.old }
 {
-    let used = t.used;
-    let mut e = 0;
-    while e < used {
+    for e in 0..t.used {
         mark_from(t, e, marks);
-        e += 1;
     }
 }
 
@@ -78,11 +73,9 @@ fn mark_book(book: Book, marks: &mut [u8])
     ensures { marks.new ≡ mark_book book book.count }
 {
     let count = book.count;
-    let mut n = 0;
-    while n < count {
+    for n in 0..count {
         let t = book.patterns[n];
         mark_pattern(t, marks);
-        n += 1;
     }
 }
 

@@ -26,7 +26,7 @@ Start = lts.Start tie.the-claims reads.Pre reads.Post goal.the-invariant-loop-n 
 
 pub loop-n-init : goal.loop-n-init
 unfolding mark_book
-loop-n-init c = (omega arith, c.requires.1)
+loop-n-init c = c.requires.1
 
 -- at the head of the loop: the record is a book, and the table keeps its length
 module _ (c : At-loop-n) where
@@ -37,7 +37,7 @@ module _ (c : At-loop-n) where
   legal = (book_legal_iff start.args.book).0 start.requires.0
 
   table-length : length c.loop-n.marks ≡ 2017
-  table-length = ap length c.loop-n.invariant.1 ∙ length_mark_book start.args.book c.loop-n.n
+  table-length = ap length c.loop-n.invariant ∙ length_mark_book start.args.book c.loop-n.n
 
 -- the head of the turn in which a pattern is marked
 abbrev head : goal.After-mark_pattern-arg-1 → At-loop-n
@@ -47,16 +47,13 @@ pub mark_pattern-requires : goal.mark_pattern-requires
 unfolding pattern_at
 mark_pattern-requires c = (((legal (head c)).each (head c).loop-n.n (omega arith)).most, table-length (head c))
 
-pub overflow_add-n : goal.overflow_add-n
-overflow_add-n c = omega (arith, (legal (head c.before.before.before.before)).most)
-
 pub loop-n-preserved : goal.loop-n-preserved
 unfolding mark_book
 loop-n-preserved c =
     let l = head c.before.before.before.before in
     let t = pattern_at (start l).args.book l.loop-n.n in
     let turn : List ℕ → List ℕ = mark_pattern t t.used in
-    (omega arith, rw (add-one l.loop-n.n) (c.mark_pattern.ensures ∙ ap turn l.loop-n.invariant.1))
+    rw (add-one l.loop-n.n) (c.mark_pattern.ensures ∙ ap turn l.loop-n.invariant)
 
 pub shape_of-marks : goal.shape_of-marks
 shape_of-marks c =
@@ -66,7 +63,7 @@ pub returns : goal.returns
 returns c =
     let book = (start c.before).args.book in
     let done : c.loop-n.n ≡ book.count = omega arith in
-    c.loop-n.invariant.1 ∙ ap (mark_book book) done
+    c.loop-n.invariant ∙ ap (mark_book book) done
 
 pub offset_bounds-book-n : goal.offset_bounds-book-n
 offset_bounds-book-n c =
@@ -75,7 +72,3 @@ offset_bounds-book-n c =
 pub bounds-book-n : goal.bounds-book-n
 bounds-book-n c =
     omega (arith, (legal c.before).most)
-
-pub loop-n-smaller : goal.loop-n-smaller
-loop-n-smaller c =
-    omega arith

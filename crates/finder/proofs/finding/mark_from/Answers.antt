@@ -27,7 +27,7 @@ Start = lts.Start tie.the-claims reads.Pre reads.Post goal.the-invariant-loop-l 
 
 pub loop-l-init : goal.loop-l-init
 unfolding mark_from
-loop-l-init c = (omega arith, refl)
+loop-l-init c = refl
 
 -- at the head of the loop; the table keeps its length
 module _ (c : At-loop-l) where
@@ -35,7 +35,7 @@ module _ (c : At-loop-l) where
   start = c.before.before.before.before.before.before
 
   table-length : length c.loop-l.marks ≡ length start.args.marks.now
-  table-length = ap length c.loop-l.invariant.1 ∙ length_mark_from _ _ c.loop-l.l _
+  table-length = ap length c.loop-l.invariant ∙ length_mark_from _ _ c.loop-l.l _
 
 -- in a turn, at position l of the pattern t, where the difference's cell is known
 module _ (c : goal.After-difference_cell-k) where
@@ -68,7 +68,7 @@ pub loop-l-preserved : goal.loop-l-preserved
 unfolding mark_from
 loop-l-preserved c =
     let mark : List ℕ → ℕ → List ℕ = λ marks k. set marks k 1 in
-    (omega arith, rw (add-one (l c)) (ap₂ mark (head c).loop-l.invariant.1 (cell-is c)))
+    rw (add-one (l c)) (ap₂ mark (head c).loop-l.invariant (cell-is c))
 
 pub shape_of-marks : goal.shape_of-marks
 shape_of-marks c = table-length c.before
@@ -77,7 +77,7 @@ pub returns : goal.returns
 returns c =
     let u = (start c.before).args in
     let done : c.loop-l.l ≡ u.t.used = omega arith in
-    c.loop-l.invariant.1 ∙ ap (λ (n : ℕ). mark_from u.t u.e n u.marks.now) done
+    c.loop-l.invariant ∙ ap (λ (n : ℕ). mark_from u.t u.e n u.marks.now) done
 
 pub bounds-columns-e : goal.bounds-columns-e
 bounds-columns-e c =
@@ -93,12 +93,4 @@ bounds-columns-l c =
 
 pub bounds-rows-l : goal.bounds-rows-l
 bounds-rows-l c =
-    omega arith
-
-pub overflow_add-l : goal.overflow_add-l
-overflow_add-l c =
-    omega arith
-
-pub loop-l-smaller : goal.loop-l-smaller
-loop-l-smaller c =
     omega arith

@@ -23,7 +23,7 @@ Start = lts.Start tie.the-claims reads.Pre reads.Post goal.the-invariant-loop-e 
 
 pub loop-e-init : goal.loop-e-init
 unfolding mark_pattern
-loop-e-init c = (omega arith, refl)
+loop-e-init c = refl
 
 -- at the head of the loop; the table keeps its length
 module _ (c : At-loop-e) where
@@ -31,7 +31,7 @@ module _ (c : At-loop-e) where
   start = c.before.before
 
   table-length : length c.loop-e.marks ≡ length start.args.marks.now
-  table-length = ap length c.loop-e.invariant.1 ∙ length_mark_pattern _ c.loop-e.e _
+  table-length = ap length c.loop-e.invariant ∙ length_mark_pattern _ c.loop-e.e _
 
 pub mark_from-requires : goal.mark_from-requires
 mark_from-requires c =
@@ -42,7 +42,7 @@ unfolding mark_pattern
 loop-e-preserved c =
     let t = (start c.before.before.before.before.before.before).args.t in
     let turn : List ℕ → List ℕ = mark_from t c.loop-e.e t.used in
-    (omega arith, rw (add-one c.loop-e.e) (c.mark_from.ensures ∙ ap turn c.loop-e.invariant.1))
+    rw (add-one c.loop-e.e) (c.mark_from.ensures ∙ ap turn c.loop-e.invariant)
 
 pub shape_of-marks : goal.shape_of-marks
 shape_of-marks c = table-length c.before
@@ -51,12 +51,4 @@ pub returns : goal.returns
 returns c =
     let u = (start c.before).args in
     let done : c.loop-e.e ≡ u.t.used = omega arith in
-    c.loop-e.invariant.1 ∙ ap (λ (n : ℕ). mark_pattern u.t n u.marks.now) done
-
-pub overflow_add-e : goal.overflow_add-e
-overflow_add-e c =
-    omega arith
-
-pub loop-e-smaller : goal.loop-e-smaller
-loop-e-smaller c =
-    omega arith
+    c.loop-e.invariant ∙ ap (λ (n : ℕ). mark_pattern u.t n u.marks.now) done
