@@ -85,12 +85,10 @@ fn row_marked(marks: &[u8], a: usize, j: usize, s: usize) -> bool
     ensures { result ≡ row_marked marks.now a j s }
 {
     let first = 63 * j;
-    let mut x = s;
-    while x < 63 {
+    for x in (s..63).step_by(a) {
         if marks[first + x] == 1 {
             return true;
         }
-        x += a;
     }
     false
 }
@@ -100,13 +98,11 @@ fn rows_marked(marks: &[u8], a: usize, b: usize, d: usize, s: usize) -> bool
     requires { (length marks.now ≡ 2017) × (b < a) × (a ≤ 1024) × (1 ≤ d) × (d ≤ 1024) × (s ≡ (31 + b) % a) }
     ensures { result ≡ rows_marked marks.now a b d }
 {
-    let mut j = d;
     let mut from = s;
-    while j < 32 {
+    for j in (d..32).step_by(d) {
         if row_marked(marks, a, j, from) {
             return true;
         }
-        j += d;
         from += b;
         if a <= from {
             from -= a;
