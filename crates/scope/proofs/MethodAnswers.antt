@@ -1,6 +1,5 @@
 -- What a plan's methods answer: by 11 and 12, the first tests of a call on a picture, and by 14 of one pixel.
 -- Assumes nothing.
-use Rattle.std.specs.Prelude.{Result, Ok, Err}
 use Prim.Native.Nat.{ℕ}
 use mathlib.Core.Path.{◌≡◌, refl, sym, ◌∙◌, ap}
 use mathlib.Core.Bool.{Bool, true, false, not, ◌&&◌}
@@ -8,15 +7,17 @@ use mathlib.Core.Option.{Option, none, some}
 use mathlib.Core.List.{List, [], ◌∷◌}
 use borrow.Author.Tests.{not-true, not-false}
 use Rattle.scope.specs.Search.{whenever, first_of, every}
-use Rattle.scope.specs.Plans.{Pixel, is_plan}
+use Rattle.scope.specs.Plans.{Pixel, at, is_plan}
 use Rattle.scope.specs.Banks.{inside}
 use Rattle.scope.specs.Numbers.{is_side, plan_test, sides_test, outside_test}
 use Rattle.scope.specs.Calls.{answered, address_test}
 use Rattle.scope.specs.declared.Plan.{Plan}
 use Rattle.scope.specs.declared.Refusal.{Refusal}
+use Rattle.scope.specs.declared.formulas.Layout.{Layout}
+use Rattle.scope.specs.declared.formulas.Spot.{Spot}
 use Rattle.scope.specs.declared.Refusal.TheVariants.{NotPlan, Sides, Outside}
 use Rattle.scope.proofs.Chains.{whenever_none, none_whenever, some_whenever, chain_none_iff, chain_refuses, chain_goes_on, chain_of_one}
-use Rattle.scope.proofs.Chains.{tests_as_one, gives_value, gives_refusal, done_found_nothing, refused_found}
+use Rattle.scope.proofs.Chains.{tests_as_one, gives_value, gives_refusal}
 
 -- the code asks `!r` for a test t whose value r a callee gave
 pub fails : {r t : Bool} → r ≡ t → not r ≡ true → t ≡ false
@@ -114,30 +115,25 @@ module _ (p : Plan) (W H : ℕ) (v : Pixel) where
     pub pixel_passes : inside W H v ≡ true → address_test p W H v ≡ none
     pixel_passes e = past_picture ∙ demand_met (inside W H v) Outside e
 
-  pixel_passed : address_test p W H v ≡ none → (is_plan p ≡ true) × (is_side W && is_side H ≡ true) × (inside W H v ≡ true)
-  pixel_passed e =
-      let (picture, pixel) = (chain_none_iff (picture_tests p W H) (outside_test W H (v ∷ []) ∷ [])).0 (sym as_two ∙ e) in
-      let (plan, sides) = both_passed p W H picture in
-      (plan, sides, demanded (inside W H v) Outside (sym one_left ∙ pixel))
+-- What a layout and a spot are: 11 and 12 are passed, and 14
+pub layout_passes : (l : Layout) → picture_tests l.tested.plan l.w l.h ≡ none
+layout_passes l = both_pass l.tested.plan l.w l.h l.tested.is l.sides
 
-  abbrev pub pixel_outcome : Result Unit Refusal
-  pixel_outcome = answered (address_test p W H v) Err (Ok tt)
+pub spot_passes : (s : Spot) → address_test s.layout.tested.plan s.layout.w s.layout.h (at s.i s.j) ≡ none
+spot_passes s = let l = s.layout in pixel_passes l.tested.plan l.w l.h (at s.i s.j) (layout_passes l) s.there
 
-  pub pixel_done : {o : Result Unit Refusal} → o ≡ pixel_outcome → o ≡ Ok tt
-      → (is_plan p ≡ true) × (is_side W && is_side H ≡ true) × (inside W H v ≡ true)
-  pixel_done is e = pixel_passed (done_found_nothing (address_test p W H v) is e)
+-- What a call by the three answers: the refusal that they found for u, which it was handed for v, or the value of a spot.
+module _ {A X : Type 0} (refused : Refusal → A) (given : X → A) (f : Plan → ℕ → ℕ → Pixel → X) where
+  abbrev told : Plan → ℕ → ℕ → Pixel → A
+  told p W H v = answered (address_test p W H v) refused (given (f p W H v))
 
--- What a call by the three, which was handed u for v, answers: the refusal that they found, or its value.
-module _
-    {A X : Type 0} (p : Plan) (W H : ℕ) {v u : Pixel} (same : u ≡ v) {o : Result Unit Refusal} (is : o ≡ pixel_outcome p W H u)
-    (refused : Refusal → A) (given : X → A) (f : Pixel → X)
-  where
-    abbrev told : A
-    told = answered (address_test p W H v) refused (given (f v))
+  pub refusal_told :
+      (p : Plan) (W H : ℕ) {v u : Pixel} → u ≡ v → {r : Refusal} → address_test p W H u ≡ some r → refused r ≡ told p W H v
+  refusal_told p W H {v} same e = gives_refusal (rw same at e) refused (given (f p W H v))
 
-    pub refusal_told : {r : Refusal} → o ≡ Err r → refused r ≡ told
-    refusal_told e = gives_refusal (rw same at (refused_found (address_test p W H u) is e)) refused (given (f v))
-
-    pub value_told : {x : X} → o ≡ Ok tt → x ≡ f u → given x ≡ told
-    value_told e x-is =
-        gives_value (rw same at (done_found_nothing (address_test p W H u) is e)) refused (ap given (x-is ∙ ap f same))
+  pub value_told :
+      (s : Spot) {p : Plan} {W H : ℕ} {v u : Pixel} → u ≡ v
+      → (s.layout.tested.plan ≡ p) × (s.layout.w ≡ W) × (s.layout.h ≡ H) × (at s.i s.j ≡ u)
+      → {x : X} → x ≡ f s.layout.tested.plan s.layout.w s.layout.h (at s.i s.j) → given x ≡ told p W H v
+  value_told s same (plan, width, height, pixel) e =
+      rw (← same, ← plan, ← width, ← height, ← pixel) (gives_value (spot_passes s) refused (ap given e))

@@ -4,7 +4,6 @@ use Prim.Native.Nat.{ℕ, ◌+◌, ◌-◌, ◌*◌, ◌/◌, ◌%◌, ◌≤◌
 use native.Mathlib.Omega.{arith}
 use native.Mathlib.Nat.{div-le_self, div-add-mod', mod-lt, mul-le-mul}
 use mathlib.Core.Path.{◌≡◌, refl, sym, ◌∙◌, ap, ap₂, subst}
-use mathlib.Core.Bool.{true, ◌&&◌}
 use lib.Dec.{T}
 use lib.IntN.{ℤ, pos, nat_abs, ◌-ℤ◌, ◌*ℤ◌}
 use lib.Signed.{non_neg}
@@ -12,11 +11,11 @@ use mir.Syntax.{w16, w32}
 use mir.Val.{Fits, SFits, to_z, of_z}
 use mir.Facts.{to_z-of_z}
 use Rattle.integers.specs.Division.{floor_mod}
-use Rattle.scope.specs.Plans.{at, is_plan}
-use Rattle.scope.specs.Banks.{bank_of, inside, across, address_of}
-use Rattle.scope.specs.Numbers.{is_side}
+use Rattle.scope.specs.Plans.{at}
+use Rattle.scope.specs.Banks.{bank_of, across, address_of}
 use Rattle.scope.specs.promises.Meaning.{Inside}
 use Rattle.scope.specs.declared.Plan.{Plan}
+use Rattle.scope.specs.declared.formulas.Spot.{Spot}
 use Rattle.integers.proofs.Sizes.{small_fits}
 use Rattle.scope.proofs.Ceilings.{Rounds}
 use Rattle.scope.proofs.PlanFacts.{sides_round, inside_means}
@@ -51,82 +50,95 @@ natural_bank :
 unfolding bank_of at
 natural_bank p x y = refl
 
-module _
-    (p : Plan) (W H : ℕ) {i j : ℤ} (f : SFits w16 i) (g : SFits w16 j)
-    (pre : (is_plan p ≡ true) × (is_side W && is_side H ≡ true) × (inside W H (at i j) ≡ true))
-  where
-    abbrev pub column : ℕ
-    column = nat_abs (to_z w16 (of_z w16 i))
+-- a spot, by the coordinates that its type can hold
+module _ (s : Spot) (f : SFits w16 s.i) (g : SFits w16 s.j) where
+  abbrev p : Plan
+  p = s.layout.tested.plan
 
-    abbrev pub row : ℕ
-    row = nat_abs (to_z w16 (of_z w16 j))
+  abbrev W : ℕ
+  W = s.layout.w
 
-    pixel : Inside W H (at i j)
-    pixel = inside_means W H (at i j) pre.2
+  abbrev H : ℕ
+  H = s.layout.h
 
-    column_natural : i ≡ pos pixel.i
-    unfolding at
-    column_natural = pixel.column
+  abbrev i : ℤ
+  i = s.i
 
-    row_natural : j ≡ pos pixel.j
-    unfolding at
-    row_natural = pixel.row
+  abbrev j : ℤ
+  j = s.j
 
-    -- which answers for either side and either divisor, so that an exchange is refused where the answer is returned
-    pub both_round : Rounds W p.a × Rounds H p.d
-    both_round = sides_round p W H pre.0 pre.1
+  abbrev pub column : ℕ
+  column = nat_abs (to_z w16 (of_z w16 i))
 
-    column_below : pixel.i < 4096
-    column_below = omega (arith, pixel.i_below, both_round)
+  abbrev pub row : ℕ
+  row = nat_abs (to_z w16 (of_z w16 j))
 
-    row_below : pixel.j < 4096
-    row_below = omega (arith, pixel.j_below, both_round)
+  pixel : Inside W H (at i j)
+  pixel = inside_means W H (at i j) s.there
 
-    -- the casts of the coordinates to numbers without a sign, and what they give
-    pub column_fits : T (non_neg (to_z w16 (of_z w16 i))) × Fits w32 column
-    column_fits = natural_fits f column_natural column_below
+  column_natural : i ≡ pos pixel.i
+  unfolding at
+  column_natural = pixel.column
 
-    pub row_fits : T (non_neg (to_z w16 (of_z w16 j))) × Fits w32 row
-    row_fits = natural_fits g row_natural row_below
+  row_natural : j ≡ pos pixel.j
+  unfolding at
+  row_natural = pixel.row
 
-    pub column_small : column < 4096
-    column_small = rw (natural_is f column_natural) column_below
+  -- which answers for either side and either divisor, so that an exchange is refused where the answer is returned
+  pub both_round : Rounds W p.a × Rounds H p.d
+  both_round = sides_round p W H s.layout.tested.is s.layout.sides
 
-    pub row_small : row < 4096
-    row_small = rw (natural_is g row_natural) row_below
+  column_below : pixel.i < 4096
+  column_below = omega (arith, pixel.i_below, both_round)
 
-    -- the pixel is the one of these naturals
-    pub pixel_is : at (pos column) (pos row) ≡ at i j
-    pixel_is = rw (natural_is f column_natural, natural_is g row_natural) (ap₂ at (sym column_natural) (sym row_natural))
+  row_below : pixel.j < 4096
+  row_below = omega (arith, pixel.j_below, both_round)
 
-    -- an address that is made of them is the pixel's
-    pub address_of_naturals :
-        {q x : ℕ} → q ≡ row / p.d → x ≡ q * across p W + column / p.a → x ≡ address_of p W H (at i j)
-    address_of_naturals strip is =
-        is ∙ ap (λ (q : ℕ). q * across p W + column / p.a) strip ∙ natural_address p W H column row ∙ ap (address_of p W H) pixel_is
+  -- the casts of the coordinates to numbers without a sign, and what they give
+  pub column_fits : T (non_neg (to_z w16 (of_z w16 i))) × Fits w32 column
+  column_fits = natural_fits f column_natural column_below
 
-    -- and of the row's quotient by d, its remainder too
-    module _ {q : ℕ} (strip : q ≡ row / p.d) where
-      pub strip_small : q < 4096
-      strip_small = quotient_below row p.d strip row_small
+  pub row_fits : T (non_neg (to_z w16 (of_z w16 j))) × Fits w32 row
+  row_fits = natural_fits g row_natural row_below
 
-      row_parts : row ≡ q * p.d + row % p.d
-      row_parts = rw strip (sym (div-add-mod' row p.d))
+  pub column_small : column < 4096
+  column_small = rw (natural_is f column_natural) column_below
 
-      pub strips_before : q * p.d ≤ row
-      strips_before = omega (arith, row_parts)
+  pub row_small : row < 4096
+  row_small = rw (natural_is g row_natural) row_below
 
-      pub row_in_strip : row - q * p.d < p.d
-      row_in_strip = omega (arith, row_parts, mod-lt row {m = p.d} both_round.1.1)
+  -- the pixel is the one of these naturals
+  pub pixel_is : at (pos column) (pos row) ≡ at i j
+  pixel_is = rw (natural_is f column_natural, natural_is g row_natural) (ap₂ at (sym column_natural) (sym row_natural))
 
-      -- a bank that is made of them is the pixel's
-      pub bank_of_naturals :
-          {k : ℕ}
-          → k ≡ (row - q * p.d) * p.a + floor_mod (to_z w16 (of_z w16 i) -ℤ pos p.b *ℤ to_z w32 (of_z w32 (pos q))) p.a
-          → k ≡ bank_of p (at i j)
-      bank_of_naturals is =
-          let remainder_is : row - q * p.d ≡ row % p.d = omega (arith, row_parts) in
-          let column_read : to_z w16 (of_z w16 i) ≡ pos column = rw (to_z-of_z f, column_natural) refl in
-          let strip_read : to_z w32 (of_z w32 (pos q)) ≡ pos (row / p.d) =
-          to_z-of_z (small_fits w32 4096 (pos q) (omega (arith, strip_small)) (omega arith)) ∙ ap pos strip in
-          rw (remainder_is, column_read, strip_read) at is ∙ natural_bank p column row ∙ ap (bank_of p) pixel_is
+  -- an address that is made of them is the pixel's
+  pub address_of_naturals :
+      {q x : ℕ} → q ≡ row / p.d → x ≡ q * across p W + column / p.a → x ≡ address_of p W H (at i j)
+  address_of_naturals strip is =
+      is ∙ ap (λ (q : ℕ). q * across p W + column / p.a) strip ∙ natural_address p W H column row ∙ ap (address_of p W H) pixel_is
+
+  -- and of the row's quotient by d, its remainder too
+  module _ {q : ℕ} (strip : q ≡ row / p.d) where
+    pub strip_small : q < 4096
+    strip_small = quotient_below row p.d strip row_small
+
+    row_parts : row ≡ q * p.d + row % p.d
+    row_parts = rw strip (sym (div-add-mod' row p.d))
+
+    pub strips_before : q * p.d ≤ row
+    strips_before = omega (arith, row_parts)
+
+    pub row_in_strip : row - q * p.d < p.d
+    row_in_strip = omega (arith, row_parts, mod-lt row {m = p.d} both_round.1.1)
+
+    -- a bank that is made of them is the pixel's
+    pub bank_of_naturals :
+        {k : ℕ}
+        → k ≡ (row - q * p.d) * p.a + floor_mod (to_z w16 (of_z w16 i) -ℤ pos p.b *ℤ to_z w32 (of_z w32 (pos q))) p.a
+        → k ≡ bank_of p (at i j)
+    bank_of_naturals is =
+        let remainder_is : row - q * p.d ≡ row % p.d = omega (arith, row_parts) in
+        let column_read : to_z w16 (of_z w16 i) ≡ pos column = rw (to_z-of_z f, column_natural) refl in
+        let strip_read : to_z w32 (of_z w32 (pos q)) ≡ pos (row / p.d) =
+        to_z-of_z (small_fits w32 4096 (pos q) (omega (arith, strip_small)) (omega arith)) ∙ ap pos strip in
+        rw (remainder_is, column_read, strip_read) at is ∙ natural_bank p column row ∙ ap (bank_of p) pixel_is

@@ -6,6 +6,7 @@ mod formulas;
 mod plans;
 mod refusals;
 
+pub use formulas::Tested;
 pub use refusals::{Row, number_of, row_of};
 
 // A pattern: the columns and rows of its pixels, of which the first `used` count.

@@ -41,6 +41,5 @@ returns c =
 
 pub returns-in_err-place : goal.returns-in_err-place
 returns-in_err-place c =
-    handed_on _ c.from_residual.ensures
-    ∙ (let f = c.ranges in
-    given _ _ _ (pixel_handed f.i f.j) c.place.ensures c.in_err-place.was)
+    let f = c.ranges in
+    handed_on _ c.from_residual.ensures ∙ given _ _ _ (pixel_handed f.i f.j) c.place.ensures c.in_err-place.was

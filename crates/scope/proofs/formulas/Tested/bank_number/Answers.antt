@@ -1,4 +1,4 @@
--- `scope::formulas::bank_number` meets its contract.
+-- `scope::formulas::Tested::bank_number` meets its contract.
 -- Assumes nothing.
 use Prim.Native.Nat.{ℕ, ◌+◌, ◌*◌, ◌-◌, ◌≤◌, ◌<◌}
 use native.Mathlib.Omega.{arith}
@@ -17,14 +17,14 @@ use Rattle.scope.specs.Banks.{bank_of}
 use Rattle.scope.specs.promises.Meaning.{IsPlan}
 use Rattle.scope.specs.declared.Plan.{Plan}
 use Rattle.scope.proofs.PlanFacts.{plan_means, d_at_most}
-use Rattle.scope.proofs.formulas.bank_number.Lts as lts
-use Rattle.scope.proofs.formulas.bank_number.Tie as tie
-use Rattle.scope.proofs.formulas.bank_number.Reads as reads
-use Rattle.scope.proofs.formulas.bank_number.Goals as goal
+use Rattle.scope.proofs.formulas.Tested.bank_number.Lts as lts
+use Rattle.scope.proofs.formulas.Tested.bank_number.Tie as tie
+use Rattle.scope.proofs.formulas.Tested.bank_number.Reads as reads
+use Rattle.scope.proofs.formulas.Tested.bank_number.Goals as goal
 
 -- what is known at a step of the code
-abbrev Start : Type 0
-Start = lts.Start tie.the-claims reads.Pre reads.Post
+abbrev After-p : Type 0
+After-p = lts.After-p tie.the-claims reads.Pre reads.Post
 
 -- the row j as it is handed to the division by d, and what comes of it
 module _ (p : Plan) (plan : IsPlan p) (j : ℤ) (g : SFits w16 j) where
@@ -66,17 +66,16 @@ module _ (p : Plan) (plan : IsPlan p) (j : ℤ) (g : SFits w16 j) where
     unfolding bank_of at
     bank-is f e = rw (to_z-of_z f, quotient-read, quotient_is q-is, remainder_is r-is) at e
 
--- where the function starts
-module _ (c : Start) where
-  plan : IsPlan c.args.p
-  plan = plan_means _ c.requires
+-- where the plan is read
+module _ (c : After-p) where
+  plan : IsPlan c.args.self.plan
+  plan = plan_means _ c.args.self.is
 
-  bounds : (1 ≤ c.args.p.d) × (c.args.p.d ≤ 1024)
+  bounds : (1 ≤ c.args.self.plan.d) × (c.args.self.plan.d ≤ 1024)
   bounds = (plan.d_least, d_at_most _ plan)
 
 pub bank_in-requires : goal.bank_in-requires
 bank_in-requires c = (
-  c.requires,
   read_small _ (plan c.before.before.before) _ c.ranges.j c.quotient-q.ensures c.remainder-r.ensures,
   remainder-less _ (plan c.before.before.before) _ c.ranges.j c.remainder-r.ensures,
 )

@@ -1,4 +1,4 @@
--- `scope::formulas::reverse_map` meets its contract: column and row are below the picture's sides rounded up to whole blocks, so
+-- `scope::formulas::Layout::reverse_map` meets its contract: column and row are below the picture's sides rounded up to whole blocks, so
 -- no number on the way passes 32 bits.
 -- Assumes nothing.
 use Rattle.scope.specs.declared.Refusal.{Refusal}
@@ -30,7 +30,8 @@ use Rattle.scope.proofs.Ceilings.{Rounds, ceiling_at_most, blocks_at_most, produ
 use Rattle.scope.proofs.Chains.{none_whenever, some_whenever, chain_of_one, answered_none, answered_some}
 use Rattle.scope.proofs.PlanFacts.{plan_means, sides_round}
 use Rattle.scope.proofs.MethodAnswers.{fails, holds, both_pass, past_first}
-use Rattle.scope.proofs.formulas.reverse_map.Goals as goal
+use Rattle.scope.proofs.formulas.Layout.reverse_map.Goals.{Else-banks-k}
+use Rattle.scope.proofs.formulas.Layout.reverse_map.Goals as goal
 
 -- a product above i has a positive factor
 factor-least : (m n i : ℕ) → i < m * n → 0 < m
@@ -184,32 +185,29 @@ module _ (p : Plan) (W H k i : ℕ) (plan : is_plan p ≡ true) (sides : is_side
 
 pub returns-then-banks-k : goal.returns-then-banks-k
 returns-then-banks-k c =
-    let (plan, sides) = c.requires in
-    no-bank _ _ _ _ _ plan sides (rw (← c.banks.ensures) c.if-banks-k.true)
+    let l = c.args.self in
+    no-bank _ _ _ _ _ l.tested.is l.sides (rw (← c.banks.ensures) c.if-banks-k.true)
 
 -- the bank is there
-bank-there : (c : goal.Else-banks-k) → c.args.k < banks c.args.p
+bank-there : (c : Else-banks-k) → c.args.k < banks c.args.self.tested.plan
 bank-there c = rw (← c.banks.ensures) c.if-banks-k.false
-
-pub depth_number-requires : goal.depth_number-requires
-depth_number-requires c = c.requires
 
 pub returns-then-depth_number-i : goal.returns-then-depth_number-i
 returns-then-depth_number-i c =
-    let (plan, sides) = c.requires in
-    no_address _ _ _ _ _ plan sides (bank-there c.before.before) (rw (← c.depth_number.ensures) c.if-depth_number-i.true)
+    let l = c.args.self in
+    no_address _ _ _ _ _ l.tested.is l.sides (bank-there c.before.before) (rw (← c.depth_number.ensures) c.if-depth_number-i.true)
 
 pub rounded_up-across-requires : goal.rounded_up-across-requires
-rounded_up-across-requires c = let (plan, sides) = c.requires in (sides_round _ _ _ plan sides).0
+rounded_up-across-requires c = let l = c.args.self in (sides_round _ _ _ l.tested.is l.sides).0
 
 -- the address is there too, and the width was divided
 there :
     (c : goal.After-rounded_up-across) →
-    let v = c.args in
-    There v.p v.w v.h v.k v.i c.rounded_up-across.result
+    let l = c.args.self in
+    There l.tested.plan l.w l.h c.args.k c.args.i c.rounded_up-across.result
 there c =
-    let (plan, sides) = c.requires in
-    is-there _ _ _ _ _ plan sides (bank-there c.before.before.before) (rw (← c.depth_number.ensures) c.if-depth_number-i.false)
+    let l = c.args.self in
+    is-there _ _ _ _ _ l.tested.is l.sides (bank-there c.before.before.before) (rw (← c.depth_number.ensures) c.if-depth_number-i.false)
     c.rounded_up-across.ensures
 
 pub returns-then-not-is_inside : goal.returns-then-not-is_inside

@@ -1,4 +1,4 @@
--- `scope::formulas::bank_in` meets its contract: i - b × q fits 32 bits.
+-- `scope::formulas::Tested::bank_in` meets its contract: i - b × q fits 32 bits.
 -- Assumes nothing.
 use Prim.Native.Nat.{ℕ, ◌+◌, ◌*◌, ◌-◌, ◌≤◌}
 use native.Mathlib.Omega.{arith}
@@ -16,7 +16,7 @@ use Rattle.scope.specs.promises.Meaning.{IsPlan}
 use Rattle.scope.specs.declared.Plan.{Plan}
 use Rattle.scope.proofs.Naturals.{digits_at_most}
 use Rattle.scope.proofs.PlanFacts.{plan_means, a_at_most, d_at_most}
-use Rattle.scope.proofs.formulas.bank_in.Goals as goal
+use Rattle.scope.proofs.formulas.Tested.bank_in.Goals as goal
 
 -- The code forms b × q and i - b × q at 32 bits.
 module _ (p : Plan) (plan : IsPlan p) (q i : ℤ) (small : nat_abs q ≤ 32768) (f : SFits w16 i) where
@@ -54,13 +54,13 @@ module _ (p : Plan) (plan : IsPlan p) (q i : ℤ) (small : nat_abs q ≤ 32768) 
   column-is : {c : ℕ} → c ≡ floor_mod (to_z w32 (of_z w32 moved)) (p.a - 1 + 1) → c ≡ floor_mod (i -ℤ pos p.b *ℤ q) p.a
   column-is e = e ∙ ap₂ floor_mod (to_z-of_z moved-fits ∙ moved-is) (sub-add_cancel plan.a_least)
 
--- where the function starts
-module _ (c : goal.Start) where
-  plan : IsPlan c.args.p
-  plan = plan_means _ c.requires.0
+-- where the plan is read
+module _ (c : goal.After-p-1) where
+  plan : IsPlan c.args.self.plan
+  plan = plan_means _ c.args.self.is
 
   -- a and d are from 1 to 1024, each goal from both, so that an exchange of the two is refused where the bank is returned
-  bounds : let p = c.args.p in ((1 ≤ p.a) × (p.a ≤ 1024)) × (1 ≤ p.d) × (p.d ≤ 1024)
+  bounds : let p = c.args.self.plan in ((1 ≤ p.a) × (p.a ≤ 1024)) × (1 ≤ p.d) × (p.d ≤ 1024)
   bounds = ((plan.a_least, a_at_most _ plan), plan.d_least, d_at_most _ plan)
 
 -- both digits are below 1024, by whichever of a and d they are, and so the bank fits
@@ -70,14 +70,14 @@ remainder-small z k h e = rw e (omega (arith, remainder_below z (k + 1) (omega a
 pub overflow_add-result : goal.overflow_add-result
 overflow_add-result c =
     let most = bounds c.before.before.before.before in
-    let sum-most = digits_at_most c.args.r c.args.p.a c.remainder-c.result (omega (arith, most, c.requires.2)) (omega (arith, most))
+    let sum-most = digits_at_most c.args.r c.args.self.plan.a c.remainder-c.result (omega (arith, most, c.requires.1)) (omega (arith, most))
     (remainder-small _ _ (omega (arith, most)) c.remainder-c.ensures) in
     record { fits = omega (arith, sum-most) }
 
 pub returns : goal.returns
 returns c =
     let u = c.args in
-    ap (λ (x : ℕ). u.r * u.p.a + x) (column-is u.p (plan c.before.before.before.before) u.q u.i c.requires.1 c.ranges.i c.remainder-c.ensures)
+    ap (λ (x : ℕ). u.r * u.self.plan.a + x) (column-is u.self.plan (plan c.before.before.before.before) u.q u.i c.requires.0 c.ranges.i c.remainder-c.ensures)
 
 pub overflow_cast-i : goal.overflow_cast-i
 overflow_cast-i c =
@@ -85,15 +85,15 @@ overflow_cast-i c =
 
 pub overflow_cast-p : goal.overflow_cast-p
 overflow_cast-p c =
-    b-fits c.args.p (plan c.before) c.args.q c.args.i c.requires.1 c.ranges.i
+    b-fits c.args.self.plan (plan c.before) c.args.q c.args.i c.requires.0 c.ranges.i
 
 pub overflow_mul-p : goal.overflow_mul-p
 overflow_mul-p c =
-    product-fits c.args.p (plan c.before) c.args.q c.args.i c.requires.1 c.ranges.i
+    product-fits c.args.self.plan (plan c.before) c.args.q c.args.i c.requires.0 c.ranges.i
 
 pub overflow_sub-i : goal.overflow_sub-i
 overflow_sub-i c =
-    moved-fits c.args.p (plan c.before) c.args.q c.args.i c.requires.1 c.ranges.i
+    moved-fits c.args.self.plan (plan c.before) c.args.q c.args.i c.requires.0 c.ranges.i
 
 pub overflow_sub-p : goal.overflow_sub-p
 overflow_sub-p c =
