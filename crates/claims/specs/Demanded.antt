@@ -10,11 +10,12 @@ use Rattle.scope.specs.promises.Meaning.{Inside}
 use Rattle.scope.specs.promises.Demand.{Call, Reply, Setting, reply_due, last_stored, picture_words, ListHolds}
 use Rattle.scope.specs.declared.Book.{Book}
 use Rattle.scope.specs.declared.Plan.{Plan}
-use Rattle.pictures.specs.Lists.{Listed, setting, calls_of, output_of, reply_numbers, Buffers, run_list}
+use Rattle.pictures.specs.declared.lists.ListFault.{ListFault}
+use Rattle.pictures.specs.Lists.{setting, calls_of, output_of, reply_numbers, Buffers, run_list}
 
 -- The finder's plan and what came of the list under it, or its refusal.
 abbrev pub FoundRun : Type 0
-FoundRun = Result (Plan × Listed) Refusal
+FoundRun = Result (Plan × Result Unit ListFault) Refusal
 
 -- The finder's answer, and what came of the list under its plan; where it gave none, nothing is changed.
 unfoldable pub ran_for : Result Plan Refusal → Book → ℕ → ℕ → ℕ → List ℕ → Buffers → After FoundRun Buffers
