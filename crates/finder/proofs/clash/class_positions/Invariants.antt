@@ -1,5 +1,5 @@
--- `finder::clash::class_positions` meets its contract. The loop's invariant: the pixel's position and the first r after it with its
--- bank, as far as l, are put. The measure is how many positions are left.
+-- `finder::clash::class_positions` meets its contract. The loop's invariant: the pixel's position and the first r after it with
+-- its bank, as far as l, are put.
 -- Assumes nothing.
 use Rattle.finder.proofs.ClassPositions.{PlacedTo}
 use Rattle.finder.proofs.clash.class_positions.Given as goal

@@ -1,5 +1,5 @@
--- `finder::cycles::put_cycles` meets its contract. The loop's invariant: the cycles of the first e pixels are put, and these are
--- counted. The measure is how many pixels are left.
+-- `finder::cycles::put_cycles` meets its contract. The loop's invariant: the cycles of the first e pixels are put, and these
+-- are counted.
 -- Assumes nothing.
 use Prim.Native.Nat.{◌<◌}
 use native.Mathlib.Omega.{arith}

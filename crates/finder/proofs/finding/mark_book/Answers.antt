@@ -1,5 +1,5 @@
 -- `finder::finding::mark_book` meets its contract. The loop's invariant: the differences of the patterns before the n-th are
--- marked. The measure is the number of patterns that are left.
+-- marked.
 -- Assumes nothing.
 use Prim.Native.Nat.{ℕ}
 use native.Mathlib.Numerals.{add-one}

@@ -1,5 +1,5 @@
 -- `finder::finding::mark_book` meets its contract. The loop's invariant: the differences of the patterns before the n-th are
--- marked. The measure is the number of patterns that are left.
+-- marked.
 -- Assumes nothing.
 use mathlib.Core.Path.{◌≡◌}
 use Rattle.finder.specs.Table.{mark_book}

@@ -1,5 +1,5 @@
 -- `finder::finding::mark_from` meets its contract. The loop's invariant: the differences of the pixels before position l are
--- marked. The measure is what is left of the count.
+-- marked.
 -- Assumes nothing.
 use Prim.Native.Nat.{ℕ}
 use native.Mathlib.Numerals.{add-one}

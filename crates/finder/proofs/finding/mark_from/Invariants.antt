@@ -1,5 +1,5 @@
 -- `finder::finding::mark_from` meets its contract. The loop's invariant: the differences of the pixels before position l are
--- marked. The measure is what is left of the count.
+-- marked.
 -- Assumes nothing.
 use mathlib.Core.Path.{◌≡◌}
 use Rattle.finder.specs.Table.{mark_from}

@@ -1,5 +1,5 @@
 -- `finder::finding::mark_pattern` meets its contract. The loop's invariant: the differences with the pixels before position e
--- are marked. The measure is what is left of the count.
+-- are marked.
 -- Assumes nothing.
 use Prim.Native.Nat.{ℕ}
 use native.Mathlib.Numerals.{add-one}
