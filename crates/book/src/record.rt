@@ -25,10 +25,8 @@ fn pixels_outcome(t: Pattern) -> Result<(), Refusal>
     let rows = t.rows;
     let used = t.used;
     let mut least = [0u16; 65];
-    let mut e = 0;
-    while e < used {
+    for e in 0..used {
         pixel_outcome(columns[e], rows[e], 0, 0, e, &mut least)?;
-        e += 1;
     }
     Ok(())
 }

