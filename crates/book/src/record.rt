@@ -56,11 +56,9 @@ pub fn record_outcome(book: Book) -> Result<(), Refusal>
     if 16 < count {
         return Err(Refusal::Count(0));
     }
-    let mut n = 0;
-    while n < count {
+    for n in 0..count {
         let t = book.patterns[n];
         pattern_outcome(t)?;
-        n += 1;
     }
     Ok(())
 }

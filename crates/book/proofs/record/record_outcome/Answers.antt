@@ -1,5 +1,5 @@
 -- `book::record::record_outcome` meets its contract. The loop's invariant: the patterns before the n-th have passed their
--- tests. The measure is the number of patterns that are left.
+-- tests.
 -- Assumes nothing.
 use native.Mathlib.Omega.{arith}
 use mathlib.Core.Path.{◌∙◌, refl}
