@@ -25,8 +25,7 @@ fn pixels_outcome(s: &[u8], at: usize, count: usize) -> Result<(), Refusal>
     ensures { result ≡ outcome_of (first 0 count (pixel_read s.now at)) }
 {
     let mut least = [0u16; 65];
-    let mut e = 0;
-    while e < count {
+    for e in 0..count {
         let i = at + 2 * e;
         if s.len() - i < 2 {
             return Err(Refusal::Ends(s.len()));

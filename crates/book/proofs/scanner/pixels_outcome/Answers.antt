@@ -1,5 +1,5 @@
--- `book::scanner::pixels_outcome` meets its contract. The loop's invariant: the bytes of the pixels before position e are there,
--- these pixels pass their tests, and the entries are theirs. The measure is what is left of the count.
+-- `book::scanner::pixels_outcome` meets its contract. The loop's invariant: the bytes of the pixels before position e are
+-- there, these pixels pass their tests, and the entries are theirs.
 -- Assumes nothing.
 use Prim.Native.Nat.{ℕ, ◌+◌, ◌*◌, ◌^◌, ◌<◌}
 use native.Mathlib.Omega.{arith}
