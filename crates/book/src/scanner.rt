@@ -37,8 +37,10 @@ fn pixels_outcome(s: &[u8], at: usize, count: usize) -> Result<(), Refusal>
             i + 1,
             e,
             &mut least,
-        )?;
-        e += 1;
+        );
+        if let Err(_) = outcome {
+            return outcome;
+        }
     }
     Ok(())
 }
@@ -76,11 +78,9 @@ pub(crate) fn bytes_outcome(s: &[u8]) -> Result<(), Refusal>
         return Err(Refusal::Count(0));
     }
     let mut at = 1;
-    let mut n = 0;
-    while n < count {
+    for _ in 0..count {
         pattern_outcome(s, at)?;
         at = at + 1 + 2 * s[at] as usize;
-        n += 1;
     }
     if at < s.len() {
         return Err(Refusal::Extra(at));

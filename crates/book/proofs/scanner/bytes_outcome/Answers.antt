@@ -1,5 +1,5 @@
 -- `book::scanner::bytes_outcome` meets its contract. The loop's invariant: the patterns before the n-th have passed their
--- tests, and the n-th stands at the place. The measure is the number of patterns that are left.
+-- tests, and the n-th stands at the place.
 -- Assumes nothing.
 use Rattle.std.specs.Prelude.{Result, Ok, Err}
 use Prim.Native.Nat.{ℕ, ◌+◌, ◌*◌, ◌≤◌, ◌<◌}
@@ -68,9 +68,9 @@ pub returns-then-count-gt16 : goal.returns-then-count-gt16
 unfolding byte
 returns-then-count-gt16 c = refused-by-count _ _ (count_not_taken _ 16 0 (omega arith) (λ h. omega arith))
 
-pub loop-n-init : goal.loop-n-init
+pub loop-init : goal.loop-init
 unfolding start
-loop-n-init c =
+loop-init c =
     record { below = omega arith; here = refl; inside = omega arith; passed = λ m h. absurd (omega arith) }
 
 -- in a turn, where the tests of the pattern at hand have answered
@@ -92,17 +92,17 @@ pub returns-in_err-pattern_outcome : goal.returns-in_err-pattern_outcome
 unfolding byte
 returns-in_err-pattern_outcome c =
     passed_on _ c.from_residual.ensures c.in_err-pattern_outcome.was
-    ∙ (refused c.loop-n.invariant c.pattern_outcome.ensures c.in_err-pattern_outcome.was (omega arith) (omega arith) (omega arith))
+    ∙ (refused c.loop.invariant c.pattern_outcome.ensures c.in_err-pattern_outcome.was (omega arith) (omega arith) (omega arith))
 
-pub loop-n-preserved : goal.loop-n-preserved
-loop-n-preserved c =
-    goes_on c.loop-n.invariant (done_found_nothing _ c.pattern_outcome.ensures c.in_ok-pattern_outcome.was) (omega arith)
+pub loop-preserved : goal.loop-preserved
+loop-preserved c =
+    goes_on c.loop.invariant (done_found_nothing _ c.pattern_outcome.ensures c.in_ok-pattern_outcome.was) (omega arith)
 
 pub returns-then-at-s : goal.returns-then-at-s
 unfolding byte
 returns-then-at-s c =
-    let scanned = c.loop-n.invariant in
-    let end = at-end scanned c.loop-n-test.false in
+    let scanned = c.loop.invariant in
+    let end = at-end scanned c.loop-test.false in
     ap (λ i. Err (Extra i)) end
     ∙ answered_by_refusal _ _
     (extra_decides _ ((count_read_iff _ 16 0).1 (omega arith)) (λ n h. scanned.passed n (omega arith)) (omega arith))
@@ -110,30 +110,30 @@ returns-then-at-s c =
 pub returns : goal.returns
 unfolding byte
 returns c =
-    let scanned = c.loop-n.invariant in
-    let end = at-end scanned c.loop-n-test.false in
+    let scanned = c.loop.invariant in
+    let end = at-end scanned c.loop-test.false in
     answered_by_done _ (all_taken _ (omega arith) (omega arith) (λ n h. scanned.passed n (omega arith)) (omega arith))
 
 pub pattern_outcome-requires : goal.pattern_outcome-requires
 pattern_outcome-requires c =
-    c.loop-n.invariant.inside
+    c.loop.invariant.inside
 
 pub overflow_add-at : goal.overflow_add-at
 overflow_add-at c =
-    omega (arith, pattern-inside c.loop-n.invariant c.pattern_outcome.ensures c.in_ok-pattern_outcome.was)
+    omega (arith, pattern-inside c.loop.invariant c.pattern_outcome.ensures c.in_ok-pattern_outcome.was)
 
 pub bounds-s-at : goal.bounds-s-at
 bounds-s-at c =
-    omega (arith, pattern-inside c.loop-n.invariant c.pattern_outcome.ensures c.in_ok-pattern_outcome.was)
+    omega (arith, pattern-inside c.loop.invariant c.pattern_outcome.ensures c.in_ok-pattern_outcome.was)
 
 pub overflow_cast-at : goal.overflow_cast-at
 overflow_cast-at c =
-    omega (arith, pattern-inside c.loop-n.invariant c.pattern_outcome.ensures c.in_ok-pattern_outcome.was)
+    omega (arith, pattern-inside c.loop.invariant c.pattern_outcome.ensures c.in_ok-pattern_outcome.was)
 
 pub overflow_mul-at : goal.overflow_mul-at
 overflow_mul-at c =
-    omega (arith, pattern-inside c.loop-n.invariant c.pattern_outcome.ensures c.in_ok-pattern_outcome.was)
+    omega (arith, pattern-inside c.loop.invariant c.pattern_outcome.ensures c.in_ok-pattern_outcome.was)
 
-pub overflow_add-at-in-loop-n : goal.overflow_add-at-in-loop-n
-overflow_add-at-in-loop-n c =
-    omega (arith, pattern-inside c.loop-n.invariant c.pattern_outcome.ensures c.in_ok-pattern_outcome.was)
+pub overflow_add-at-in-loop : goal.overflow_add-at-in-loop
+overflow_add-at-in-loop c =
+    omega (arith, pattern-inside c.loop.invariant c.pattern_outcome.ensures c.in_ok-pattern_outcome.was)

@@ -1,7 +1,7 @@
 -- `book::scanner::bytes_outcome` meets its contract. The loop's invariant: the patterns before the n-th have passed their
--- tests, and the n-th stands at the place. The measure is the number of patterns that are left.
+-- tests, and the n-th stands at the place.
 -- Assumes nothing.
-use Prim.Native.Nat.{ℕ, ◌-◌, ◌≤◌, ◌<◌}
+use Prim.Native.Nat.{ℕ, ◌≤◌, ◌<◌}
 use mathlib.Core.Path.{◌≡◌}
 use mathlib.Core.Option.{none}
 use mathlib.Core.List.{List}
@@ -17,8 +17,5 @@ pub record Scanned (s : List ℕ) (count at n : ℕ) : Type 0 where
   pub inside : at ≤ length s
   pub passed : (m : ℕ) → m < n → pattern_read s (start s m) ≡ none
 
-abbrev pub invariant-loop-n : goal.invariant-loop-n
-invariant-loop-n l = Scanned l.s l.count l.at l.n
-
-abbrev pub decreases-loop-n : goal.decreases-loop-n
-decreases-loop-n l = l.count - l.n
+abbrev pub invariant-loop : goal.invariant-loop
+invariant-loop l = Scanned l.s l.count l.at l.counter
