@@ -37,10 +37,7 @@ fn pixels_outcome(s: &[u8], at: usize, count: usize) -> Result<(), Refusal>
             i + 1,
             e,
             &mut least,
-        );
-        if let Err(_) = outcome {
-            return outcome;
-        }
+        )?;
     }
     Ok(())
 }
