@@ -72,11 +72,9 @@ fn clash_row(f: Refusal, positions: [usize; 9], r: u32) -> [u64; 12]
     row[1] = place;
     if number == 10 {
         row[2] = c.pattern as u64;
-        let last = if r < 8 { r as usize } else { 8 };
-        let mut e = 0;
-        while e <= last {
+        let count = (r as usize + 1).min(9);
+        for e in 0..count {
             row[3 + e] = positions[e] as u64;
-            e += 1;
         }
     }
     row

@@ -1,31 +1,21 @@
 -- `pictures::rows::clash_row` meets its contract. The loop's invariant: the first e positions were put behind the pattern.
 -- Assumes nothing.
-use Rattle.std.proofs.Common.{◌≡◌, ℕ, suc, ◌+◌, ◌<◌, ◌≤◌, min, List, [], ◌∷◌, length, take, sym, refl, ap, ◌∙◌, arith, take_all, eq-eqb, ne_eqb}
+use Rattle.std.proofs.Common.{◌≡◌, ℕ, suc, ◌+◌, ◌<◌, min, List, [], ◌∷◌, length, take, sym, refl, ap, ◌∙◌, arith, take_all, eq-eqb, ne_eqb}
 use native.Mathlib.Decide.{dec_lt}
 use Rattle.scope.specs.Banks.{over_start}
 use Rattle.pictures.specs.Lists.{twelve}
 use Rattle.pictures.proofs.ReplyRows.{clash_numbers_lem}
 use Rattle.pictures.proofs.Stretches.{entry_put}
 use Rattle.pictures.proofs.rows.clash_row.Goals as goal
-use Rattle.pictures.proofs.rows.clash_row.Goals.{then-r-lt8, else-r-lt8}
 
 pub loop-e-init : goal.loop-e-init
 unfolding over_start
-loop-e-init c =
-    let last-is : c.if-r-lt8.last ≡ min c.args.r 8 = elim c.if-r-lt8.branch [ then-r-lt8 w ↦ omega arith | else-r-lt8 w ↦ omega arith ] in
-    (last-is, omega arith, record { same_length = refl; is = refl })
-
-e-below : (e last r : ℕ) → last ≡ min r 8 → e ≤ last → e < 9
-e-below e last r is h = omega arith
+loop-e-init c = record { same_length = refl; is = refl }
 
 pub loop-e-preserved : goal.loop-e-preserved
 loop-e-preserved c =
-    let l = c.loop-e in
-    let size = c.requires in (
-      l.invariant.0,
-      omega (arith, c.loop-e-test.true),
-      entry_put (_ ∷ _ ∷ _ ∷ []) _ (3 + l.e) l.e refl (omega (arith, size, e-below _ _ _ c.loop-e.invariant.0 c.loop-e-test.true)) (omega (arith, e-below _ _ _ c.loop-e.invariant.0 c.loop-e-test.true)) l.invariant.2,
-    )
+    let size = c.requires in
+    entry_put (_ ∷ _ ∷ _ ∷ []) _ (3 + c.loop-e.e) c.loop-e.e refl (omega (arith, size)) (omega arith) c.loop-e.invariant
 
 -- the positions that were put are the first r + 1
 taken-all : (r m : ℕ) (es : List ℕ) → length es ≡ 9 → m ≡ min r 8 + 1 → take m es ≡ take (suc r) es
@@ -40,8 +30,8 @@ unfolding twelve
 returns-after-loop-e c values =
     let l = c.loop-e in
     let t = c.row_of-number in
-    let all = taken-all c.args.r l.e c.args.positions c.requires (omega (arith, l.invariant.0, l.invariant.1, c.loop-e-test.false)) in
-    l.invariant.2.is
+    let all = taken-all c.args.r l.e c.args.positions c.requires (omega arith) in
+    l.invariant.is
     ∙ ap (λ (es : List ℕ). twelve (t.result.0 ∷ t.result.1 ∷ t.result.2.pattern ∷ es)) all
     ∙ clash_numbers_lem t.result.2 values _ t.ensures (eq-eqb _ 10 c.if-number-eq10.true)
 
@@ -50,31 +40,3 @@ unfolding twelve
 returns-else-number-eq10 c values =
     let t = c.row_of-number in
     clash_numbers_lem t.result.2 values _ t.ensures (ne_eqb _ 10 c.if-number-eq10.false)
-
-pub offset_bounds-positions-e : goal.offset_bounds-positions-e
-offset_bounds-positions-e c =
-    omega (arith, e-below _ _ _ c.loop-e.invariant.0 c.loop-e-test.true)
-
-pub bounds-positions-e : goal.bounds-positions-e
-bounds-positions-e c =
-    e-below _ _ _ c.loop-e.invariant.0 c.loop-e-test.true
-
-pub overflow_add-row : goal.overflow_add-row
-overflow_add-row c =
-    omega (arith, e-below _ _ _ c.loop-e.invariant.0 c.loop-e-test.true)
-
-pub offset_bounds-row-e : goal.offset_bounds-row-e
-offset_bounds-row-e c =
-    omega (arith, e-below _ _ _ c.loop-e.invariant.0 c.loop-e-test.true)
-
-pub bounds-row-e : goal.bounds-row-e
-bounds-row-e c =
-    omega (arith, e-below _ _ _ c.loop-e.invariant.0 c.loop-e-test.true)
-
-pub overflow_add-e : goal.overflow_add-e
-overflow_add-e c =
-    omega (arith, e-below _ _ _ c.loop-e.invariant.0 c.loop-e-test.true)
-
-pub loop-e-smaller : goal.loop-e-smaller
-loop-e-smaller c =
-    omega (arith, c.loop-e-test.true)
