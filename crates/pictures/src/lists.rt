@@ -115,12 +115,10 @@ fn starts_of(book: Book, r: u32, p: Plan, w: u32, h: u32, words: usize) -> [Suit
         positions: [0; 9],
     };
     let mut starts = [none; 17];
-    let mut n = 0;
-    while n < 17 {
+    for n in 0..17 {
         let k = entry_number(n);
         let t = book.patterns[k];
         starts[n] = start_answer(tested, picture, book.count, t, r, p, n);
-        n += 1;
     }
     starts
 }

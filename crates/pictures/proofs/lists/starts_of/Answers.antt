@@ -63,23 +63,18 @@ start_answer-requires c = (
 
 pub loop-n-preserved : goal.loop-n-preserved
 unfolding pattern_at
-loop-n-preserved c = (
-  omega arith,
-  filled_more c.loop-n.invariant.1
-      (begun-value (start_is _ _ _ _ _ _ _ (book-found c.before.before) (picture-found c.before.before) (own-entry c.before.before) c.start_answer.ensures)),
-)
+loop-n-preserved c =
+    filled_more c.loop-n.invariant
+    (begun-value (start_is _ _ _ _ _ _ _ (book-found c.before.before) (picture-found c.before.before) (own-entry c.before.before) c.start_answer.ensures))
 
 pub returns : goal.returns
 returns c =
     let l = c.loop-n.invariant in
-    record {
-      found = λ m h.
-          value-begun (l.1.new m (omega (arith, c.loop-n-test.false)) (omega (arith, l.1.size, length-replicate 17 unset)));
-    }
+    record { found = λ m h. value-begun (l.new m (omega arith) (omega (arith, l.size, length-replicate 17 unset))) }
 
 pub loop-n-init : goal.loop-n-init
 loop-n-init c =
-    (omega arith, filled_none _)
+    filled_none _
 
 pub offset_bounds-book-k : goal.offset_bounds-book-k
 offset_bounds-book-k c =
@@ -88,19 +83,3 @@ offset_bounds-book-k c =
 pub bounds-book-k : goal.bounds-book-k
 bounds-book-k c =
     below-16 c
-
-pub offset_bounds-starts-n : goal.offset_bounds-starts-n
-offset_bounds-starts-n c =
-    record { fits = omega arith }
-
-pub bounds-starts-n : goal.bounds-starts-n
-bounds-starts-n c =
-    omega arith
-
-pub overflow_add-n : goal.overflow_add-n
-overflow_add-n c =
-    record { fits = omega arith }
-
-pub loop-n-smaller : goal.loop-n-smaller
-loop-n-smaller c =
-    omega arith

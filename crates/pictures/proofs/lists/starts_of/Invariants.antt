@@ -27,7 +27,4 @@ unset = record { outcome = Ok tt; positions = replicate 9 0 }
 
 abbrev pub invariant-loop-n : goal.invariant-loop-n
 invariant-loop-n l =
-    (l.n ≤ 17) × Filled no_start (start_of l.book l.r l.p l.w l.h l.words) l.n (replicate 17 unset) l.starts
-
-abbrev pub decreases-loop-n : goal.decreases-loop-n
-decreases-loop-n l = 17 - l.n
+    Filled no_start (start_of l.book l.r l.p l.w l.h l.words) l.n (replicate 17 unset) l.starts
