@@ -53,19 +53,12 @@ fn fill_answer(p: Plan, w: u32, h: u32, inside: bool) -> Result<(), Refusal>
 pub fn fill_records(p: Plan, w: u32, h: u32, list: &mut [PixelRecord]) -> Result<(), Refusal>
     ensures { (result ≡ (fill_records p w h list.old).answer) × (list.new ≡ (fill_records p w h list.old).content) }
 {
-    let mut i = 0;
-    while i < list.len() {
-        let r = list[i];
-        if !is_placeable(p, w, h, r) {
-            return fill_answer(p, w, h, false);
-        }
-        i += 1;
+    if !list.iter().all(|r| is_placeable(p, w, h, *r)) {
+        return fill_answer(p, w, h, false);
     }
-    i = 0;
-    while i < list.len() {
+    for i in 0..list.len() {
         let r = list[i];
         list[i] = placed(p, w, h, r);
-        i += 1;
     }
     fill_answer(p, w, h, true)
 }
