@@ -33,9 +33,7 @@ pub(crate) fn clash_in(p: Plan, n: usize, t: Pattern, r: u8) -> Option<Clash>
     let mut next = [0u8; 1024];
     let mut held = [0u8; 64];
     let mut met = None;
-    let mut e = t.used;
-    while 0 < e {
-        e -= 1;
+    for e in (0..t.used).rev() {
         let k = bank_in(p, columns[e], rows[e]);
         let later = next[k] as usize;
         let count = held[later];

@@ -1,4 +1,4 @@
--- `finder::clash::clash_in` meets its contract. The loop's invariant: the positions from e on are searched. The measure is e.
+-- `finder::clash::clash_in` meets its contract. The loop's invariant: the positions from e on are searched.
 -- Assumes nothing.
 use Prim.Native.Nat.{ℕ, suc, ◌-◌, ◌<◌}
 use native.Mathlib.Omega.{arith}
@@ -97,10 +97,6 @@ loop-e-preserved c =
 pub returns : goal.returns
 returns c = all_searched c.loop-e.invariant.1 c.loop-e-test.false
 
-pub overflow_sub-e : goal.overflow_sub-e
-overflow_sub-e c =
-    omega arith
-
 pub bounds-columns-e : goal.bounds-columns-e
 bounds-columns-e c =
     omega arith
@@ -116,7 +112,3 @@ bounds-held-e c =
 pub overflow_cast-next : goal.overflow_cast-next
 overflow_cast-next c =
     record { fits = omega arith }
-
-pub loop-e-smaller : goal.loop-e-smaller
-loop-e-smaller c =
-    omega arith

@@ -1,4 +1,4 @@
--- `finder::clash::clash_in` meets its contract. The loop's invariant: the positions from e on are searched. The measure is e.
+-- `finder::clash::clash_in` meets its contract. The loop's invariant: the positions from e on are searched.
 -- Assumes nothing.
 use Prim.Native.Nat.{ℕ, ◌≤◌}
 use mathlib.Core.List.{List}
@@ -13,6 +13,3 @@ pattern columns rows used = record { columns = columns; rows = rows; used = used
 
 abbrev pub invariant-loop-e : goal.invariant-loop-e
 invariant-loop-e l = (l.e ≤ l.initial.e) × SearchedFrom l.r l.p l.n (pattern l.columns l.rows l.initial.e) l.next l.held l.met l.e
-
-abbrev pub decreases-loop-e : goal.decreases-loop-e
-decreases-loop-e l = l.e
