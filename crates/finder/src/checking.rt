@@ -19,14 +19,12 @@ fn first_clash(p: Plan, book: Book, r: u8) -> Option<Clash>
     ensures { result ≡ met_at (map shortened (clash_for r p (patterns book))) }
 {
     let count = book.count;
-    let mut n = 0;
-    while n < count {
+    for n in 0..count {
         let t = book.patterns[n];
         let met = clash_in(p, n, t, r);
         if let Some(_) = met {
             return met;
         }
-        n += 1;
     }
     None
 }

@@ -1,5 +1,4 @@
--- `finder::checking::first_clash` meets its contract. The loop's invariant: the patterns before the n-th have no clash. The
--- measure is the number of patterns that are left.
+-- `finder::checking::first_clash` meets its contract. The loop's invariant: the patterns before the n-th have no clash.
 -- Assumes nothing.
 use Prim.Native.Nat.{ℕ}
 use native.Mathlib.Omega.{arith}
@@ -68,9 +67,6 @@ returns-in-Some c =
     ∙ ap (λ (o : Option LongClash). met_at (map shortened o))
     (sym (clash_at_lem _ _ _ (n c.before) l c.loop-n-test.true (head c.before).loop-n.invariant.1 found))
 
-pub overflow_add-n : goal.overflow_add-n
-overflow_add-n c = record { fits = omega (arith, (legal (head c.before)).most) }
-
 pub loop-n-preserved : goal.loop-n-preserved
 loop-n-preserved c =
     (omega arith, below_more _ _ (head c.before).loop-n.invariant.1 (nowhere_clash (here c.before) (pattern-answer c.before) c.in_default.is))
@@ -80,7 +76,3 @@ unfolding met_at
 returns c =
     ap (λ (o : Option LongClash). met_at (map shortened o))
     (sym (clash_nowhere _ _ _ (λ n h. c.loop-n.invariant.1 n (omega (arith, c.loop-n-test.false)))))
-
-pub loop-n-smaller : goal.loop-n-smaller
-loop-n-smaller c =
-    omega arith
