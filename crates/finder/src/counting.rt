@@ -83,8 +83,7 @@ pub(crate) fn counted_b(cells: &[u16], r: u8, a: usize, d: usize, below: usize) 
     put_lanes(a, &mut lanes);
     put_bases(a, d, &mut bases);
     let end = if below < a { below } else { a };
-    let mut b = 0;
-    while b < end {
+    for b in 0..end {
         let p = Plan {
             a: a as u32,
             b: b as u32,
@@ -93,7 +92,6 @@ pub(crate) fn counted_b(cells: &[u16], r: u8, a: usize, d: usize, below: usize) 
         if !book_crowded(p, &lanes, &bases, cells, r) {
             return Ok(p);
         }
-        b += 1;
     }
     Err(Refusal::NoPlan)
 }

@@ -1,5 +1,5 @@
 -- `finder::counting::counted_b` meets its contract. The loop's invariant: it ends at the smaller of `below` and a, and no plan with a
--- smaller b suits for r. The measure is the number of b's that are left.
+-- smaller b suits for r.
 -- Assumes nothing.
 use Prim.Native.Nat.{ℕ, ◌≤◌, ◌<◌}
 use native.Mathlib.Nat.{mul-le-mul_left, mul-le-mul_right}
@@ -110,11 +110,3 @@ overflow_cast-p-in-loop-b c =
 pub overflow_cast-p-in-loop-b-2 : goal.overflow_cast-p-in-loop-b-2
 overflow_cast-p-in-loop-b-2 c =
     omega (arith, d-most (given c.before.before))
-
-pub overflow_add-b : goal.overflow_add-b
-overflow_add-b c =
-    omega (arith, b-below c.before.before.before.before.before, a-most (given c.before.before.before.before.before.before))
-
-pub loop-b-smaller : goal.loop-b-smaller
-loop-b-smaller c =
-    omega arith
