@@ -121,8 +121,7 @@ fn least_b(marks: &[u8], a: usize, d: usize, below: usize) -> Result<Plan, Refus
     }
     let end = if below < a { below } else { a };
     let mut s = 31 % a;
-    let mut b = 0;
-    while b < end {
+    for b in 0..end {
         if !rows_marked(marks, a, b, d, s) {
             return Ok(Plan {
                 a: a as u32,
@@ -130,7 +129,6 @@ fn least_b(marks: &[u8], a: usize, d: usize, below: usize) -> Result<Plan, Refus
                 d: d as u32,
             });
         }
-        b += 1;
         s += 1;
         if s == a {
             s = 0;

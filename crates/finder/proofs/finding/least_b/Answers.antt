@@ -1,5 +1,5 @@
 -- `finder::finding::least_b` meets its contract. The loop's invariant: it ends at the smaller of `below` and a, s is the plan's
--- first cell in row d, and no plan with a smaller b suits. The measure is the number of b's that are left.
+-- first cell in row d, and no plan with a smaller b suits.
 -- Assumes nothing.
 use Prim.Native.Nat.{ℕ, ◌+◌, ◌*◌, ◌%◌, min, ◌<◌}
 use native.Mathlib.Nat.{mod-add-mod, mod-eq_of_lt, mod_self, mod-lt}
@@ -15,7 +15,7 @@ use Rattle.finder.proofs.finding.least_b.Lts as lts
 use Rattle.finder.proofs.finding.least_b.Tie as tie
 use Rattle.finder.proofs.finding.least_b.Reads as reads
 use Rattle.finder.proofs.finding.least_b.Goals as goal
-use Rattle.finder.proofs.finding.least_b.Goals.{then-below-a, else-below-a}
+use Rattle.finder.proofs.finding.least_b.Goals.{then-below-a, else-below-a, then-s-a, else-s-a}
 
 -- what is known at a step of the code
 abbrev After-row_marked : Type 0
@@ -108,9 +108,6 @@ returns-then-not-rows_marked c =
     l.if-row_marked.false c.rows_marked.ensures c.if-not-rows_marked.true-raw)
     refl
 
-pub overflow_add-b : goal.overflow_add-b
-overflow_add-b c = omega (arith, (given (head c.before.before)).requires)
-
 pub overflow_add-s : goal.overflow_add-s
 overflow_add-s c = let l = head c.before.before in omega (arith, cell_below l, (given l).requires)
 
@@ -124,15 +121,14 @@ turned_down c =
     let none = rows_marked_none (given l).requires.3 (omega (arith, l.loop-b.invariant.0)) c.rows_marked.ensures c.if-not-rows_marked.false-raw in
     one_more_none _ 0 _ l.loop-b.invariant.3 none refl
 
-pub loop-b-preserved-then-s-a : goal.loop-b-preserved-then-s-a
-loop-b-preserved-then-s-a c =
-    let l = head c.before.before.before in
-    (l.loop-b.invariant.0, omega arith, wrapped-cell l c.if-s-a.true, turned_down c.before.before)
-
 pub loop-b-preserved : goal.loop-b-preserved
 loop-b-preserved c =
     let l = head c.before.before.before in
-    (l.loop-b.invariant.0, omega arith, next-cell l c.if-s-a.false, turned_down c.before.before)
+    let next : c.if-s-a.s ≡ (31 + (b l + 1)) % a l = elim c.if-s-a.branch [
+      | then-s-a w ↦ w.s-is ∙ wrapped-cell l w.if-s-a.true
+      | else-s-a w ↦ w.s-is ∙ next-cell l w.if-s-a.false
+    ] in
+    (l.loop-b.invariant.0, omega arith, next, turned_down c.before.before)
 
 pub returns : goal.returns
 unfolding least_below
@@ -152,11 +148,3 @@ overflow_cast-result-then-not-rows_marked c =
 pub overflow_cast-result-then-not-rows_marked-2 : goal.overflow_cast-result-then-not-rows_marked-2
 overflow_cast-result-then-not-rows_marked-2 c =
     omega (arith, (given (head c.before.before)).requires)
-
-pub loop-b-smaller-then-s-a : goal.loop-b-smaller-then-s-a
-loop-b-smaller-then-s-a c =
-    omega arith
-
-pub loop-b-smaller : goal.loop-b-smaller
-loop-b-smaller c =
-    omega arith
