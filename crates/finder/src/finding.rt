@@ -156,9 +156,7 @@ fn first_with(marks: &[u8], cells: &[u16], r: u8, n: usize) -> Result<Plan, Refu
 {
     let mut best = Err(Refusal::NoPlan);
     let mut below = n;
-    let mut d = 0;
-    while d < n {
-        d += 1;
+    for d in 1..=n {
         if n % d == 0 {
             let p = least_b_for(marks, cells, r, n / d, d, below);
             if let Ok(q) = p {

@@ -1,13 +1,10 @@
--- `finder::finding::first_with` meets its contract. The loop's invariant: the best plan so far is that of the d's up to this one, and
--- the next one must have a smaller b. The measure is the number of d's that are left.
+-- `finder::finding::first_with` meets its contract. The loop's invariant: the best plan so far is that of the d's before this one, and
+-- the next one must have a smaller b.
 -- Assumes nothing.
-use Prim.Native.Nat.{◌-◌, ◌≤◌}
+use Prim.Native.Nat.{◌+◌, ◌-◌, ◌≤◌}
 use Rattle.finder.specs.Counting.{TestFor}
 use Rattle.finder.proofs.PlanLoops.{BestIn}
 use Rattle.finder.proofs.finding.first_with.Given as goal
 
 abbrev pub invariant-loop-d : goal.invariant-loop-d
-invariant-loop-d l = (l.d ≤ l.n) × BestIn (TestFor l.r l.marks l.cells) l.n l.d l.best l.below
-
-abbrev pub decreases-loop-d : goal.decreases-loop-d
-decreases-loop-d l = l.n - l.d
+invariant-loop-d l = (l.d ≤ l.n + 1) × BestIn (TestFor l.r l.marks l.cells) l.n (l.d - 1) l.best l.below
