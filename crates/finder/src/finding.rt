@@ -173,13 +173,11 @@ fn least_plan(marks: &[u8], cells: &[u16], r: u8, limit: usize) -> Result<Plan, 
     requires { (length marks.now ≡ 2017) × (length cells.now ≡ 1040) × (limit ≤ 1024) }
     ensures { Searched (TestFor r marks.now cells.now) (λ test. least_of test limit) result }
 {
-    let mut n = 1;
-    while n <= limit {
+    for n in 1..=limit {
         let p = first_with(marks, cells, r, n);
         if let Ok(_) = p {
             return p;
         }
-        n += 1;
     }
     Err(Refusal::NoPlan)
 }

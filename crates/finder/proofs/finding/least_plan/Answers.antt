@@ -1,5 +1,4 @@
--- `finder::finding::least_plan` meets its contract. The loop's invariant: no plan with fewer than n banks suits. The measure is
--- the number of counts that are left.
+-- `finder::finding::least_plan` meets its contract. The loop's invariant: no plan with fewer than n banks suits.
 -- Assumes nothing.
 use native.Mathlib.Omega.{arith}
 use Rattle.scope.specs.Finding.{first_with, least_of}
@@ -39,18 +38,17 @@ returns-in-Ok c =
     found_at first_with 1 (start l).args.limit _ l.loop-n.invariant.2 l.loop-n.invariant.0 (omega arith) c.first_with-p.ensures
     c.in-Ok.is
 
-pub overflow_add-n : goal.overflow_add-n
-overflow_add-n c = omega (arith, (start (head c.before.before)).requires)
-
 pub loop-n-preserved : goal.loop-n-preserved
 loop-n-preserved c =
-    let l = (head c.before.before).loop-n in
-    (omega arith, omega arith, one_more_none first_with 1 _ l.invariant.2 c.first_with-p.ensures c.in_default.is)
+    (omega arith, omega arith, one_more_none first_with 1 _ c.loop-n.invariant.2 c.first_with-p.ensures c.in_default.is)
+
+-- the last count was searched
+pub returns-in_default : goal.returns-in_default
+unfolding least_of
+returns-in_default c =
+    found_nowhere first_with 1 c.args.limit _
+    (one_more_none first_with 1 _ c.loop-n.invariant.2 c.first_with-p.ensures c.in_default.is) (omega arith)
 
 pub returns : goal.returns
 unfolding least_of
 returns c = found_nowhere first_with 1 (start c.before.before).args.limit _ c.loop-n.invariant.2 (omega arith)
-
-pub loop-n-smaller : goal.loop-n-smaller
-loop-n-smaller c =
-    omega arith

@@ -1,7 +1,6 @@
--- `finder::finding::least_plan` meets its contract. The loop's invariant: no plan with fewer than n banks suits. The measure is
--- the number of counts that are left.
+-- `finder::finding::least_plan` meets its contract. The loop's invariant: no plan with fewer than n banks suits.
 -- Assumes nothing.
-use Prim.Native.Nat.{◌+◌, ◌-◌, ◌≤◌}
+use Prim.Native.Nat.{◌+◌, ◌≤◌}
 use Rattle.scope.specs.Finding.{first_with}
 use Rattle.finder.specs.Counting.{TestFor}
 use Rattle.finder.proofs.PlanLoops.{NoneFrom}
@@ -9,6 +8,3 @@ use Rattle.finder.proofs.finding.least_plan.Given as goal
 
 abbrev pub invariant-loop-n : goal.invariant-loop-n
 invariant-loop-n l = (1 ≤ l.n) × (l.n ≤ l.limit + 1) × NoneFrom (TestFor l.r l.marks l.cells) first_with 1 l.n
-
-abbrev pub decreases-loop-n : goal.decreases-loop-n
-decreases-loop-n l = l.limit + 1 - l.n
