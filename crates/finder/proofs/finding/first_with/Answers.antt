@@ -1,13 +1,13 @@
 -- `finder::finding::first_with` meets its contract. The loop's invariant: the best plan so far is that of the d's before this one, and
 -- the next one must have a smaller b.
 -- Assumes nothing.
+use Rattle.std.specs.Prelude.{Result, Ok, Err}
 use Prim.Native.Nat.{ℕ, ◌+◌, ◌-◌, ◌≤◌}
 use native.Mathlib.Nat.{le-div_iff_mul-le, div-add-mod', add-sub_cancel}
 use native.Mathlib.Omega.{arith}
 use mathlib.Core.Path.{◌≡◌, refl}
 use mathlib.Core.Bool.{Bool}
 use Rattle.scope.specs.declared.Plan.{Plan}
-use Rattle.scope.specs.declared.Planned.{Planned}
 use Rattle.scope.specs.declared.Refusal.{Refusal}
 use Rattle.finder.specs.Searching.{least_below, Searched}
 use Rattle.finder.proofs.PlanLoops.{BestIn, none_best, best_replaced, best_stays, best_at_end, divisor_searched, no_divisor_none}
@@ -15,7 +15,7 @@ use Rattle.finder.proofs.finding.first_with.Goals.{then-n-d-eq0+in-Ok, then-n-d-
 use Rattle.finder.proofs.finding.first_with.Goals as goal
 
 -- a turn with this d: a plan with a smaller b replaces the best one, else that one stays
-module _ {Tests : (Plan → Bool) → Type 0} (n d : ℕ) {best r : Planned} {below : ℕ} (least : 1 ≤ d)
+module _ {Tests : (Plan → Bool) → Type 0} (n d : ℕ) {best r : Result Plan Refusal} {below : ℕ} (least : 1 ≤ d)
     (before : BestIn Tests n (d - 1) best below) (here : Searched Tests (λ test. least_below test n d below) r) where
   next : d - 1 + 1 ≡ d
   next = omega arith
@@ -23,10 +23,10 @@ module _ {Tests : (Plan → Bool) → Type 0} (n d : ℕ) {best r : Planned} {be
   searched : Searched Tests (λ test. least_below test n (d - 1 + 1) below) r
   searched = rw next here
 
-  replaced : {p : Plan} → r ≡ Planned.Plan p → BestIn Tests n d (Planned.Plan p) p.b
+  replaced : {p : Plan} → r ≡ Ok p → BestIn Tests n d (Ok p) p.b
   replaced is = rw next at (best_replaced n (d - 1) before searched is)
 
-  stays : {x : Refusal} → r ≡ Planned.Refused x → BestIn Tests n d best below
+  stays : {x : Refusal} → r ≡ Err x → BestIn Tests n d best below
   stays is = rw next at (best_stays n (d - 1) before searched is)
 
 pub loop-d-init : goal.loop-d-init
