@@ -1,7 +1,7 @@
 // The check for r: the normal form of the vectors, then its clash with a pattern of the book, or its surplus over the least count for r.
-ghost use Rattle.std.specs.Prelude.{◌≡◌, true, ◌≤◌};
+ghost use Rattle.std.specs.Prelude.{◌≡◌, ◌≤◌};
 ghost use Rattle.std.proofs.Math.Option.{none, map};
-ghost use Rattle.scope.specs.Plans.{at, is_plan, patterns};
+ghost use Rattle.scope.specs.Plans.{at, patterns};
 ghost use Rattle.scope.specs.Cycles.{shortened, clash_for};
 ghost use Rattle.scope.specs.Numbers.{record_test, places};
 ghost use Rattle.scope.specs.Calls.{judged, check};
@@ -11,12 +11,12 @@ use crate::clash::{clash_in, class_positions};
 use crate::cycles::book_outcome;
 use crate::finding::least_count;
 use lattice::normal_form;
-use scope::{Book, CheckAnswer, Checked, Clash, Plan, Verdict};
+use scope::{Book, CheckAnswer, Checked, Clash, Tested, Verdict};
 
 // The clash for r of the lowest pattern that has one.
-fn first_clash(p: Plan, book: Book, r: u8) -> Option<Clash>
-    requires { (is_plan p ≡ true) × (record_test book ≡ none) × (1 ≤ r) }
-    ensures { result ≡ met_at (map shortened (clash_for r p (patterns book))) }
+fn first_clash(p: Tested, book: Book, r: u8) -> Option<Clash>
+    requires { (record_test book ≡ none) × (1 ≤ r) }
+    ensures { result ≡ met_at (map shortened (clash_for r p.plan (patterns book))) }
 {
     let count = book.count;
     for n in 0..count {
@@ -30,24 +30,25 @@ fn first_clash(p: Plan, book: Book, r: u8) -> Option<Clash>
 }
 
 // The surplus of a plan that suits over the least count for r.
-fn surplus_of(p: Plan, book: Book, r: u8) -> Verdict
-    requires { (is_plan p ≡ true) × (record_test book ≡ none) × (1 ≤ r) × (r ≤ 8) × (clash_for r p (patterns book) ≡ none) }
-    ensures { result ≡ judged r (patterns book) p }
+fn surplus_of(p: Tested, book: Book, r: u8) -> Verdict
+    requires { (record_test book ≡ none) × (1 ≤ r) × (r ≤ 8) × (clash_for r p.plan (patterns book) ≡ none) }
+    ensures { result ≡ judged r (patterns book) p.plan }
 {
     let least = least_count(book, r as u32);
     match least {
         Ok(n) => {
-            let surplus = (p.banks() - n) as u32;
-            Verdict::Suits(Checked { plan: p, surplus })
+            let plan = p.plan;
+            let surplus = (plan.banks() - n) as u32;
+            Verdict::Suits(Checked { plan, surplus })
         }
         Err(f) => Verdict::Refused(f),
     }
 }
 
 // What is said of a plan for a book: the clash with its positions, or the surplus.
-fn judge(p: Plan, book: Book, r: u8) -> CheckAnswer
-    requires { (is_plan p ≡ true) × (record_test book ≡ none) × (1 ≤ r) × (r ≤ 8) }
-    ensures { (result.verdict ≡ judged r (patterns book) p) × (result.positions ≡ places (clash_for r p (patterns book))) }
+fn judge(p: Tested, book: Book, r: u8) -> CheckAnswer
+    requires { (record_test book ≡ none) × (1 ≤ r) × (r ≤ 8) }
+    ensures { (result.verdict ≡ judged r (patterns book) p.plan) × (result.positions ≡ places (clash_for r p.plan (patterns book))) }
 {
     let met = first_clash(p, book, r);
     if let Some(c) = met {
@@ -78,7 +79,7 @@ pub fn check(book: Book, r: u32, x1: i16, x2: i16, y1: i16, y2: i16) -> CheckAns
     }
     let form = normal_form(x1, x2, y1, y2);
     match form {
-        Ok(p) => judge(p, book, r as u8),
+        Ok(p) => judge(Tested { plan: p }, book, r as u8),
         Err(f) => CheckAnswer {
             verdict: Verdict::Refused(f),
             positions: [0; 9],

@@ -1,32 +1,27 @@
 // The clash for r of one pattern under a plan, and its positions.
-ghost use Rattle.std.specs.Prelude.{◌≡◌, true, ◌∷◌, ◌≤◌, ◌<◌, take, replicate};
+ghost use Rattle.std.specs.Prelude.{◌≡◌, ◌∷◌, ◌≤◌, ◌<◌, take, replicate};
 ghost use Rattle.std.proofs.Math.Option.{map};
-ghost use Rattle.scope.specs.Plans.{at, is_plan, pixels};
+ghost use Rattle.scope.specs.Plans.{at, pixels};
 ghost use Rattle.scope.specs.Cycles.{shortened, followers, clash_in_for};
 ghost use Rattle.scope.specs.Banks.{bank_of, over_start};
 ghost use Rattle.book.specs.Scan.{outcome_of};
 ghost use Rattle.finder.specs.Clashing.{met_at, single_test, suits_outcome, suits_positions};
 
-use scope::{Clash, Pattern, Plan, Refusal};
+use scope::{Clash, Pattern, Plan, Refusal, Tested};
 
 // The bank of a pattern's pixel under a plan.
-pub(crate) fn bank_in(p: Plan, i: i8, j: i8) -> usize
-    requires { is_plan p ≡ true }
-    ensures { (result ≡ bank_of p (at i j)) × (result < 1024) }
+pub(crate) fn bank_in(p: Tested, i: i8, j: i8) -> usize
+    ensures { (result ≡ bank_of p.plan (at i j)) × (result < 1024) }
 {
-    let answer = p.bank(i as i16, j as i16);
-    match answer {
-        Ok(k) => k as usize,
-        Err(_) => 0,
-    }
+    p.bank_number(i as i16, j as i16) as usize
 }
 
 // The clash for r of pattern n, whose record is t: its first two positions. The pixels are taken from the last to the first; `next`
 // has for each bank the position of the one taken last, 0 for none: position 0 is taken last of all. `held` has for each position
 // that was taken how many its bank has from there on.
-pub(crate) fn clash_in(p: Plan, n: usize, t: Pattern, r: u8) -> Option<Clash>
-    requires { (is_plan p ≡ true) × (t.used ≤ 64) × (1 ≤ r) }
-    ensures { result ≡ met_at (map shortened (clash_in_for r p n (pixels t))) }
+pub(crate) fn clash_in(p: Tested, n: usize, t: Pattern, r: u8) -> Option<Clash>
+    requires { (t.used ≤ 64) × (1 ≤ r) }
+    ensures { result ≡ met_at (map shortened (clash_in_for r p.plan n (pixels t))) }
 {
     let columns = t.columns;
     let rows = t.rows;
@@ -51,9 +46,9 @@ pub(crate) fn clash_in(p: Plan, n: usize, t: Pattern, r: u8) -> Option<Clash>
 }
 
 // The positions of the class of pixel e from e on, at most r + 1 of them, in nine places, then 0.
-pub(crate) fn class_positions(p: Plan, t: Pattern, e: usize, r: u8) -> [usize; 9]
-    requires { (is_plan p ≡ true) × (t.used ≤ 64) × (e < t.used) × (r ≤ 8) }
-    ensures { result ≡ over_start (e ∷ take r (followers p (pixels t) e)) (replicate 9 0) }
+pub(crate) fn class_positions(p: Tested, t: Pattern, e: usize, r: u8) -> [usize; 9]
+    requires { (t.used ≤ 64) × (e < t.used) × (r ≤ 8) }
+    ensures { result ≡ over_start (e ∷ take r (followers p.plan (pixels t) e)) (replicate 9 0) }
 {
     let columns = t.columns;
     let rows = t.rows;
@@ -112,9 +107,10 @@ pub fn suits_answer(p: Plan, n: usize, t: Pattern, r: u32) -> Suited
     if let Err(_) = outcome {
         return Suited { outcome, positions };
     }
-    let met = clash_in(p, n, t, r as u8);
+    let tested = Tested { plan: p };
+    let met = clash_in(tested, n, t, r as u8);
     if let Some(c) = met {
-        positions = class_positions(p, t, c.earlier, r as u8);
+        positions = class_positions(tested, t, c.earlier, r as u8);
         return Suited {
             outcome: Err(Refusal::Unsuited(c)),
             positions,

@@ -1,6 +1,6 @@
 // The cycles of a pattern under a plan, and the tests of a book and r that calls begin with.
-ghost use Rattle.std.specs.Prelude.{◌≡◌, true, ◌≤◌, length};
-ghost use Rattle.scope.specs.Plans.{is_plan, pixels};
+ghost use Rattle.std.specs.Prelude.{◌≡◌, ◌≤◌, length};
+ghost use Rattle.scope.specs.Plans.{pixels};
 ghost use Rattle.scope.specs.Cycles.{cycles};
 ghost use Rattle.scope.specs.Banks.{over_start};
 ghost use Rattle.scope.specs.Calls.{book_test, cycles_first, write_cycles};
@@ -8,7 +8,7 @@ ghost use Rattle.book.specs.Scan.{outcome_of};
 
 use crate::clash::{bank_in, suits_answer};
 use book::{entry_number, record_outcome};
-use scope::{Book, FetchAnswer, Pattern, Plan, Refusal};
+use scope::{Book, FetchAnswer, Pattern, Plan, Refusal, Tested};
 
 // 2, 3, 4, 19, 20: whether a record is a book and r is from 1 to 8.
 pub fn book_outcome(book: Book, r: u32) -> Result<(), Refusal>
@@ -39,9 +39,9 @@ fn cycles_outcome(book: Book, r: u32, p: Plan, n: usize) -> Result<(), Refusal>
 }
 
 // Puts the cycle of each pixel of a pattern at the start of the output. `taken` counts the pixels so far in each bank.
-fn put_cycles(p: Plan, t: Pattern, out: &mut [u8])
-    requires { (is_plan p ≡ true) × (t.used ≤ 64) × (t.used ≤ length out.old) }
-    ensures { out.new ≡ over_start (cycles p (pixels t)) out.old }
+fn put_cycles(p: Tested, t: Pattern, out: &mut [u8])
+    requires { (t.used ≤ 64) × (t.used ≤ length out.old) }
+    ensures { out.new ≡ over_start (cycles p.plan (pixels t)) out.old }
 {
     let columns = t.columns;
     let rows = t.rows;
@@ -83,7 +83,7 @@ pub fn write_cycles(book: Book, r: u32, p: Plan, n: usize, out: &mut [u8]) -> Fe
             positions,
         };
     }
-    put_cycles(p, t, out);
+    put_cycles(Tested { plan: p }, t, out);
     FetchAnswer {
         counted: Ok(t.used as u64),
         positions,

@@ -139,10 +139,12 @@ module _ (c : After-normal_form-form) where
 pub overflow_cast-r : goal.overflow_cast-r
 overflow_cast-r c = record { fits = omega (arith, (cycles c.before).1) }
 
+pub invariant_of-judge : goal.invariant_of-judge
+invariant_of-judge c = record { is = form-is-plan _ _ _ (form-is c.before ∙ c.in-Ok.is) }
+
 pub judge-requires : goal.judge-requires
 judge-requires c =
-    let n = c.before in (
-      form-is-plan _ _ _ (form-is n ∙ c.in-Ok.is),
+    let n = c.before.before in (
       (book_legal_iff (start n).args.book).1 ((book_test_iff (start n).args.book (start n).args.r).0 (legal n)).0,
       omega (arith, (cycles n).0),
       omega (arith, (cycles n).1),
@@ -150,7 +152,7 @@ judge-requires c =
 
 pub returns-in-Ok : goal.returns-in-Ok
 returns-in-Ok c =
-    let n = c.before.before in
+    let n = c.before.before.before in
     let (verdict, positions) = form-judged _ _ _ _ (legal n) _ (form-is n ∙ c.in-Ok.is) in
     (c.judge.ensures.0 ∙ sym verdict, c.judge.ensures.1 ∙ sym positions)
 

@@ -30,7 +30,7 @@ loop-n-init c = (omega arith, below_none _)
 
 -- the book is legal
 legal : (l : At-loop-n) → IsBook l.args.book
-legal l = (book_legal_iff l.args.book).0 l.requires.1
+legal l = (book_legal_iff l.args.book).0 l.requires.0
 
 pub offset_bounds-book-n : goal.offset_bounds-book-n
 offset_bounds-book-n c = record { fits = omega (arith, (legal c.before).most) }
@@ -41,7 +41,7 @@ bounds-book-n c = omega (arith, (legal c.before).most)
 pub clash_in-met-requires : goal.clash_in-met-requires
 unfolding pattern_at
 clash_in-met-requires c =
-    (c.requires.0, ((legal c.before.before).each c.loop-n.n c.loop-n-test.true).most, omega (arith, c.requires.2))
+    (((legal c.before.before).each c.loop-n.n c.loop-n-test.true).most, omega (arith, c.requires.1))
 
 -- in a turn, where it is known what was met in the n-th pattern
 module _ (c : After-clash_in-met) where
@@ -52,7 +52,7 @@ module _ (c : After-clash_in-met) where
   n = head.loop-n.n
 
   abbrev here : Option LongClash
-  here = pattern_clash head.args.r head.args.p head.args.book n
+  here = pattern_clash head.args.r head.args.p.plan head.args.book n
 
   pattern-answer : c.clash_in-met.result ≡ met_at (map shortened here)
   unfolding pattern_at

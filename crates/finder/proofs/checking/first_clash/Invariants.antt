@@ -7,4 +7,4 @@ use Rattle.finder.proofs.Verdicts.{pattern_clash}
 use Rattle.finder.proofs.checking.first_clash.Given as goal
 
 abbrev pub invariant-loop-n : goal.invariant-loop-n
-invariant-loop-n l = (l.n ≤ l.count) × ((m : ℕ) → m < l.n → pattern_clash l.r l.p l.book m ≡ none)
+invariant-loop-n l = (l.n ≤ l.count) × ((m : ℕ) → m < l.n → pattern_clash l.r l.p.plan l.book m ≡ none)

@@ -34,7 +34,7 @@ module _ (c : goal.In-Some) where
   start = c.before.before
 
   abbrev p : Plan
-  p = start.args.p
+  p = start.args.p.plan
 
   abbrev book : Book
   book = start.args.book
@@ -49,7 +49,7 @@ module _ (c : goal.In-Some) where
   t = pattern_at book given.pattern
 
   legal : IsBook book
-  legal = (book_legal_iff book).0 start.requires.1
+  legal = (book_legal_iff book).0 start.requires.0
 
   -- the clash of the book
   met-clash : (l : LongClash) × (clash_for r p (patterns book) ≡ some l) × (given ≡ shortened l)
@@ -60,7 +60,7 @@ module _ (c : goal.In-Some) where
 
   -- is that of its pattern
   in-pattern : InItsPattern r p book l
-  in-pattern = let is-plan = plan_means p start.requires.0 in in_its_pattern r p book is-plan.a_least is-plan.d_least l met-clash.1
+  in-pattern = let is-plan = plan_means p start.args.p.is in in_its_pattern r p book is-plan.a_least is-plan.d_least l met-clash.1
 
   number : given.pattern ≡ l.pattern
   unfolding shortened
@@ -81,10 +81,9 @@ bounds-book-n c = omega (arith, below c, (legal c).most)
 pub class_positions-positions-requires : goal.class_positions-positions-requires
 unfolding pattern_at
 class_positions-positions-requires c = (
-  (start c.before).requires.0,
   ((legal c.before).each (given c.before).pattern (below c.before)).most,
   omega (arith, begins_below (r c.before) (p c.before) (given c.before).pattern (pixels (t c.before)) (found c.before) (met-clash c.before).2, length_pixels (t c.before)),
-  omega (arith, (start c.before).requires.3),
+  omega (arith, (start c.before).requires.2),
 )
 
 pub returns-in-Some : goal.returns-in-Some
@@ -96,11 +95,11 @@ returns-in-Some c = (
 )
 
 -- nothing was met
-no-clash : (c : goal.In_default) → clash_for c.args.r c.args.p (patterns c.args.book) ≡ none
+no-clash : (c : goal.In_default) → clash_for c.args.r c.args.p.plan (patterns c.args.book) ≡ none
 no-clash c = nowhere_clash _ c.first_clash-met.ensures c.in_default.is
 
 pub surplus_of-requires : goal.surplus_of-requires
-surplus_of-requires c = (c.requires.0, c.requires.1, c.requires.2, c.requires.3, no-clash c)
+surplus_of-requires c = (c.requires.0, c.requires.1, c.requires.2, no-clash c)
 
 pub returns : goal.returns
 unfolding places

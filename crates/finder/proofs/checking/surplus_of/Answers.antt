@@ -32,7 +32,7 @@ Start = lts.Start tie.the-claims reads.Pre reads.Post
 
 module _ (c : Start) where
   abbrev p : Plan
-  p = c.args.p
+  p = c.args.p.plan
 
   abbrev book : Book
   book = c.args.book
@@ -41,18 +41,18 @@ module _ (c : Start) where
   r = c.args.r
 
   is-plan : IsPlan p
-  is-plan = plan_means p c.requires.0
+  is-plan = plan_means p c.args.p.is
 
   legal : book_test book r ≡ none
-  legal = (book_test_iff book r).1 ((book_legal_iff book).0 c.requires.1, (c.requires.2, c.requires.3))
+  legal = (book_test_iff book r).1 ((book_legal_iff book).0 c.requires.0, (c.requires.1, c.requires.2))
 
   suiting : suits_all_for r p (patterns book) ≡ true
-  suiting = ((long_clashes_lem r p is-plan.a_least is-plan.d_least).none_in_book (patterns book)).0 c.requires.4
+  suiting = ((long_clashes_lem r p is-plan.a_least is-plan.d_least).none_in_book (patterns book)).0 c.requires.3
 
 -- the arm of a count
 module _ (c : goal.After-banks) where
   abbrev counted : After-least_count-least
-  counted = c.before.before
+  counted = c.before.before.before
 
   abbrev start : Start
   start = counted.before
@@ -83,7 +83,7 @@ pub returns-in-Ok : goal.returns-in-Ok
 returns-in-Ok c =
     let s = start c in
     ap (λ (surplus : ℕ). Verdict.Suits (record { plan = p s; surplus = surplus })) (surplus-is c)
-    ∙ sym (judged_suits (r s) (patterns (book s)) (p s) s.requires.4)
+    ∙ sym (judged_suits (r s) (patterns (book s)) (p s) s.requires.3)
 
 -- a book is counted
 pub returns-in-Err : goal.returns-in-Err

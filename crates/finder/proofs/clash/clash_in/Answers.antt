@@ -40,34 +40,34 @@ module _ (c : goal.After-bank_in-k) where
   abbrev k : ℕ
   k = c.bank_in-k.result
 
-  plan : is_plan start.args.p ≡ true
-  plan = start.requires.0
+  plan : is_plan start.args.p.plan ≡ true
+  plan = start.args.p.is
 
-  bank-is : k ≡ bank_at start.args.p start.args.t e
+  bank-is : k ≡ bank_at start.args.p.plan start.args.t e
   unfolding pixel_at at
   bank-is =
       c.bank_in-k.ensures.0
-      ∙ ap (bank_of start.args.p)
+      ∙ ap (bank_of start.args.p.plan)
       (entry_handed w8 _ _ c.bank_in-arg-1.given c.bank_in-arg-in-loop-e-1.given)
 
   bank-small : k < 1024
   bank-small = c.bank_in-k.ensures.1
 
   later-small : get_or head.loop-e.next k 0 < 64
-  later-small = place_below head.loop-e.invariant.1 head.loop-e.invariant.0 start.requires.1 k bank-small
+  later-small = place_below head.loop-e.invariant.1 head.loop-e.invariant.0 start.requires.0 k bank-small
 
   searched :
-      SearchedFrom start.args.r start.args.p start.args.n start.args.t head.loop-e.next head.loop-e.held head.loop-e.met
+      SearchedFrom start.args.r start.args.p.plan start.args.n start.args.t head.loop-e.next head.loop-e.held head.loop-e.met
       (suc e)
   searched =
       let more : head.loop-e.e ≡ suc e = omega arith in
       subst
-      (SearchedFrom start.args.r start.args.p start.args.n start.args.t head.loop-e.next head.loop-e.held head.loop-e.met)
+      (SearchedFrom start.args.r start.args.p.plan start.args.n start.args.t head.loop-e.next head.loop-e.held head.loop-e.met)
       more
       head.loop-e.invariant.1
 
   count_small : get_or head.loop-e.held (get_or head.loop-e.next k 0) 0 < 64
-  count_small = count_below plan searched (omega arith) start.requires.1 bank-is bank-small
+  count_small = count_below plan searched (omega arith) start.requires.0 bank-is bank-small
 
 pub bounds-next-k : goal.bounds-next-k
 bounds-next-k c = bank-small c
@@ -86,10 +86,10 @@ bounds-next-k-in-loop-e c = bank-small c.before
 
 pub loop-e-preserved : goal.loop-e-preserved
 loop-e-preserved c =
-    let most = (start c.before).requires.1 in (
+    let most = (start c.before).requires.0 in (
       omega arith,
       elim c.if-r-count.branch [
-        | then-r-count w ↦ clash_met (plan c.before) (searched c.before) (omega arith) most (bank-is c.before) (bank-small c.before) (start c.before).requires.2 w.if-r-count.true w.met-is
+        | then-r-count w ↦ clash_met (plan c.before) (searched c.before) (omega arith) most (bank-is c.before) (bank-small c.before) (start c.before).requires.1 w.if-r-count.true w.met-is
         | else-r-count w ↦ none_met (plan c.before) (searched c.before) (omega arith) most (bank-is c.before) (bank-small c.before) w.if-r-count.false w.met-is
       ],
     )

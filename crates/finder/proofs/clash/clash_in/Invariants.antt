@@ -12,4 +12,4 @@ abbrev pub pattern : List ℤ → List ℤ → ℕ → Pattern
 pattern columns rows used = record { columns = columns; rows = rows; used = used }
 
 abbrev pub invariant-loop-e : goal.invariant-loop-e
-invariant-loop-e l = (l.e ≤ l.initial.e) × SearchedFrom l.r l.p l.n (pattern l.columns l.rows l.initial.e) l.next l.held l.met l.e
+invariant-loop-e l = (l.e ≤ l.initial.e) × SearchedFrom l.r l.p.plan l.n (pattern l.columns l.rows l.initial.e) l.next l.held l.met l.e

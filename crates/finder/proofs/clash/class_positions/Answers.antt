@@ -35,17 +35,17 @@ module _ (c : In-loop-l) where
   abbrev start : Start
   start = bank-known.before.before.before.before.before
 
-  class-bank : bank-known.bank_in-k.result ≡ bank_at start.args.p start.args.t start.args.e
+  class-bank : bank-known.bank_in-k.result ≡ bank_at start.args.p.plan start.args.t start.args.e
   class-bank =
       let b = bank-known.before in
-      bank_asked start.args.p start.args.t start.args.e b.bank_in-arg-1.given b.bank_in-arg-2-1.given bank-known.bank_in-k.ensures.0
+      bank_asked start.args.p.plan start.args.t start.args.e b.bank_in-arg-1.given b.bank_in-arg-2-1.given bank-known.bank_in-k.ensures.0
 
 pub loop-l-preserved : goal.loop-l-preserved
 loop-l-preserved c =
     let placed = (head c.before).loop-l.invariant in
     elim c.if-m-last.branch [
       | then-m-last+then-bank_in-k w ↦
-          rw (w.positions-is, w.m-is) (one_placed placed w.if-m-last.true (start c.before).requires.3
+          rw (w.positions-is, w.m-is) (one_placed placed w.if-m-last.true (start c.before).requires.2
           (sym (bank_asked _ _ _ w.bank_in-arg-then-m-last-1.given w.bank_in-arg-then-m-last-2-1.given w.bank_in.ensures.0) ∙ w.if-bank_in-k.true ∙ class-bank c.before))
       | then-m-last+else-bank_in-k w ↦
           rw (w.positions-is, w.m-is) (other_bank placed
@@ -55,7 +55,7 @@ loop-l-preserved c =
 
 pub returns : goal.returns
 returns c =
-    all_placed c.requires.0 c.requires.2 c.loop-l.invariant (omega arith) c.loop-l-test.false
+    all_placed c.args.p.is c.requires.1 c.loop-l.invariant (omega arith) c.loop-l-test.false
 
 pub bounds-columns-e : goal.bounds-columns-e
 bounds-columns-e c =

@@ -5,4 +5,4 @@ use Rattle.finder.proofs.ClassPositions.{PlacedTo}
 use Rattle.finder.proofs.clash.class_positions.Given as goal
 
 abbrev pub invariant-loop-l : goal.invariant-loop-l
-invariant-loop-l l = PlacedTo l.r l.p l.fn.t l.e l.positions l.m l.l
+invariant-loop-l l = PlacedTo l.r l.p.plan l.fn.t l.e l.positions l.m l.l

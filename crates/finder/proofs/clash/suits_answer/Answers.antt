@@ -28,13 +28,17 @@ module _ (p : Plan) (t : Pattern) (r : ℕ) {outcome : Result Unit Refusal} (tol
 pub returns-in-Err : goal.returns-in-Err
 returns-in-Err c = refused_first _ _ _ _ c.single_outcome-outcome.ensures c.in-Err.is
 
+pub invariant_of-tested : goal.invariant_of-tested
+invariant_of-tested c =
+    record { is = (legal c.args.p c.args.t c.args.r c.single_outcome-outcome.ensures c.in_default.is).plan }
+
 pub overflow_cast-r : goal.overflow_cast-r
 overflow_cast-r c = record { fits = omega (arith, (legal c.args.p c.args.t c.args.r c.single_outcome-outcome.ensures c.in_default.is).cycles_most) }
 
 pub clash_in-met-requires : goal.clash_in-met-requires
 clash_in-met-requires c =
     let l = legal c.args.p c.args.t c.args.r c.single_outcome-outcome.ensures c.in_default.is in
-    (l.plan, l.most, omega (arith, l.cycles_least))
+    (l.most, omega (arith, l.cycles_least))
 
 pub overflow_cast-r-in-Some : goal.overflow_cast-r-in-Some
 overflow_cast-r-in-Some c = record { fits = omega (arith, (legal c.args.p c.args.t c.args.r c.single_outcome-outcome.ensures c.in_default.is).cycles_most) }
@@ -43,7 +47,7 @@ pub class_positions-positions-requires : goal.class_positions-positions-requires
 class_positions-positions-requires c =
     let l = legal c.args.p c.args.t c.args.r c.single_outcome-outcome.ensures c.in_default.is in
     let (clash, found, is) = at_clash _ c.clash_in-met.ensures c.in-Some.is in
-    (l.plan, l.most, omega (arith, begins_below _ _ _ _ found is, length_pixels c.args.t), omega (arith, l.cycles_most))
+    (l.most, omega (arith, begins_below _ _ _ _ found is, length_pixels c.args.t), omega (arith, l.cycles_most))
 
 pub returns-in-Some : goal.returns-in-Some
 returns-in-Some c =

@@ -30,22 +30,22 @@ module _ (c : goal.After-bank_in-k) where
   abbrev start : Start
   start = head.before.before.before.before
 
-  bank-is : c.bank_in-k.result ≡ bank_at start.args.p start.args.t head.loop-e.e
+  bank-is : c.bank_in-k.result ≡ bank_at start.args.p.plan start.args.t head.loop-e.e
   bank-is = bank_asked _ _ _ c.bank_in-arg-1.given c.bank_in-arg-in-loop-e-1.given c.bank_in-k.ensures.0
 
   bank-small : c.bank_in-k.result < 1024
   bank-small = c.bank_in-k.ensures.1
 
 pub bounds-out-e : goal.bounds-out-e
-bounds-out-e c = omega (arith, (head c).loop-e.invariant.put.same_length, (start c).requires.2)
+bounds-out-e c = omega (arith, (head c).loop-e.invariant.put.same_length, (start c).requires.1)
 
 pub overflow_add-taken : goal.overflow_add-taken
 overflow_add-taken c =
-    record { fits = omega (arith, cycle_below (head c).loop-e.invariant (omega arith) (start c).requires.1 (bank-is c) (bank-small c)) }
+    record { fits = omega (arith, cycle_below (head c).loop-e.invariant (omega arith) (start c).requires.0 (bank-is c) (bank-small c)) }
 
 pub loop-e-preserved : goal.loop-e-preserved
 loop-e-preserved c =
-    one_cycle_put (head c).loop-e.invariant (omega arith) (start c).requires.1 (bank-is c) (bank-small c) (start c).requires.2
+    one_cycle_put (head c).loop-e.invariant (omega arith) (start c).requires.0 (bank-is c) (bank-small c) (start c).requires.1
 
 pub shape_of-out : goal.shape_of-out
 shape_of-out c = c.loop-e.invariant.put.same_length

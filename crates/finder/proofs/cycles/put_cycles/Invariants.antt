@@ -5,4 +5,4 @@ use Rattle.finder.proofs.PutCycles.{CyclesPut}
 use Rattle.finder.proofs.cycles.put_cycles.Given as goal
 
 abbrev pub invariant-loop-e : goal.invariant-loop-e
-invariant-loop-e l = CyclesPut l.p l.fn.t l.initial.out l.out l.taken l.e
+invariant-loop-e l = CyclesPut l.p.plan l.fn.t l.initial.out l.out l.taken l.e

@@ -66,11 +66,16 @@ returns-then-out-t c =
     let w = no_room _ _ _ _ c.args.out.now first same outcome positions c.in_default-suits.is c.if-out-t.true in
     record { answer = w.0; left = w.1 }
 
+pub invariant_of-put_cycles : goal.invariant_of-put_cycles
+invariant_of-put_cycles c =
+    record {
+      is = (own_legal _ _ _ _ (passed c.args.book c.args.r c.args.p c.args.n c.cycles_outcome-outcome.ensures c.in_default.is)).plan;
+    }
+
 pub put_cycles-requires : goal.put_cycles-requires
 unfolding pattern_at
 put_cycles-requires c =
-    let first = passed c.args.book c.args.r c.args.p c.args.n c.cycles_outcome-outcome.ensures c.in_default.is in
-    ((own_legal _ _ _ _ first).plan, own_most c.args.book c.args.r c.args.p c.args.n c.cycles_outcome-outcome.ensures c.in_default.is c.entry_number-k.ensures, c.if-out-t.false)
+    (own_most c.args.book c.args.r c.args.p c.args.n c.cycles_outcome-outcome.ensures c.in_default.is c.entry_number-k.ensures, c.if-out-t.false)
 
 pub returns : goal.returns
 unfolding pattern_at
