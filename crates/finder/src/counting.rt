@@ -1,23 +1,22 @@
 // Whether a plan suits a book for r, by counting the pixels to a bank.
-ghost use Rattle.std.specs.Prelude.{◌≡◌, true, not, ◌*◌, min, ◌<◌, ◌≤◌, length, get_or};
+ghost use Rattle.std.specs.Prelude.{◌≡◌, not, ◌*◌, min, ◌<◌, ◌≤◌, length, get_or};
 ghost use Rattle.scope.specs.Search.{some_below};
-ghost use Rattle.scope.specs.Plans.{is_plan};
 ghost use Rattle.scope.specs.Banks.{bank_of};
 ghost use Rattle.scope.specs.Cycles.{suits_for};
 ghost use Rattle.finder.specs.Counting.{cell_pixel, pattern_in, lanes_of, bases_of, ShiftsOf, CellTest};
 ghost use Rattle.finder.specs.Searching.{least_below, Searched};
 
 use crate::bank_tables::{put_bases, put_lanes, put_shifts};
-use scope::{Plan, Refusal};
+use scope::{Plan, Refusal, Tested};
 
 // The bank of a cell under a plan, by the plan's tables.
-fn cell_bank(p: Plan, lanes: &[u16], bases: &[u16], shifts: &[u16], cell: u16) -> usize
-    requires { (is_plan p ≡ true) × (lanes.now ≡ lanes_of p.a) × (bases.now ≡ bases_of p.a p.d) × ShiftsOf p.a p.b p.d shifts.now }
-    ensures { (result ≡ bank_of p (cell_pixel cell)) × (result < 1024) }
+fn cell_bank(p: Tested, lanes: &[u16], bases: &[u16], shifts: &[u16], cell: u16) -> usize
+    requires { (lanes.now ≡ lanes_of p.plan.a) × (bases.now ≡ bases_of p.plan.a p.plan.d) × ShiftsOf p.plan.a p.plan.b p.plan.d shifts.now }
+    ensures { (result ≡ bank_of p.plan (cell_pixel cell)) × (result < 1024) }
 {
     let c = (cell % 32) as usize;
     let j = (cell / 32 % 32) as usize;
-    let a = p.a as usize;
+    let a = p.plan.a as usize;
     let x = lanes[c] as usize + shifts[j] as usize;
     let y = if x < a { x } else { x - a };
     bases[j] as usize + y
@@ -34,7 +33,7 @@ fn pixels_in(cells: &[u16], n: usize) -> usize
 
 // Whether a bank has more than r pixels of pattern n; `counts` has how many of the pixels before are in each bank.
 fn pattern_crowded(
-    p: Plan,
+    p: Tested,
     lanes: &[u16],
     bases: &[u16],
     shifts: &[u16],
@@ -42,8 +41,8 @@ fn pattern_crowded(
     n: usize,
     r: u8,
 ) -> bool
-    requires { (is_plan p ≡ true) × (lanes.now ≡ lanes_of p.a) × (bases.now ≡ bases_of p.a p.d) × ShiftsOf p.a p.b p.d shifts.now × (length cells.now ≡ 1040) × (n < 16) }
-    ensures { result ≡ not (suits_for r p (pattern_in cells.now n)) }
+    requires { (lanes.now ≡ lanes_of p.plan.a) × (bases.now ≡ bases_of p.plan.a p.plan.d) × ShiftsOf p.plan.a p.plan.b p.plan.d shifts.now × (length cells.now ≡ 1040) × (n < 16) }
+    ensures { result ≡ not (suits_for r p.plan (pattern_in cells.now n)) }
 {
     let used = pixels_in(cells, n);
     let mut counts = [0u8; 1024];
@@ -59,12 +58,18 @@ fn pattern_crowded(
 }
 
 // Whether a bank has more than r pixels of one of the patterns.
-fn book_crowded(p: Plan, lanes: &[u16], bases: &[u16], cells: &[u16], r: u8) -> bool
-    requires { (is_plan p ≡ true) × (lanes.now ≡ lanes_of p.a) × (bases.now ≡ bases_of p.a p.d) × (length cells.now ≡ 1040) }
-    ensures { result ≡ some_below 16 (λ n. not (suits_for r p (pattern_in cells.now n))) }
+fn book_crowded(p: Tested, lanes: &[u16], bases: &[u16], cells: &[u16], r: u8) -> bool
+    requires { (lanes.now ≡ lanes_of p.plan.a) × (bases.now ≡ bases_of p.plan.a p.plan.d) × (length cells.now ≡ 1040) }
+    ensures { result ≡ some_below 16 (λ n. not (suits_for r p.plan (pattern_in cells.now n))) }
 {
     let mut shifts = [0u16; 32];
-    put_shifts(p.a as usize, p.b as usize, p.d as usize, &mut shifts);
+    let plan = p.plan;
+    put_shifts(
+        plan.a as usize,
+        plan.b as usize,
+        plan.d as usize,
+        &mut shifts,
+    );
     for n in 0..16 {
         if pattern_crowded(p, lanes, bases, &shifts, cells, n, r) {
             return true;
@@ -89,7 +94,7 @@ pub(crate) fn counted_b(cells: &[u16], r: u8, a: usize, d: usize, below: usize) 
             b: b as u32,
             d: d as u32,
         };
-        if !book_crowded(p, &lanes, &bases, cells, r) {
+        if !book_crowded(Tested { plan: p }, &lanes, &bases, cells, r) {
             return Ok(p);
         }
     }

@@ -25,8 +25,9 @@ one_more r p cells n before here m h = by_place (ℕ_discrete m n)
 
 pub put_shifts-requires : goal.put_shifts-requires
 put_shifts-requires c =
-    let l : IsPlan c.args.p = plan_means c.args.p c.requires.0 in
-    (l.b_below, omega (arith, mul-le-mul_left c.args.p.a l.d_least, l.most), l.d_least, refl)
+    let p = c.args.p in
+    let l : IsPlan p.plan = plan_means p.plan p.is in
+    (l.b_below, omega (arith, mul-le-mul_left p.plan.a l.d_least, l.most), l.d_least, refl)
 
 pub loop-n-init : goal.loop-n-init
 loop-n-init c = λ m h. absurd (omega arith)
@@ -34,7 +35,7 @@ loop-n-init c = λ m h. absurd (omega arith)
 pub pattern_crowded-requires : goal.pattern_crowded-requires
 pattern_crowded-requires c =
     let u = c.requires in
-    (u.0, u.1, u.2, c.put_shifts.ensures, u.3, omega arith)
+    (u.0, u.1, c.put_shifts.ensures, u.2, omega arith)
 
 pub returns-then-pattern_crowded : goal.returns-then-pattern_crowded
 returns-then-pattern_crowded c =

@@ -14,4 +14,4 @@ abbrev pub crowded : ℕ → Plan → List ℕ → ℕ → Bool
 crowded r p cells m = not (suits_for r p (pattern_in cells m))
 
 abbrev pub invariant-loop-n : goal.invariant-loop-n
-invariant-loop-n l = ((m : ℕ) → m < l.n → crowded l.r l.p l.cells m ≡ false)
+invariant-loop-n l = ((m : ℕ) → m < l.n → crowded l.r l.p.plan l.cells m ≡ false)

@@ -30,7 +30,7 @@ Start = lts.Start reads.Pre reads.Post
 
 module _ (s : Start) where
   abbrev p : Plan
-  p = s.args.p
+  p = s.args.p.plan
 
   abbrev c : ℕ
   c = s.args.cell % 32
@@ -39,7 +39,7 @@ module _ (s : Start) where
   j = s.args.cell / 32 % 32
 
   legal : IsPlan p
-  legal = plan_means p s.requires.0
+  legal = plan_means p s.args.p.is
 
   c-below : c < 32
   c-below = mod-lt s.args.cell (omega arith)
@@ -48,19 +48,19 @@ module _ (s : Start) where
   j-below = mod-lt (s.args.cell / 32) (omega arith)
 
   lanes-long : length s.args.lanes.now ≡ 32
-  lanes-long = ap length s.requires.1 ∙ length_lanes p.a
+  lanes-long = ap length s.requires.0 ∙ length_lanes p.a
 
   bases-long : length s.args.bases.now ≡ 32
-  bases-long = ap length s.requires.2 ∙ length_bases p.a p.d
+  bases-long = ap length s.requires.1 ∙ length_bases p.a p.d
 
   lane-is : get_or s.args.lanes.now c 0 ≡ c % p.a
-  lane-is = ap (λ (xs : List ℕ). get_or xs c 0) s.requires.1 ∙ lane_at p.a c c-below
+  lane-is = ap (λ (xs : List ℕ). get_or xs c 0) s.requires.0 ∙ lane_at p.a c c-below
 
   base-is : get_or s.args.bases.now j 0 ≡ (j % p.d) * p.a
-  base-is = ap (λ (xs : List ℕ). get_or xs j 0) s.requires.2 ∙ base_at p.a p.d j j-below
+  base-is = ap (λ (xs : List ℕ). get_or xs j 0) s.requires.1 ∙ base_at p.a p.d j j-below
 
   shift_is : Shift p.a p.b p.d j (get_or s.args.shifts.now j 0)
-  shift_is = s.requires.3.each j j-below
+  shift_is = s.requires.2.each j j-below
 
   abbrev sum : ℕ
   sum = get_or s.args.lanes.now c 0 + get_or s.args.shifts.now j 0

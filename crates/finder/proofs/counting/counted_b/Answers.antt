@@ -71,16 +71,20 @@ module _ (c : In-loop-b) where
       let s = given head in
       (is_plan_iff _).1 (made_is_plan s.args.a (b head) s.args.d s.requires.1 s.requires.2 b-below s.requires.3)
 
+pub invariant_of-book_crowded : goal.invariant_of-book_crowded
+unfolding plan
+invariant_of-book_crowded c = record { is = is-plan c.before.before.before }
+
 pub book_crowded-requires : goal.book_crowded-requires
 unfolding plan
 book_crowded-requires c =
-    (is-plan c.before.before.before, c.put_lanes.ensures, c.put_bases.ensures, (given c.before.before.before.before).requires.0)
+    (c.put_lanes.ensures, c.put_bases.ensures, (given c.before.before.before.before.before).requires.0)
 
 pub returns-then-not-book_crowded : goal.returns-then-not-book_crowded
 unfolding least_below plan
 returns-then-not-book_crowded c =
-    found_at _ 0 (given c.before.before.before.before.before.before).args.below _ c.loop-b.invariant.2 (omega arith) (omega (arith, b-asked c.before.before.before.before.before))
-    (uncrowded_found (given c.before.before.before.before.before.before).requires.2 (b-below c.before.before.before.before.before) c.book_crowded.ensures c.if-not-book_crowded.true-raw)
+    found_at _ 0 (given c.before.before.before.before.before.before.before).args.below _ c.loop-b.invariant.2 (omega arith) (omega (arith, b-asked c.before.before.before.before.before.before))
+    (uncrowded_found (given c.before.before.before.before.before.before.before).requires.2 (b-below c.before.before.before.before.before.before) c.book_crowded.ensures c.if-not-book_crowded.true-raw)
     refl
 
 pub loop-b-preserved : goal.loop-b-preserved
@@ -88,7 +92,7 @@ unfolding plan
 loop-b-preserved c = (
   c.loop-b.invariant.0,
   omega (arith, c.loop-b-test.true),
-  one_more_none _ 0 _ c.loop-b.invariant.2 (crowded_none (given c.before.before.before.before.before.before).requires.2 (b-below c.before.before.before.before.before) c.book_crowded.ensures c.if-not-book_crowded.false-raw) refl,
+  one_more_none _ 0 _ c.loop-b.invariant.2 (crowded_none (given c.before.before.before.before.before.before.before).requires.2 (b-below c.before.before.before.before.before.before) c.book_crowded.ensures c.if-not-book_crowded.false-raw) refl,
 )
 
 pub returns : goal.returns

@@ -41,8 +41,8 @@ module _ (s : After-pixels_in-used) where
   abbrev t : List Pixel
   t = pattern_in start.args.cells.now start.args.n
 
-  legal : IsPlan start.args.p
-  legal = plan_means start.args.p start.requires.0
+  legal : IsPlan start.args.p.plan
+  legal = plan_means start.args.p.plan start.args.p.is
 
   used-is : s.pixels_in-used.result ≡ length t
   used-is = s.pixels_in-used.ensures ∙ sym (length_pattern_in start.args.cells.now start.args.n)
@@ -61,13 +61,13 @@ module _ (c : After-cell_bank-k) where
   abbrev e : ℕ
   e = head.loop-e.e
 
-  bank-is : c.cell_bank-k.result ≡ bank_of (start head.before).args.p (pixel_in (t head.before) e)
+  bank-is : c.cell_bank-k.result ≡ bank_of (start head.before).args.p.plan (pixel_in (t head.before) e)
   bank-is =
       let next : e + 1 ≡ suc e = omega arith in
       let u = (start head.before).args in
       c.cell_bank-k.ensures.0
-      ∙ ap (λ (i : ℕ). bank_of u.p (cell_pixel (get_or u.cells.now (65 * u.n + i) 0))) next
-      ∙ ap (bank_of u.p) (sym (pixel_in_lem u.cells.now u.n e (omega (arith, head.pixels_in-used.ensures))))
+      ∙ ap (λ (i : ℕ). bank_of u.p.plan (cell_pixel (get_or u.cells.now (65 * u.n + i) 0))) next
+      ∙ ap (bank_of u.p.plan) (sym (pixel_in_lem u.cells.now u.n e (omega (arith, head.pixels_in-used.ensures))))
 
 pub returns-then-r-count : goal.returns-then-r-count
 returns-then-r-count c =
@@ -87,7 +87,7 @@ returns c =
 
 pub overflow_mul-n : goal.overflow_mul-n
 overflow_mul-n c =
-    omega (arith, c.requires.5)
+    omega (arith, c.requires.4)
 
 pub overflow_add-e : goal.overflow_add-e
 overflow_add-e c =
@@ -95,15 +95,15 @@ overflow_add-e c =
 
 pub overflow_add-n : goal.overflow_add-n
 overflow_add-n c =
-    omega (arith, used-most c.before.before.before, c.requires.5)
+    omega (arith, used-most c.before.before.before, c.requires.4)
 
 pub offset_bounds-cells-n : goal.offset_bounds-cells-n
 offset_bounds-cells-n c =
-    omega (arith, used-most c.before.before.before, c.requires.5)
+    omega (arith, used-most c.before.before.before, c.requires.4)
 
 pub bounds-cells-n : goal.bounds-cells-n
 bounds-cells-n c =
-    omega (arith, used-most c.before.before.before.before, c.requires.4, c.requires.5)
+    omega (arith, used-most c.before.before.before.before, c.requires.3, c.requires.4)
 
 pub bounds-counts-k : goal.bounds-counts-k
 bounds-counts-k c =

@@ -7,4 +7,4 @@ use Rattle.finder.proofs.counting.pattern_crowded.Given as goal
 
 abbrev pub invariant-loop-e : goal.invariant-loop-e
 invariant-loop-e l =
-    CountedTo l.p (pattern_in l.cells l.n) l.r l.counts l.e
+    CountedTo l.p.plan (pattern_in l.cells l.n) l.r l.counts l.e
