@@ -56,11 +56,7 @@ fn place_at(p: Plan, w: u32, h: u32, words: usize, i: i16, j: i16) -> usize
     requires { word_test p w h words (at i j) ≡ none }
     ensures { result ≡ word_of p w h (at i j) }
 {
-    let place = word_place(p, w, h, words, i, j);
-    match place {
-        Ok(k) => k as usize,
-        Err(_) => 0,
-    }
+    word_place(p, w, h, words, i, j).unwrap() as usize
 }
 
 // Finds the places of the words of a pattern's pixels, moved to (i, j) and wrapped; those of a plain fetch are inside.

@@ -1,6 +1,6 @@
 -- One record: what its pixel's address and bank tell of it.
 -- Assumes nothing.
-use Rattle.std.specs.Prelude.{Result, Ok, Err}
+use Rattle.std.specs.Prelude.{is_ok, Result, Ok, Err}
 use Prim.Native.Nat.{ℕ, ◌<◌, ◌^◌}
 use native.Mathlib.Omega.{arith}
 use mathlib.Core.Path.{◌≡◌, refl, sym, ◌∙◌, ap}
@@ -28,7 +28,7 @@ use Rattle.lattice.proofs.SameBank.{bank_below_count}
 use Rattle.lattice.proofs.Words.{address_below_depth, depth_at_most}
 use Rattle.checks.proofs.CountedAnswers.{number_shows, refusal_shows}
 use Rattle.checks.proofs.Legal.{fill_test_iff}
-use Rattle.records.specs.Filling.{is_number, is_placeable, placed_if}
+use Rattle.records.specs.Filling.{is_placeable, placed_if}
 
 -- a record's pixel handed to a callee is its pixel
 record_pixel_handed :
@@ -66,12 +66,12 @@ module _ (p : Plan) (W H : ℕ) (r : PixelRecord) where
   -- by what the address's call answered
   module _ {A : Result ℕ Refusal} (told_address : A ≡ address p W H v) where
     pub no_address : {q : Refusal} → A ≡ Err q → is_placeable p W H r ≡ false
-    unfolding is_placeable is_number
-    no_address e = ap is_number (sym told_address ∙ e)
+    unfolding is_placeable
+    no_address e = ap is_ok (sym told_address ∙ e)
 
     pub has_address : {u : ℕ} → A ≡ Ok u → is_placeable p W H r ≡ true
-    unfolding is_placeable is_number
-    has_address e = ap is_number (sym told_address ∙ e)
+    unfolding is_placeable
+    has_address e = ap is_ok (sym told_address ∙ e)
 
     pub kept : {q : Refusal} → A ≡ Err q → r ≡ placed_if p W H r
     unfolding placed_if

@@ -1,6 +1,6 @@
 -- A whole list by its records: one that is not placeable leaves the list as it was, and where all are each is placed.
 -- Assumes nothing.
-use Rattle.std.specs.Prelude.{Ok, Err}
+use Rattle.std.specs.Prelude.{is_ok, Ok, Err}
 use Prim.Native.Nat.{ℕ, ◌<◌}
 use native.Mathlib.Decide.{ℕ_discrete}
 use native.Mathlib.Omega.{arith}
@@ -26,16 +26,16 @@ use Rattle.checks.proofs.Chains.{Gives, chain_none_iff, answered_none, answered_
 use Rattle.checks.proofs.Tests.{all_inside_iff}
 use Rattle.checks.proofs.Deciding.{inside_decides}
 use Rattle.checks.proofs.Legal.{one_inside}
-use Rattle.records.specs.Filling.{is_number, is_placeable, placed_if, fill_answer}
+use Rattle.records.specs.Filling.{is_placeable, placed_if, fill_answer}
 
 -- a call's answer is a number exactly where its tests find nothing
-number_passed : (t : Option Refusal) (n : ℕ) → is_number (answered t Err (Ok n)) ≡ true → t ≡ none
-unfolding answered is_number
+number_passed : (t : Option Refusal) (n : ℕ) → is_ok (answered t Err (Ok n)) ≡ true → t ≡ none
+unfolding answered
 number_passed none n e = refl
 number_passed (some r) n e = absurd (true-not-false (sym e))
 
-passed_number : (t : Option Refusal) (n : ℕ) → t ≡ none → is_number (answered t Err (Ok n)) ≡ true
-unfolding answered is_number
+passed_number : (t : Option Refusal) (n : ℕ) → t ≡ none → is_ok (answered t Err (Ok n)) ≡ true
+unfolding answered
 passed_number none n e = refl
 passed_number (some r) n e = absurd (none_not_some (sym e))
 

@@ -1,6 +1,6 @@
 -- What filling a record list asks of one record, and the answer for the whole list.
 -- Assumes nothing.
-use Rattle.std.specs.Prelude.{ℕ, Bool, true, false, not, [], ◌∷◌, Result, Ok, Err}
+use Rattle.std.specs.Prelude.{ℕ, Bool, true, false, not, [], ◌∷◌, is_ok, Result, Ok, Err}
 use Rattle.scope.specs.Search.{whenever, first_of}
 use Rattle.scope.specs.Numbers.{plan_test, sides_test}
 use Rattle.scope.specs.Calls.{answered, address, record_pixel, placed}
@@ -8,15 +8,10 @@ use Rattle.scope.specs.declared.Plan.{Plan}
 use Rattle.scope.specs.declared.PixelRecord.{PixelRecord}
 use Rattle.scope.specs.declared.Refusal.{Refusal}
 
--- a number, and no refusal
-unfoldable pub is_number : Result ℕ Refusal → Bool
-is_number (Ok n) = true
-is_number (Err r) = false
-
 -- the record's pixel has an address: none of 11, 12, 14 holds of it
 unfoldable pub is_placeable : Plan → ℕ → ℕ → PixelRecord → Bool
-unfolding is_number address record_pixel
-is_placeable p W H r = is_number (address p W H (record_pixel r))
+unfolding address record_pixel
+is_placeable p W H r = is_ok (address p W H (record_pixel r))
 
 -- the record with its bank and address, or as it was
 unfoldable pub placed_if : Plan → ℕ → ℕ → PixelRecord → PixelRecord

@@ -11,10 +11,7 @@ use scope::{PixelRecord, Plan, Refusal};
 fn is_placeable(p: Plan, w: u32, h: u32, r: PixelRecord) -> bool
     ensures { result ≡ is_placeable p w h r }
 {
-    match p.address(w, h, r.column, r.row) {
-        Ok(_) => true,
-        Err(_) => false,
-    }
+    p.address(w, h, r.column, r.row).is_ok()
 }
 
 // The record with its bank and its address, or as it was where it is not placeable.
