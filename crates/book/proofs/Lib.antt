@@ -13,6 +13,7 @@ pub mod Longer  -- bytes with more bytes after them
 pub mod ReaderRefusals  -- number and place for bytes that are not taken
 pub mod Outcomes  -- a test's answer, and that of a loop that runs through tests
 pub mod Window  -- a pixel's cell, and the order of cells
+pub mod RangeTests  -- a test of the numbers of a range
 pub mod PixelTests  -- the tests of a pixel by its cell and those before it
 pub mod PixelLoops  -- a loop over a pattern's pixels
 pub mod Scanning  -- the tests as the code makes them, pattern after pattern

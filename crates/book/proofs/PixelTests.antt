@@ -6,18 +6,14 @@ use native.Mathlib.Nat.{add-sub_cancel}
 use native.Mathlib.Numerals.{add-one}
 use native.Mathlib.Omega.{arith}
 use native.Mathlib.Decide.{ℕ_discrete}
-use mathlib.Core.Path.{◌≡◌, refl, sym, ◌∙◌, ap, ap₂}
+use mathlib.Core.Path.{◌≡◌, refl, sym, ◌∙◌, ap}
 use mathlib.Core.Logic.{◌↔◌}
-use mathlib.Core.Bool.{true, false, ◌||◌}
+use mathlib.Core.Bool.{true, false}
 use mathlib.Core.Option.{none, some}
 use mathlib.Core.List.{List}
 use lib.Dec.{eqb}
-use lib.ListN.{length, get_or, set, take, drop, replicate, length-set, length-replicate, length-drop}
-use Rattle.std.specs.List.{list_any}
-use Rattle.std.proofs.lemmas.List.{get_or-drop}
-use Rattle.std.proofs.lemmas.List.Folds.{list_any_more}
+use lib.ListN.{get_or, set, replicate, length-set, length-replicate}
 use Rattle.integers.proofs.Comparisons.{eqb_iff}
-use Rattle.scope.specs.Search.{some_below}
 use Rattle.scope.specs.Plans.{Pixel}
 use Rattle.scope.specs.Numbers.{pixel_test}
 use Rattle.scope.specs.promises.Meaning.{InRange}
@@ -49,22 +45,6 @@ among_iff least e k = some_below_iff e (λ l. eqb (get_or least (l + 1) 0) k) _ 
 pub not_among : (least : List ℕ) (e k : ℕ) → ((l : ℕ) → l < e → get_or least (l + 1) 0 ≡ k → ⊥) → is_among least e k ≡ false
 not_among least e k h =
     not_true_is_false (is_among least e k) (λ t. let (l, below, is) = (among_iff least e k).0 t in h l below is)
-
--- What the code's search in the entries 1 to e gives.
-among_first :
-    (least : List ℕ) (e k : ℕ) → e < length least → list_any (λ m. eqb m k) (take e (drop 1 least)) ≡ is_among least e k
-unfolding is_among some_below
-among_first least zero k h = refl
-among_first least (suc e) k h =
-    ap (λ n. list_any (λ m. eqb m k) (take n (drop 1 least))) (sym (add-one e))
-    ∙ list_any_more (λ m. eqb m k) (drop 1 least) e 0 (omega (arith, length-drop 1 least))
-    ∙ ap₂ ◌||◌ (among_first least e k (omega arith))
-    (ap (λ m. eqb m k) (get_or-drop 1 least e 0 ∙ ap (λ n. get_or least n 0) (omega arith)))
-
-pub among_entries :
-    (least : List ℕ) (e k : ℕ) → e < length least
-    → list_any (λ m. eqb m k) (take (e + 1 - 1) (drop 1 least)) ≡ is_among least e k
-among_entries least e k h = rw (add-sub_cancel e 1) (among_first least e k h)
 
 -- The next pixel, with its cell k.
 module _ {least : List ℕ} {pixel : ℕ → Pixel} {e k : ℕ} (passed : Passed least pixel e) (is : k ≡ cell_of (pixel e)) where

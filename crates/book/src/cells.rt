@@ -32,7 +32,7 @@ fn is_among(least: &[u16], e: usize, k: u16) -> bool
     requires { e < length least.now }
     ensures { result ≡ is_among least.now e k }
 {
-    least[1..e + 1].contains(&k)
+    (0..e).any(|l| least[l + 1] == k)
 }
 
 // The tests of the pixel (x, y) at position e of its pattern; i and j are the places of its column and its row. `least` has the
