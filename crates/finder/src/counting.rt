@@ -70,12 +70,7 @@ fn book_crowded(p: Tested, lanes: &[u16], bases: &[u16], cells: &[u16], r: u8) -
         plan.d as usize,
         &mut shifts,
     );
-    for n in 0..16 {
-        if pattern_crowded(p, lanes, bases, &shifts, cells, n, r) {
-            return true;
-        }
-    }
-    false
+    (0..16).any(|n| pattern_crowded(p, lanes, bases, &shifts, cells, n, r))
 }
 
 // Of the plans with this a and d and a b below `below` that suit for r the one with least b; the cells are those of a book.
