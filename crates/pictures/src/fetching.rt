@@ -14,7 +14,7 @@ use crate::moving::{all_inside, put_words};
 use crate::places::picture_outcome;
 use book::entry_number;
 use finder::{Suited, book_outcome, suits_answer};
-use scope::{Book, FetchAnswer, Pattern, Plan, Refusal};
+use scope::{Book, FetchAnswer, Pattern, Plan, Refusal, Tested};
 
 // What a fetch of the pattern t, number n of `count`, begins with: what the tests of the book and r and of the picture found, then 17,
 // 10, and beside it the positions of the clash.
@@ -53,10 +53,11 @@ pub(crate) fn start_answer(
 }
 
 // Whether a ring fetch is allowed: a divides w, d divides h, and a divides b × (h/d), which has 32 bits.
-fn is_ring(p: Plan, w: u32, h: u32) -> bool
-    requires { (is_plan p ≡ true) × (h ≤ 4096) }
-    ensures { result ≡ is_ring p w h }
+fn is_ring(tested: Tested, w: u32, h: u32) -> bool
+    requires { h ≤ 4096 }
+    ensures { result ≡ is_ring tested.plan w h }
 {
+    let p = tested.plan;
     if w % p.a != 0 {
         return false;
     }
@@ -67,9 +68,9 @@ fn is_ring(p: Plan, w: u32, h: u32) -> bool
 }
 
 // The edge: 14 for a pattern moved to (i, j), or 18 for a ring fetch.
-fn edge_outcome(ring: bool, t: Pattern, p: Plan, w: u32, h: u32, i: i16, j: i16) -> Result<(), Refusal>
-    requires { (is_plan p ≡ true) × (h ≤ 4096) × (t.used ≤ 64) }
-    ensures { result ≡ outcome_of (edge_test ring p w h (moved t (at i j))) }
+fn edge_outcome(ring: bool, t: Pattern, p: Tested, w: u32, h: u32, i: i16, j: i16) -> Result<(), Refusal>
+    requires { (h ≤ 4096) × (t.used ≤ 64) }
+    ensures { result ≡ outcome_of (edge_test ring p.plan w h (moved t (at i j))) }
 {
     if ring {
         if !is_ring(p, w, h) {
@@ -123,7 +124,7 @@ pub(crate) fn fetch_rest(
     ensures { (result ≡ (fetch_rest (found_by start) ring t p w h mem.now (at i j) out.old).answer) × (out.new ≡ (fetch_rest (found_by start) ring t p w h mem.now (at i j) out.old).content) }
 {
     start?;
-    edge_outcome(ring, t, p, w, h, i, j)?;
+    edge_outcome(ring, t, Tested { plan: p }, w, h, i, j)?;
     deliver(ring, t, p, w, h, mem, i, j, out)
 }
 

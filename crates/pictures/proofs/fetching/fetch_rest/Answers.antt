@@ -20,11 +20,14 @@ returns-in_err-start c =
     let right = rest_turned_down _ _ _ _ _ _ _ _ _ _ (ap found_by c.in_err-start.was) in
     (handed_on _ c.from_residual.ensures ∙ right.0, right.1)
 
+pub invariant_of-edge_outcome : goal.invariant_of-edge_outcome
+invariant_of-edge_outcome c =
+    record { is = (is_plan_iff _).1 ((picture_test_iff _ _ _ _).0 (c.requires (ap found_by c.in_ok-start.was)).0).plan }
+
 pub edge_outcome-requires : goal.edge_outcome-requires
 edge_outcome-requires c =
     let shown = c.requires (ap found_by c.in_ok-start.was) in
-    let here = (picture_test_iff _ _ _ _).0 shown.0 in
-    ((is_plan_iff _).1 here.plan, here.h_side.1, shown.1)
+    (((picture_test_iff _ _ _ _).0 shown.0).h_side.1, shown.1)
 
 pub returns-in_err-edge_outcome : goal.returns-in_err-edge_outcome
 returns-in_err-edge_outcome c =

@@ -10,16 +10,16 @@ use Rattle.pictures.proofs.fetching.is_ring.Reads as reads
 use Rattle.pictures.proofs.fetching.is_ring.Goals as goal
 
 -- what is known at a step of the code
-abbrev Start : Type 0
-Start = lts.Start reads.Pre reads.Post
+abbrev After-p : Type 0
+After-p = lts.After-p reads.Pre reads.Post
 
-plan : (s : Start) → IsPlan s.args.p
-plan s = (is_plan_iff _).0 s.requires.0
+plan : (s : After-p) → IsPlan s.args.tested.plan
+plan s = (is_plan_iff _).0 s.args.tested.is
 
 -- b is below 1024 and h/d at most 4096
-product-most : (s : Start) → s.args.p.b * (s.args.h / s.args.p.d) ≤ 1023 * 4096
+product-most : (s : After-p) → s.args.tested.plan.b * (s.args.h / s.args.tested.plan.d) ≤ 1023 * 4096
 product-most s =
-    mul-le-mul {n₂ = 1023} {m₂ = 4096} (omega (arith, (plan s).b_below, a_at_most _ (plan s))) (omega (arith, div-le_self s.args.h s.args.p.d, s.requires.1))
+    mul-le-mul {n₂ = 1023} {m₂ = 4096} (omega (arith, (plan s).b_below, a_at_most _ (plan s))) (omega (arith, div-le_self s.args.h s.args.tested.plan.d, s.requires))
 
 pub returns-then-w-p-ne0 : goal.returns-then-w-p-ne0
 unfolding is_ring
