@@ -60,6 +60,5 @@ pub fn quotient(z: i32, top: u16) -> i32
 pub fn size(z: i16) -> u64
     ensures { result ≡ nat_abs z }
 {
-    let x = raised16(z);
-    if x < 32768 { 32768 - x } else { x - 32768 }
+    z.unsigned_abs() as u64
 }

@@ -9,10 +9,11 @@ use mathlib.Core.Logic.{◌↔◌}
 use mathlib.Core.Bool.{true, false, ◌&&◌, false≢true}
 use lib.Dec.{ltb}
 use lib.IntN.{ℤ, pos, negsuc, nat_abs, ◌+ℤ◌, pos-ne-negsuc}
-use lib.Signed.{mag}
+use lib.Signed.{mag, ◌≤ℤ◌, ◌<ℤ◌}
 use mir.Syntax.{Width, w16}
 use mir.Val.{SFits, to_z, of_z, hbits}
 use mir.Facts.{to_z-of_z}
+use Rattle.std.proofs.lemmas.Int.{ints}
 use Rattle.integers.proofs.Comparisons.{leb_iff, ltb_iff, and_iff}
 use Rattle.integers.proofs.Raised.{lowered, number_handed}
 use Rattle.scope.specs.Plans.{Pixel, at, is_plan, banks}
@@ -80,6 +81,17 @@ module _ (h n : ℕ) (z : ℤ) (side : ℕ) (raised : pos n ≡ z +ℤ pos h) wh
   pub raised_within : h ≤ n → within z side ≡ ltb (n - h) side
   unfolding within
   raised_within k = ap (λ (y : ℤ). within y side) (lowered h n z raised k)
+
+-- and by two comparisons, the second of the number without its sign
+pub below_zero : (z : ℤ) (n : ℕ) → z <ℤ pos 0 → within z n ≡ false
+unfolding within
+below_zero (pos i) n h = absurd (omega (arith, ints))
+below_zero (negsuc i) n h = refl
+
+pub fits_within : (z : ℤ) (n : ℕ) → pos 0 ≤ℤ z → within z n ≡ ltb (nat_abs z) n
+unfolding within
+fits_within (pos i) n h = refl
+fits_within (negsuc i) n h = absurd (omega (arith, ints))
 
 pub inside_iff : InsideMeans
 unfolding inside

@@ -8,7 +8,7 @@ ghost use Rattle.scope.specs.Numbers.{is_side};
 ghost use Rattle.scope.specs.Calls.{locate};
 
 use crate::{Place, Plan, Refusal};
-use integers::{quotient, raised16, remainder};
+use integers::{quotient, remainder};
 
 // A plan as defined: past 11.
 #[derive(Clone, Copy)]
@@ -36,37 +36,19 @@ pub(crate) struct Spot {
 }
 
 // Whether a picture can have these sides.
+#[tactic(auto, unfolding(crate::specs::Numbers::is_side))]
 pub(crate) fn are_sides(w: u32, h: u32) -> bool
     ensures { result ≡ (is_side w && is_side h) }
 {
-    if w == 0 {
-        return false;
-    }
-    if 4096 < w {
-        return false;
-    }
-    if h == 0 {
-        return false;
-    }
-    h <= 4096
+    1 <= w && w <= 4096 && 1 <= h && h <= 4096
 }
 
 // Whether a picture with these sides has the pixel.
+#[tactic(auto, using(crate::proofs::PlanFacts::fits_within, crate::proofs::PlanFacts::below_zero), unfolding(crate::specs::Banks::inside, crate::specs::Plans::at))]
 pub(crate) fn is_inside(w: u32, h: u32, i: i16, j: i16) -> bool
     ensures { result ≡ inside w h (at i j) }
 {
-    let x = raised16(i);
-    let y = raised16(j);
-    if x < 32768 {
-        return false;
-    }
-    if w as u64 <= x - 32768 {
-        return false;
-    }
-    if y < 32768 {
-        return false;
-    }
-    y - 32768 < h as u64
+    0 <= i && (i as u32) < w && 0 <= j && (j as u32) < h
 }
 
 // n/k rounded down: every division of an address.
