@@ -6,24 +6,14 @@ ghost use Rattle.integers.specs.Division.{floor_mod};
 ghost use Rattle.scope.specs.Plans.{at, determinant_size, upright, falling};
 ghost use Rattle.scope.specs.Calls.{normal};
 
-use integers::{gcd_of, raised16, remainder, size};
+use integers::{gcd_of, remainder, size};
 use scope::{Plan, Refusal};
 
-// The determinant's size. With each coordinate raised by 2^15 the determinant is a difference of two numbers that are not negative.
+// The determinant's size.
 fn determinant_size(x1: i16, x2: i16, y1: i16, y2: i16) -> u64
     ensures { result ≡ determinant_size (at x1 x2) (at y1 y2) }
 {
-    let p = raised16(x1);
-    let q = raised16(x2);
-    let s = raised16(y1);
-    let t = raised16(y2);
-    let more = p * t + 32768 * (q + s);
-    let less = q * s + 32768 * (p + t);
-    if more < less {
-        less - more
-    } else {
-        more - less
-    }
+    (x1 as i64 * y2 as i64 - x2 as i64 * y1 as i64).unsigned_abs()
 }
 
 // The column modulo a of a vector turned so that its row is not negative.
@@ -32,7 +22,7 @@ fn upright_column(a: u64, x1: i16, x2: i16) -> u64
     ensures { result ≡ floor_mod (upright (at x1 x2)).column a }
 {
     let top = (a - 1) as u16;
-    if raised16(x2) < 32768 {
+    if x2 < 0 {
         remainder(-(x1 as i32), top) as u64
     } else {
         remainder(x1 as i32, top) as u64

@@ -13,16 +13,11 @@ use crate::{Place, Plan, Refusal};
 
 impl Plan {
     // Whether it is a plan as defined.
+    #[tactic(auto, unfolding(crate::specs::Plans::is_plan))]
     pub fn is_plan(self) -> bool
         ensures { result ≡ is_plan self }
     {
-        if self.a <= self.b {
-            return false;
-        }
-        if self.d == 0 {
-            return false;
-        }
-        self.banks() <= 1024
+        self.b < self.a && self.d != 0 && self.banks() <= 1024
     }
 
     // Its bank count a × d, of any three numbers.
