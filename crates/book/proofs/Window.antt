@@ -1,7 +1,7 @@
 -- The window of a pattern's pixels, columns and rows from -16 to 15: which cell a pixel has, and that cells ascend as pixels do by
 -- row, then column.
 -- Assumes nothing.
-use Prim.Native.Nat.{ℕ, ◌+◌, ◌-◌, ◌*◌, ◌≤◌, ◌<◌}
+use Prim.Native.Nat.{ℕ, ◌+◌, ◌*◌, ◌≤◌, ◌<◌}
 use native.Mathlib.Omega.{arith}
 use native.Mathlib.Decide.{ℕ_discrete}
 use mathlib.Core.Path.{◌≡◌, refl, sym, ◌∙◌}
@@ -49,30 +49,6 @@ offset_ascends y z r s e =
     let ρ : List ℤ = pos (offset y) ∷ pos (offset z) ∷ y ∷ z ∷ [] in
     lt_by ρ (search reify depth 40)
     (omega (arith, of_eq ρ (offset_is y r) (search reify depth 40), of_eq ρ (offset_is z s) (search reify depth 40)))
-
--- n is z raised by 128: z is a coordinate exactly where n is from 112 to 143, and then n is 112 more than its offset.
-module _ (n : ℕ) (z : ℤ) (e : pos n ≡ z +ℤ pos 128) where
-  pub low_outside : n < 112 → InRange z → ⊥
-  low_outside h r =
-      let ρ : List ℤ = pos n ∷ z ∷ [] in
-      omega (arith, of_eq ρ e (search reify depth 40), of_le ρ r.0 (search reify depth 40))
-
-  pub high_outside : 143 < n → InRange z → ⊥
-  high_outside h r =
-      let ρ : List ℤ = pos n ∷ z ∷ [] in
-      omega (arith, of_eq ρ e (search reify depth 40), of_le ρ r.1 (search reify depth 40))
-
-  pub between_inside : 112 ≤ n → n ≤ 143 → InRange z
-  between_inside h k =
-      let ρ : List ℤ = pos n ∷ z ∷ [] in (
-        le_by ρ (search reify depth 40) (omega (arith, of_eq ρ e (search reify depth 40))),
-        le_by ρ (search reify depth 40) (omega (arith, of_eq ρ e (search reify depth 40))),
-      )
-
-  pub offset_of_raised : InRange z → offset z ≡ n - 112
-  offset_of_raised r =
-      let ρ : List ℤ = pos (offset z) ∷ pos n ∷ z ∷ [] in
-      omega (arith, of_eq ρ (offset_is z r) (search reify depth 40), of_eq ρ e (search reify depth 40))
 
 -- A pixel's cell.
 not_small : (z : ℤ) → (InRange z → ⊥) → small z ≡ false

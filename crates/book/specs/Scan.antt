@@ -1,7 +1,7 @@
 -- What the code goes by: a test's answer, the entry for a pattern's number, and the cells of a pattern's pixels in the window.
 -- The laws in proofs/ lead from them to the definitions of `scope`.
 -- Assumes nothing.
-use Rattle.std.specs.Prelude.{ℕ, suc, ◌+◌, ◌*◌, ◌<◌, ◌≡◌, List, Bool, cond, ltb, eqb, pos, nat_abs, ◌+ℤ◌, length, get_or, Result, Ok, Err, ℤ}
+use Rattle.std.specs.Prelude.{ℕ, suc, ◌+◌, ◌*◌, ◌<◌, ◌≡◌, List, Bool, cond, ltb, eqb, pos, nat_abs, ◌+ℤ◌, length, get_or, Result, Ok, Err}
 use Rattle.std.proofs.Math.Option.{Option}
 use Rattle.scope.specs.Search.{some_below}
 use Rattle.scope.specs.Plans.{Pixel}

@@ -3,28 +3,19 @@ ghost use Rattle.std.specs.Prelude.{◌≡◌, ◌<◌, length};
 ghost use Rattle.scope.specs.Plans.{at};
 ghost use Rattle.book.specs.Scan.{cell_of, is_among, Tested};
 
-use integers::raised8;
 use scope::Refusal;
 
 // A pixel's place in the window, row by row, from 0 to 1023; 1024 where its column is outside, else 1025 where its row is.
 pub fn cell(i: i8, j: i8) -> u16
     ensures { result ≡ cell_of (at i j) }
 {
-    let x = raised8(i) as u16;
-    let y = raised8(j) as u16;
-    if x < 112 {
+    if i < -16 || 15 < i {
         return 1024;
     }
-    if 143 < x {
-        return 1024;
-    }
-    if y < 112 {
+    if j < -16 || 15 < j {
         return 1025;
     }
-    if 143 < y {
-        return 1025;
-    }
-    32 * (y - 112) + (x - 112)
+    32 * (j + 16) as u16 + (i + 16) as u16
 }
 
 // Whether k is one of the entries 1 to e.

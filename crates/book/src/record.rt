@@ -13,7 +13,7 @@ use scope::{Book, Pattern, Refusal};
 pub fn entry_number(n: usize) -> usize
     ensures { result ≡ entry_number n }
 {
-    if n < 16 { n } else { 15 }
+    n.min(15)
 }
 
 // The tests of a pattern's pixels.

@@ -12,11 +12,7 @@ use scope::Refusal;
 pub(crate) fn signed_byte(b: u8) -> i8
     ensures { result ≡ signed b }
 {
-    if b < 128 {
-        b as i8
-    } else {
-        (b as i16 - 256) as i8
-    }
+    b.cast_signed()
 }
 
 // The tests of `count` pixels that begin at place `at`.

@@ -8,14 +8,13 @@ ghost use Rattle.scope.specs.Numbers.{record_test};
 ghost use Rattle.scope.specs.Calls.{write_book};
 
 use crate::record::record_outcome;
-use integers::raised8;
 use scope::{Book, Pattern, Refusal};
 
 // The byte of a number in two's complement.
 fn unsigned_byte(z: i8) -> u8
     ensures { result ≡ unsigned z }
 {
-    ((raised8(z) + 128) % 256) as u8
+    z.cast_unsigned()
 }
 
 // Puts a pattern's bytes at the start of the output.

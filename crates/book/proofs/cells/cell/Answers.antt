@@ -1,79 +1,60 @@
--- `book::cells::cell` meets its contract: a coordinate is from -16 to 15 exactly where the coordinate raised by 128 is from
--- 112 to 143.
+-- `book::cells::cell` meets its contract.
 -- Assumes nothing.
-use Prim.Native.Nat.{ℕ, ◌+◌, ◌-◌, ◌*◌}
+use Prim.Native.Nat.{◌+◌, ◌*◌}
 use native.Mathlib.Omega.{arith}
-use mathlib.Core.Path.{◌≡◌, sym}
-use lib.IntN.{ℤ, pos, ◌+ℤ◌}
-use Rattle.integers.proofs.Raised.{raised_read}
+use mathlib.Core.Path.{◌≡◌, sym, ap₂, ◌∙◌}
+use lib.IntN.{ℤ, pos, nat_abs, ◌+ℤ◌}
+use mir.Syntax.{w8}
+use mir.Val.{SFits, to_z, of_z}
+use Rattle.std.proofs.lemmas.Int.{ints}
 use Rattle.scope.specs.Plans.{at}
 use Rattle.scope.specs.promises.Meaning.{InRange}
 use Rattle.book.specs.Scan.{cell_of}
-use Rattle.book.proofs.Window.{low_outside, high_outside, between_inside, offset_of_raised}
 use Rattle.book.proofs.Window.{cell_beside, cell_above, cell_inside}
-use Rattle.book.proofs.cells.cell.Lts as lts
-use Rattle.book.proofs.cells.cell.Tie as tie
-use Rattle.book.proofs.cells.cell.Reads as reads
+use Rattle.book.proofs.cells.cell.Goals.{then-i-ltminus16-via-then-i-ltminus16, then-i-ltminus16-via-else-i-ltminus16+then-i-gt15}
+use Rattle.book.proofs.cells.cell.Goals.{then-j-ltminus16-via-then-j-ltminus16, then-j-ltminus16-via-else-j-ltminus16+then-j-gt15}
 use Rattle.book.proofs.cells.cell.Goals as goal
 
--- what is known at a step of the code
-abbrev After-raised8-y : Type 0
-After-raised8-y = lts.After-raised82 tie.the-claims reads.Pre reads.Post
+-- a coordinate's distance from -16, as the machine has it
+offset-read : (z : ℤ) → SFits w8 z → InRange z → to_z w8 (of_z w8 (to_z w8 (of_z w8 z) +ℤ pos 16)) ≡ z +ℤ pos 16
+offset-read z f r = omega (arith, ints, f.sfits, r.0, r.1)
 
-abbrev Else-x-gt143 : Type 0
-Else-x-gt143 = lts.Else2 tie.the-claims reads.Pre reads.Post
+column-outside : (i j : ℤ) → (InRange i → ⊥) → 1024 ≡ cell_of (at i j)
+unfolding at
+column-outside i j h = sym (cell_beside (at i j) h)
 
--- where both coordinates are raised, to x and y
-module _ (c : After-raised8-y) where
-  abbrev i : ℤ
-  i = c.args.i
+row-outside : (i j : ℤ) → InRange i → (InRange j → ⊥) → 1025 ≡ cell_of (at i j)
+unfolding at
+row-outside i j a h = sym (cell_above (at i j) a h)
 
-  abbrev j : ℤ
-  j = c.args.j
+both-inside :
+    {m n : ℤ} (i j : ℤ) → m ≡ j +ℤ pos 16 → n ≡ i +ℤ pos 16 → InRange i → InRange j
+    → 32 * nat_abs m + nat_abs n ≡ cell_of (at i j)
+unfolding at
+both-inside i j e f a b = ap₂ (λ (m n : ℤ). 32 * nat_abs m + nat_abs n) e f ∙ sym (cell_inside (at i j) a b)
 
-  abbrev x : ℕ
-  x = c.raised8-x.result
+pub returns-then-i-ltminus16 : goal.returns-then-i-ltminus16
+returns-then-i-ltminus16 c =
+    let a = c.args in
+    column-outside a.i a.j
+    (elim c.then-i-ltminus16.branch [
+      | then-i-ltminus16-via-then-i-ltminus16 w ↦ λ r. omega (arith, ints, w.if-i-ltminus16.true, r.0)
+      | then-i-ltminus16-via-else-i-ltminus16+then-i-gt15 w ↦ λ r. omega (arith, ints, w.if-i-gt15.true, r.1)
+    ])
 
-  abbrev y : ℕ
-  y = c.raised8-y.result
-
-  column : pos x ≡ i +ℤ pos 128
-  column = raised_read 128 c.ranges.i c.raised8-x.ensures.0
-
-  row : pos y ≡ j +ℤ pos 128
-  row = raised_read 128 c.ranges.j c.raised8-y.ensures.0
-
-  column-outside : (InRange i → ⊥) → 1024 ≡ cell_of (at i j)
-  unfolding at
-  column-outside h = sym (cell_beside (at i j) h)
-
-  row-outside : InRange i → (InRange j → ⊥) → 1025 ≡ cell_of (at i j)
-  unfolding at
-  row-outside a h = sym (cell_above (at i j) a h)
-
-  both-inside : InRange i → InRange j → 32 * (y - 112) + (x - 112) ≡ cell_of (at i j)
-  unfolding at
-  both-inside a b =
-      omega (arith, cell_inside (at i j) a b, offset_of_raised x i column a, offset_of_raised y j row b)
-
-pub returns-then-x-lt112 : goal.returns-then-x-lt112
-returns-then-x-lt112 c = column-outside c.before (low_outside _ _ (column c.before) c.if-x-lt112.true)
-
-pub returns-then-x-gt143 : goal.returns-then-x-gt143
-returns-then-x-gt143 c = column-outside c.before.before (high_outside _ _ (column c.before.before) c.if-x-gt143.true)
-
--- past the tests of the column
-column-inside : (k : Else-x-gt143) → InRange (i k.before.before)
-column-inside k = between_inside _ _ (column k.before.before) k.if-x-lt112.false k.if-x-gt143.false
-
-pub returns-then-y-lt112 : goal.returns-then-y-lt112
-returns-then-y-lt112 c =
-    row-outside c.before.before.before (column-inside c.before) (low_outside _ _ (row c.before.before.before) c.if-y-lt112.true)
-
-pub returns-then-y-gt143 : goal.returns-then-y-gt143
-returns-then-y-gt143 c =
-    row-outside c.before.before.before.before (column-inside c.before.before) (high_outside _ _ (row c.before.before.before.before) c.if-y-gt143.true)
+pub returns-then-j-ltminus16 : goal.returns-then-j-ltminus16
+returns-then-j-ltminus16 c =
+    let a = c.args in
+    row-outside a.i a.j (omega (arith, ints), omega (arith, ints))
+    (elim c.then-j-ltminus16.branch [
+      | then-j-ltminus16-via-then-j-ltminus16 w ↦ λ r. omega (arith, ints, w.if-j-ltminus16.true, r.0)
+      | then-j-ltminus16-via-else-j-ltminus16+then-j-gt15 w ↦ λ r. omega (arith, ints, w.if-j-gt15.true, r.1)
+    ])
 
 pub returns : goal.returns
 returns c =
-    both-inside c.before.before.before.before (column-inside c.before.before) (between_inside _ _ (row c.before.before.before.before) c.if-y-lt112.false c.if-y-gt143.false)
+    let a = c.args in
+    let f = c.ranges in
+    let r : InRange a.i = (omega (arith, ints), omega (arith, ints)) in
+    let s : InRange a.j = (omega (arith, ints), omega (arith, ints)) in
+    both-inside a.i a.j (offset-read a.j f.j s) (offset-read a.i f.i r) r s
