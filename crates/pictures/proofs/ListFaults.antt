@@ -2,7 +2,9 @@
 -- Assumes nothing.
 use Rattle.pictures.specs.declared.lists.ListFault.{ListFault}
 use Rattle.std.specs.Prelude.{Ok, Err}
-use Rattle.std.proofs.Common.{◌≡◌, ℕ, zero, suc, ◌+◌, ◌-◌, ◌*◌, ◌/◌, ◌%◌, ◌<◌, ◌≤◌, Bool, true, false, eqb, ltb, leb, List, [], ◌∷◌, length, get_or, drop, sym, refl, ap, ◌∙◌, subst, add-zero, arith, get_or-drop, ltb-false, ltb-true, le-ltb, lt-ltb, eq-eqb, ne_eqb, eqb-true, le-leb, leb-false, leb-true}
+use Rattle.std.proofs.Common.{◌≡◌, ℕ, zero, suc, ◌+◌, ◌-◌, ◌*◌, ◌/◌, ◌%◌, ◌<◌, ◌≤◌, Bool, true, false, eqb, ltb, leb, List, [], ◌∷◌, length, get_or, drop, sym, refl, ap, ◌∙◌, subst, add-zero, arith, get_or-drop, ltb-false, ltb-true, le-ltb, lt-ltb, eq-eqb, ne_eqb, eqb-true, le-leb, leb-false, leb-true, ◌++◌, length-append}
+use lib.ListN.{get_or-append}
+use lib.Seq.{drop-append_seam}
 use mathlib.Core.Option.{Option, none, some}
 use borrow.Author.Tests.{lt-leb, eqb-false}
 use Rattle.pictures.specs.Lists.{room_of, room_at, is_call, is_call_at, list_fault, list_test, listed_by}
@@ -45,6 +47,36 @@ module _ (xs : List ℕ) (k : ℕ) where
   pub room_at_lem : room_at (drop k xs) ≡ room_of (get_or xs k 0) (get_or xs (k + 4) 0)
   unfolding room_at
   room_at_lem = rw (get_or-drop, get_or-drop, add-zero k) refl
+
+-- xs begins with the five numbers of a call
+pub record Begins (xs call others : List ℕ) : Type 0 where
+  pub is : xs ≡ call ++ others
+  pub five : length call ≡ 5
+
+pub begins : (xs call others : List ℕ) → xs ≡ call ++ others → length call ≡ 5 → Begins xs call others
+begins xs call others is five = record { is = is; five = five }
+
+module _ {xs call others : List ℕ} (w : Begins xs call others) where
+  first_at : (i : ℕ) → i < 5 → get_or xs i 0 ≡ get_or call i 0
+  first_at i h = rw w.is (get_or-append call others 0 i (omega (arith, w.five)))
+
+  pub first_is_call : is_call_at xs ≡ is_call (get_or call 0 0) (get_or call 1 0) (get_or call 2 0) (get_or call 3 0)
+  unfolding is_call_at
+  first_is_call = rw (first_at 0 (omega arith), first_at 1 (omega arith), first_at 2 (omega arith), first_at 3 (omega arith)) refl
+
+  pub first_room : room_at xs ≡ room_of (get_or call 0 0) (get_or call 4 0)
+  unfolding room_at
+  first_room = rw (first_at 0 (omega arith), first_at 4 (omega arith)) refl
+
+  -- where they begin at place k of longer ones
+  pub first_in : (numbers : List ℕ) (k : ℕ) → xs ≡ drop k numbers → (i : ℕ) → i < 5 → get_or numbers (k + i) 0 ≡ get_or call i 0
+  first_in numbers k e i h = sym (get_or-drop k numbers i 0) ∙ ap (λ (ys : List ℕ). get_or ys i 0) (sym e) ∙ first_at i h
+
+  pub after_first : drop 5 xs ≡ others
+  after_first = ap (λ (n : ℕ). drop n xs) (sym w.five) ∙ rw w.is (drop-append_seam call others)
+
+  pub first_long : length xs ≡ length others + 5
+  first_long = rw (w.is, length-append) (omega (arith, w.five))
 
 -- n calls from place k on, and of these the first
 module _ (k : ℕ) (xs : List ℕ) (room : ℕ) where

@@ -70,21 +70,17 @@ fn is_call(kind: u64, i: u64, j: u64, n: u64) -> bool
 fn list_fault(numbers: &[u64], outs: usize) -> Result<(), ListFault>
     ensures { result ≡ listed_by (list_fault (length numbers.now / 5) 0 numbers.now outs) }
 {
-    let mut left = numbers.len() / 5;
-    let mut k = 0;
     let mut room = outs;
-    while 0 < left {
-        let kind = numbers[k];
-        if !is_call(kind, numbers[k + 1], numbers[k + 2], numbers[k + 3]) {
-            return Err(ListFault::NotCalls(k as u64));
+    for (n, call) in numbers.chunks_exact(5).enumerate() {
+        let kind = call[0];
+        if !is_call(kind, call[1], call[2], call[3]) {
+            return Err(ListFault::NotCalls((5 * n) as u64));
         }
-        let own = room_of(kind, numbers[k + 4]);
+        let own = room_of(kind, call[4]);
         if (room as u64) < own {
             return Err(ListFault::Short);
         }
         room -= own as usize;
-        k += 5;
-        left -= 1;
     }
     Ok(())
 }

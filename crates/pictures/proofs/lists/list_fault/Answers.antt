@@ -1,93 +1,61 @@
 -- `pictures::lists::list_fault` meets its contract. The loop's invariant: the test of what is left is the test of the list.
 -- Assumes nothing.
-use Rattle.pictures.specs.declared.lists.ListFault.{ListFault}
-use Rattle.std.proofs.Common.{◌≡◌, ℕ, ◌+◌, ◌-◌, ◌<◌, ◌≤◌, true, List, drop, sym, refl, ap, ◌∙◌, arith, drop-drop}
+use Rattle.std.proofs.Common.{◌≡◌, ℕ, ◌+◌, ◌-◌, ◌*◌, ◌/◌, ◌≤◌, true, List, length, get_or, sym, refl, ◌∙◌, arith}
 use mathlib.Core.Option.{Option}
-use borrow.Author.Tests.{not-true, not-false}
-use Rattle.pictures.specs.Lists.{room_at, is_call_at, list_fault}
-use Rattle.pictures.specs.Lists.{Listed}
-use Rattle.pictures.proofs.ListFaults.{listed_fault, listed_made, call_at, room_at_lem, no_calls, first_no_call, first_lacks_room, past_first}
-use Rattle.pictures.proofs.lists.list_fault.Lts as lts
-use Rattle.pictures.proofs.lists.list_fault.Tie as tie
-use Rattle.pictures.proofs.lists.list_fault.Reads as reads
+use Rattle.pictures.specs.Lists.{room_of, room_at, is_call, list_fault}
+use Rattle.pictures.specs.declared.lists.ListFault.{ListFault}
+use Rattle.pictures.proofs.ListFaults.{Begins, begins, listed_fault, listed_made, first_is_call, first_room, after_first, first_long, no_calls, first_no_call, first_lacks_room, past_first}
 use Rattle.pictures.proofs.lists.list_fault.Goals as goal
-
--- what is known at a step of the code
-abbrev After-is_call : Type 0
-After-is_call = lts.After-is_call tie.the-claims reads.Pre reads.Post goal.the-invariant-loop-left goal.the-decreases-loop-left
-
-abbrev After-room_of-own : Type 0
-After-room_of-own = lts.After-room_of tie.the-claims reads.Pre reads.Post goal.the-invariant-loop-left goal.the-decreases-loop-left
-
-abbrev In-loop-left : Type 0
-In-loop-left = lts.In-loop tie.the-claims reads.Pre reads.Post goal.the-invariant-loop-left goal.the-decreases-loop-left
-
--- in a turn, where it is known whether the first of what is left is a call
-module _ (c : After-is_call) where
-  abbrev turn : In-loop-left
-  turn = c.before.before.before.before.before
-
-  abbrev place : ℕ
-  place = turn.loop-left.k
-
-  abbrev numbers : List ℕ
-  numbers = turn.args.numbers.now
-
-  tested : c.is_call.result ≡ is_call_at (drop place numbers)
-  tested = c.is_call.ensures ∙ sym (call_at numbers place)
-
--- and where its room is known too
-module _ (c : After-room_of-own) where
-  abbrev call : After-is_call
-  call = c.before.before.before
-
-  is_call : is_call_at (drop (place call) (numbers call)) ≡ true
-  is_call = sym (tested call) ∙ not-false _ c.if-not-is_call.false-raw
-
-  own_room : c.room_of-own.result ≡ room_at (drop (place call) (numbers call))
-  own_room = c.room_of-own.ensures ∙ sym (room_at_lem (numbers call) (place call))
 
 -- one call more is tested
 one_more :
-    (xs : List ℕ) (left k room own : ℕ) {t : Option ListFault} → 0 < left → is_call_at (drop k xs) ≡ true
-    → own ≡ room_at (drop k xs) → own ≤ room → list_fault left k (drop k xs) room ≡ t
-    → list_fault (left - 1) (k + 5) (drop (k + 5) xs) (room - own) ≡ t
-one_more xs left k room own h e f fits before =
-    ap (λ (ys : List ℕ). list_fault (left - 1) (k + 5) ys (room - own)) (sym (drop-drop 5 k xs))
-    ∙ ap (λ (n : ℕ). list_fault (left - 1) (k + 5) (drop 5 (drop k xs)) (room - n)) f
-    ∙ sym (past_first k (drop k xs) room left h e (omega arith))
-    ∙ before
-
-pub loop-left-init : goal.loop-left-init
-loop-left-init c = (omega arith, refl)
+    {xs call others : List ℕ} (count next room own : ℕ) {t : Option ListFault} → Begins xs call others → next ≡ count + 1
+    → is_call (get_or call 0 0) (get_or call 1 0) (get_or call 2 0) (get_or call 3 0) ≡ true
+    → own ≡ room_of (get_or call 0 0) (get_or call 4 0) → own ≤ room → list_fault (length xs / 5) (5 * count) xs room ≡ t
+    → list_fault (length others / 5) (5 * next) others (room - own) ≡ t
+one_more {xs} {others} count next room own w next-is e own-is fits before =
+    let left : length xs / 5 - 1 ≡ length others / 5 = omega (arith, first_long w) in
+    let place : 5 * count + 5 ≡ 5 * next = omega arith in
+    let room-is : room_at xs ≡ own = first_room w ∙ sym own-is in
+    let past : list_fault (length xs / 5) (5 * count) xs room ≡ list_fault (length others / 5) (5 * next) others (room - own) =
+    past_first (5 * count) xs room (length xs / 5) (omega (arith, first_long w)) (first_is_call w ∙ e) (omega arith)
+    ∙ rw (left, place, after_first w, room-is) refl in
+    sym past ∙ before
 
 pub returns-then-not-is_call : goal.returns-then-not-is_call
 returns-then-not-is_call c =
-    let t = turn c.before.before in
-    let l = t.loop-left in
-    listed_fault
-    (sym l.invariant.1
-    ∙ first_no_call l.k _ l.room l.left t.loop-left-test.true (sym (tested c.before.before) ∙ not-true _ c.if-not-is_call.true-raw))
+    let i = c.loop-n.invariant in
+    let s = c.in-Some.ensures.steps in
+    let w = begins _ _ _ s.0.1.0 (s.0.1.1 ∙ i.five) in
+    let is_none = first_is_call w ∙ sym c.is_call.ensures ∙ c.if-not-is_call.true in
+    rw s.1 (listed_fault (sym i.same ∙ first_no_call _ _ c.loop-n.room _ (omega (arith, first_long w)) is_none))
 
 pub returns-then-room-own : goal.returns-then-room-own
 returns-then-room-own c =
-    let t = turn (call c.before.before) in
-    let l = t.loop-left in
+    let i = c.loop-n.invariant in
+    let s = c.in-Some.ensures.steps in
+    let w = begins _ _ _ s.0.1.0 (s.0.1.1 ∙ i.five) in
+    let is_one = first_is_call w ∙ sym c.is_call.ensures ∙ c.if-not-is_call.false in
     listed_fault
-    (sym l.invariant.1
-    ∙ first_lacks_room l.k _ l.room l.left t.loop-left-test.true (is_call c.before.before)
-    (omega (arith, own_room c.before.before, c.if-room-own.true)))
+    (sym i.same
+    ∙ first_lacks_room _ _ c.loop-n.room _ (omega (arith, first_long w)) is_one
+    (omega (arith, first_room w, c.room_of-own.ensures, c.if-room-own.true)))
 
-pub loop-left-preserved : goal.loop-left-preserved
-loop-left-preserved c =
-    let t = turn (call c.before.before) in
-    let l = t.loop-left in (
-      omega (arith, l.invariant.0, t.loop-left-test.true),
-      one_more _ l.left l.k l.room _ t.loop-left-test.true (is_call c.before.before) (own_room c.before.before) c.if-room-own.false
-          l.invariant.1,
-    )
+pub loop-n-preserved : goal.loop-n-preserved
+loop-n-preserved c =
+    let i = c.loop-n.invariant in
+    let s = c.in-Some.ensures.steps in
+    let w = begins _ _ _ s.0.1.0 (s.0.1.1 ∙ i.five) in
+    record {
+      five = s.0.0 ∙ i.five;
+      whole = omega (arith, first_long w, i.whole, s.2);
+      same =
+          one_more _ _ c.loop-n.room _ w s.2 (sym c.is_call.ensures ∙ c.if-not-is_call.false) c.room_of-own.ensures
+          c.if-room-own.false i.same;
+    }
 
 pub returns : goal.returns
 returns c =
-    let l = c.loop-left in
-    listed_made (sym l.invariant.1 ∙ no_calls l.k _ l.room l.left (omega (arith, c.loop-left-test.false)))
+    let i = c.loop-n.invariant in
+    let s = c.in-None.ensures.steps in
+    listed_made (sym i.same ∙ no_calls _ _ c.loop-n.room _ (omega (arith, s.0.1.0, i.five)))
