@@ -19,7 +19,7 @@ use Rattle.scope.specs.declared.Plan.{Plan}
 use Rattle.finder.specs.declared.clash.Suited.{Suited}
 use Rattle.pictures.proofs.Starts.{starts_alike}
 use Rattle.pictures.proofs.ReplyRows.{length_reply, row_long}
-use Rattle.pictures.proofs.ListFaults.{room_at_lem, fault_goes_on}
+use Rattle.pictures.proofs.ListFaults.{room_at_lem, fault_goes_on, Begins, first_long, first_in, after_first}
 use Rattle.pictures.proofs.Stretches.{over_from, nothing_put, put_after, after_stretch, stretch_length}
 use Rattle.pictures.proofs.MadeCalls.{output_own}
 
@@ -232,6 +232,63 @@ module _ (g : Setting) (numbers : List ℕ) (l₀ : Lent) (outs₀ rows₀ : Lis
             ∙ append-nil (row ++ drop 12 (drop q rows)) in
             rw (part_is, own_room, tail_row)
             (going_turn own_made mem_long sums_long (end-long ∙ ap (λ (n : ℕ). length (take n (drop at outs))) part_is ∙ old_long))
+
+-- The same by the iterator over the calls: `count` calls were made, and the numbers `rest` are left.
+pub record Turns
+    (g : Setting) (numbers : List ℕ) (l₀ : Lent) (outs₀ rows₀ : List ℕ) (count : ℕ) (rest : List ℕ) (at : ℕ) (l : Lent) (outs rows : List ℕ) : Type 0
+  where
+    pub rest_is : rest ≡ drop (5 * count) numbers
+    pub going : Going g numbers l₀ outs₀ rows₀ (length rest / 5) (5 * count) (12 * count) at l outs rows
+
+module _ (g : Setting) (numbers : List ℕ) (l₀ : Lent) (outs₀ rows₀ : List ℕ) where
+  pub turns_start :
+      (count : ℕ) (rest : List ℕ) → count ≡ 0 → rest ≡ numbers → list_fault (length numbers / 5) 0 numbers (length outs₀) ≡ none
+      → 12 * (length numbers / 5) ≤ length rows₀ → Turns g numbers l₀ outs₀ rows₀ count rest 0 l₀ outs₀ rows₀
+  turns_start count rest e f no_fault fits =
+      rw (e, f) record { rest_is = refl; going = going_start g numbers l₀ outs₀ rows₀ no_fault fits }
+
+  module _ {count at : ℕ} {rest : List ℕ} {l : Lent} {outs rows : List ℕ} (w : Turns g numbers l₀ outs₀ rows₀ count rest at l outs rows) where
+    pub turns_end : length rest < 5 → buffers l.memory l.sums outs rows ≡ made_list g numbers (buffers l₀.memory l₀.sums outs₀ rows₀)
+    turns_end short = going_end g numbers l₀ outs₀ rows₀ w.going (omega arith)
+
+    module _ {call others : List ℕ} (b : Begins rest call others) where
+      pub turn_left : 0 < length rest / 5
+      turn_left = omega (arith, first_long b)
+
+      number : (i : ℕ) → i < 5 → get_or numbers (5 * count + i) 0 ≡ get_or call i 0
+      number = first_in b numbers (5 * count) w.rest_is
+
+      first-number : get_or numbers (5 * count) 0 ≡ get_or call 0 0
+      first-number = ap (λ (k : ℕ). get_or numbers k 0) (sym (add-zero (5 * count))) ∙ number 0 (omega arith)
+
+      module _ {own : ℕ} (own_is : own ≡ room_of (get_or call 0 0) (get_or call 4 0)) where
+        own_in : own ≡ room_of (get_or numbers (5 * count) 0) (get_or numbers (5 * count + 4) 0)
+        own_in = rw (first-number, number 4 (omega arith)) own_is
+
+        -- the output of the call ends inside
+        pub turn_room : at + own ≤ length outs
+        turn_room = omega (arith, own_in, room_at_lem numbers (5 * count), room_end g numbers l₀ outs₀ rows₀ w.going turn_left)
+
+        pub turns_on :
+            {next : ℕ} {row end tail : List ℕ} {after : Lent} → next ≡ count + 1 → length after.memory ≡ length l.memory
+            → length after.sums ≡ length l.sums
+            → (let part : List ℕ = take (at + own - at) (drop at outs) in
+            OneMade g l (call_of (get_or call 0 0) (get_or call 1 0) (get_or call 2 0) (get_or call 3 0) part) part row after end)
+            → length end ≡ length (take (at + own - at) (drop at outs))
+            → tail ≡ over_start row (take (length rows - 12 * count) (drop (12 * count) rows))
+            → Turns g numbers l₀ outs₀ rows₀ next others (at + own) after (take at outs ++ (end ++ drop (at + own - at) (drop at outs)))
+            (take (12 * count) rows ++ (tail ++ drop (length rows - 12 * count) (drop (12 * count) rows)))
+        turns_on {next} next_is mem_long sums_long made end-long tail-is =
+            let place : 5 * next ≡ 5 * count + 5 = omega arith in
+            let reply : 12 * next ≡ 12 * count + 12 = omega arith in
+            let left : length others / 5 ≡ length rest / 5 - 1 = omega (arith, first_long b) in
+            record {
+              rest_is = sym (after_first b) ∙ rw (w.rest_is, place) (drop-drop 5 (5 * count) numbers);
+              going =
+                  rw (left, place, reply)
+                  (going_on g numbers l₀ outs₀ rows₀ w.going turn_left own_in mem_long sums_long
+                  (rw (first-number, number 1 (omega arith), number 2 (omega arith), number 3 (omega arith)) made) end-long tail-is);
+            }
 
 -- What was found out once holds on a memory of the same length, and tells what a fetch of any pattern number begins with.
 module _ (book : Book) (r : ℕ) (p : Plan) (W H : ℕ) {words memory : ℕ} (n : ℕ) (starts : List Suited) where

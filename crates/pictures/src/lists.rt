@@ -196,18 +196,15 @@ fn make_calls(
     requires { Begun book r p w h (length mem.old) starts × (list_fault (length numbers.now / 5) 0 numbers.now (length outs.old) ≡ none) × (12 * (length numbers.now / 5) ≤ length rows.old) }
     ensures { buffers mem.new sums.new outs.new rows.new ≡ made_list (setting book r p w h) numbers.now (buffers mem.old sums.old outs.old rows.old) }
 {
-    let mut left = numbers.len() / 5;
-    let mut k = 0;
-    let mut q = 0;
     let mut at = 0;
-    while 0 < left {
-        let kind = numbers[k];
-        let n = numbers[k + 3];
+    for (c, call) in numbers.chunks_exact(5).enumerate() {
+        let kind = call[0];
+        let n = call[3];
         let s = start_number(n);
         let start = starts[s];
         let e = entry_number(n as usize);
         let t = book.patterns[e];
-        let end = at + room_of(kind, numbers[k + 4]) as usize;
+        let end = at + room_of(kind, call[4]) as usize;
         let row = make_call(
             start,
             t,
@@ -218,16 +215,13 @@ fn make_calls(
             mem,
             sums,
             kind,
-            numbers[k + 1],
-            numbers[k + 2],
+            call[1],
+            call[2],
             n,
             &mut outs[at..end],
         );
-        put_row(row, &mut rows[q..]);
+        put_row(row, &mut rows[12 * c..]);
         at = end;
-        k += 5;
-        q += 12;
-        left -= 1;
     }
 }
 
