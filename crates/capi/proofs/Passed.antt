@@ -1,13 +1,13 @@
 -- How an answer is told: as the value or the refusal that it is, and as the answer that it equals.
 -- Assumes nothing.
 use Rattle.pictures.specs.declared.lists.ListFault.{ListFault}
-use Rattle.std.specs.Prelude.{Result, Ok, Err}
+use Rattle.std.specs.Prelude.{ℤ, Result, Ok, Err}
 use Prim.Native.Nat.{ℕ}
 use native.Mathlib.Omega.{arith}
 use mathlib.Core.Path.{◌≡◌, refl, sym, ◌∙◌, ap, ap₂, subst}
 use mathlib.Core.Option.{Option, none, some}
 use mathlib.Core.List.{List, ◌∷◌}
-use Rattle.scope.specs.Numbers.{Answer, value, refusal, number_of, place_of, clash_of, turned_down, with_positions}
+use Rattle.scope.specs.Numbers.{Answer, value, refusal, number_of, place_of, clash_of, turned_down, of_result, of_located, with_positions}
 use Rattle.scope.specs.Calls.{After}
 use Rattle.scope.specs.Plans.{Pixel}
 use Rattle.scope.specs.declared.Book.{Book}
@@ -19,7 +19,7 @@ use Rattle.scope.specs.declared.Verdict.{Verdict}
 use Rattle.scope.specs.declared.CheckAnswer.{CheckAnswer}
 use Rattle.scope.specs.declared.FetchAnswer.{FetchAnswer}
 use Rattle.checks.proofs.Chains.{Gives}
-use Rattle.capi.specs.Told.{Tells, number_told, row_in, plan_row, no_row, put_from, placed_at, of_listed, of_found_run}
+use Rattle.capi.specs.Told.{Tells, number_told, row_in, plan_row, pixel_row, pair_row, no_row, put_from, placed_at, of_listed, of_found_run}
 use Rattle.claims.specs.Demanded.{FoundRun}
 use Rattle.claims.specs.Demanded.{find_and_run, Demanded}
 use Rattle.scope.specs.promises.Demand.{Setting}
@@ -58,10 +58,10 @@ listed_told g numbers b {left} (answer, (same, kept)) told =
 
 -- What an enum tells: a value, and a refusal.
 pub told_value :
-    {A : Type 0} {row : A → List ℕ} {x : Answer A} {v : A} {before after : List ℕ} → x ≡ value v
-    → after ≡ put_from 0 (row v) before → Tells row x before after 0
-told_value {row} {before} e put =
-    record { number = sym (ap number_told e); row_put = put ∙ sym (ap (λ a. put_from 0 (row_in row a) before) e) }
+    {A : Type 0} {row : A → List ℕ} {x : Answer A} {v : A} {before after : List ℕ} {n : ℕ} → x ≡ value v
+    → (n ≡ 0) × (after ≡ put_from 0 (row v) before) → Tells row x before after n
+told_value {row} {before} e (zero, put) =
+    record { number = zero ∙ sym (ap number_told e); row_put = put ∙ sym (ap (λ a. put_from 0 (row_in row a) before) e) }
 
 pub told_refusal :
     {A : Type 0} {row : A → List ℕ} {x : Answer A} {m place : ℕ} {clash : Option LongClash} {before after : List ℕ} {n : ℕ}
@@ -71,6 +71,13 @@ told_refusal {row} {before} e (number, put) =
       number = number ∙ sym (ap number_told e);
       row_put = put ∙ sym (ap (λ a. put_from 0 (row_in row a) before) e);
     }
+
+-- a pixel told by its two numbers
+pub located_told :
+    (l : Result (ℤ × ℤ) Refusal) {before after : List ℕ} {n : ℕ}
+    → Tells pair_row (of_result l) before after n → Tells pixel_row (of_located l) before after n
+located_told (Ok v) told = record { number = told.number; row_put = told.row_put }
+located_told (Err f) told = record { number = told.number; row_put = told.row_put }
 
 -- Two answers are one if what they say and the positions beside it are.
 pub same_check : {a b : CheckAnswer} → a.verdict ≡ b.verdict → a.positions ≡ b.positions → a ≡ b

@@ -3,15 +3,9 @@
 use Prim.Native.Nat.{ℕ, suc, ◌+◌, ◌≤◌, ◌<◌}
 use native.Mathlib.Omega.{arith}
 use mathlib.Core.Path.{◌≡◌, refl, sym, ◌∙◌, ap}
-use mathlib.Core.Bool.{true, false}
 use mathlib.Core.List.{List, [], ◌∷◌, ◌++◌}
 use lib.ListN.{length, get_or, take, set, length-set}
 use lib.Seq.{take-suc, take_all, length-take-le}
-use Rattle.scope.specs.Plans.{Pixel}
-use Rattle.scope.specs.Calls.{fetch, ring_fetch}
-use Rattle.scope.specs.declared.Book.{Book}
-use Rattle.scope.specs.declared.Plan.{Plan}
-use Rattle.finder.proofs.OwnClashes.{fetch_nine}
 use Rattle.capi.specs.Told.{put_from}
 
 put_one_more : (k : ℕ) (xs : List ℕ) (x : ℕ) (out : List ℕ) → put_from k (xs ++ (x ∷ [])) out ≡ set (put_from k xs out) (k + length xs) x
@@ -59,13 +53,3 @@ module _ {positions before : List ℕ} where
       p.is
       ∙ ap (λ (xs : List ℕ). put_from 2 xs before)
       (take_all e positions (omega (arith, size, is)) ∙ sym (take_all (suc r) positions (omega (arith, size, many))))
-
--- The positions beside both fetches are nine.
-module _ (book : Book) (r : ℕ) (p : Plan) (W H : ℕ) (mem : List ℕ) (n : ℕ) (o : Pixel) (out : List ℕ) where
-  pub plain_nine : length (fetch book r p W H mem n o out).answer.positions ≡ 9
-  unfolding fetch
-  plain_nine = fetch_nine false book r p W H mem n o out
-
-  pub ring_nine : length (ring_fetch book r p W H mem n o out).answer.positions ≡ 9
-  unfolding ring_fetch
-  ring_nine = fetch_nine true book r p W H mem n o out

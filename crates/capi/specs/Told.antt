@@ -2,7 +2,7 @@
 -- of a lent array of twelve.
 -- Assumes nothing.
 use Rattle.pictures.specs.declared.lists.ListFault.{ListFault}
-use Rattle.std.specs.Prelude.{ℕ, suc, ◌≡◌, List, [], ◌∷◌, ◌++◌, nat_abs, set, Ok, Err}
+use Rattle.std.specs.Prelude.{ℕ, suc, ◌≡◌, List, [], ◌∷◌, ◌++◌, ℤ, nat_abs, set, Ok, Err}
 use Rattle.std.proofs.Math.Option.{Option, none, some}
 use Rattle.scope.specs.Plans.{Pixel}
 use Rattle.scope.specs.Cycles.{LongClash}
@@ -38,6 +38,10 @@ pixel_row v = nat_abs v.column ∷ nat_abs v.row ∷ []
 
 abbrev pub no_row : {A : Type 0} → A → List ℕ
 no_row x = []
+
+-- a pixel as the code has it, its column and its row
+abbrev pub pair_row : ℤ × ℤ → List ℕ
+pair_row v = nat_abs v.0 ∷ nat_abs v.1 ∷ []
 
 -- xs from place k on, the rest unchanged
 abbrev pub put_from : ℕ → List ℕ → List ℕ → List ℕ

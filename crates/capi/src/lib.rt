@@ -17,7 +17,7 @@ ghost use Rattle.capi.specs.Told.{Tells, plan_row, number_row, pixel_row, checke
 ghost use Rattle.capi.specs.Flat.{flat_book, flat_columns, flat_rows, flat_used, of_reading, count_row, when_read};
 
 use crate::flat::{book_of, plan_of, put_pixels, put_used};
-use crate::told::{tell_check, tell_counted, tell_fetch, tell_located, tell_outcome, tell_planned, tell_refusal};
+use crate::told::{tell, tell_check, tell_fetch, tell_refusal};
 use book::{part_outcome, part_place, pattern_part, read_book, record_outcome, write_book};
 use finder::{check, find, write_cycles};
 use lattice::normal_form;
@@ -33,7 +33,7 @@ pub extern "C" fn bankplan_normal_form(
 ) -> u64
     ensures { Tells plan_row (of_result (normal (at x1 x2) (at y1 y2))) answer.old answer.new result }
 {
-    tell_planned(normal_form(x1, x2, y1, y2), answer)
+    tell(normal_form(x1, x2, y1, y2), answer)
 }
 
 // The bank of the pixel (i, j).
@@ -48,7 +48,7 @@ pub extern "C" fn bankplan_bank(
 ) -> u64
     ensures { Tells number_row (of_result (bank (plan a b d) (at i j))) answer.old answer.new result }
 {
-    tell_counted(plan_of(a, b, d).bank(i, j), answer)
+    tell(plan_of(a, b, d).bank(i, j), answer)
 }
 
 // The depth for a picture of width w and height h.
@@ -63,7 +63,7 @@ pub extern "C" fn bankplan_depth(
 ) -> u64
     ensures { Tells number_row (of_result (depth (plan a b d) w h)) answer.old answer.new result }
 {
-    tell_counted(plan_of(a, b, d).depth(w, h), answer)
+    tell(plan_of(a, b, d).depth(w, h), answer)
 }
 
 // The address of the pixel (i, j).
@@ -80,7 +80,7 @@ pub extern "C" fn bankplan_address(
 ) -> u64
     ensures { Tells number_row (of_result (address (plan a b d) w h (at i j))) answer.old answer.new result }
 {
-    tell_counted(plan_of(a, b, d).address(w, h, i, j), answer)
+    tell(plan_of(a, b, d).address(w, h, i, j), answer)
 }
 
 // The column and row of the pixel of bank k and address i.
@@ -97,7 +97,7 @@ pub extern "C" fn bankplan_locate(
 ) -> u64
     ensures { Tells pixel_row (of_located (locate (plan a b d) w h k i)) answer.old answer.new result }
 {
-    tell_located(plan_of(a, b, d).locate(w, h, k, i), answer)
+    tell(plan_of(a, b, d).locate(w, h, k, i), answer)
 }
 
 // Reads a book's bytes into a record's flat arrays, and tells the pattern count.
@@ -156,7 +156,7 @@ pub extern "C" fn bankplan_write_book(
     ensures out { out.new ≡ (write_book (flat_book columns.now rows.now used.now count) out.old).content }
 {
     let record = book_of(columns, rows, used, count);
-    tell_counted(write_book(record, out), answer)
+    tell(write_book(record, out), answer)
 }
 
 // Whether a record given as flat arrays is a book.
@@ -170,7 +170,7 @@ pub extern "C" fn bankplan_test_record(
 ) -> u64
     ensures { Tells no_row (of_result (record_outcome (flat_book columns.now rows.now used.now count))) answer.old answer.new result }
 {
-    tell_outcome(record_outcome(book_of(columns, rows, used, count)), answer)
+    tell(record_outcome(book_of(columns, rows, used, count)), answer)
 }
 
 // The plan for r with the fewest banks within the limit for a record given as flat arrays: a, b, d.
@@ -186,7 +186,7 @@ pub extern "C" fn bankplan_find(
 ) -> u64
     ensures { Tells plan_row (of_result (find (flat_book columns.now rows.now used.now count) r limit)) answer.old answer.new result }
 {
-    tell_planned(find(book_of(columns, rows, used, count), r, limit), answer)
+    tell(find(book_of(columns, rows, used, count), r, limit), answer)
 }
 
 // The verdict for r on (x1, x2) and (y1, y2) for a record given as flat arrays: a, b, d and the surplus, or a refusal; a clash is 10.

@@ -6,7 +6,7 @@ ghost use Rattle.scope.specs.Calls.{fill_records};
 ghost use Rattle.capi.specs.Told.{Tells, no_row};
 
 use crate::flat::plan_of;
-use crate::told::tell_outcome;
+use crate::told::tell;
 use records::fill_records;
 use scope::PixelRecord;
 
@@ -23,5 +23,5 @@ pub extern "C" fn bankplan_fill_records(
 ) -> u64
     ensures { Tells no_row (of_result (fill_records (plan a b d) w h list.old).answer) answer.old answer.new result × (list.new ≡ (fill_records (plan a b d) w h list.old).content) }
 {
-    tell_outcome(fill_records(plan_of(a, b, d), w, h, list), answer)
+    tell(fill_records(plan_of(a, b, d), w, h, list), answer)
 }

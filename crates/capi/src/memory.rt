@@ -7,7 +7,7 @@ ghost use Rattle.capi.specs.Told.{Tells, number_row, no_row};
 ghost use Rattle.capi.specs.Flat.{flat_book};
 
 use crate::flat::{book_of, plan_of};
-use crate::told::{tell_counted, tell_fetch, tell_loaded, tell_outcome};
+use crate::told::{tell, tell_fetch};
 use pictures::{clear, fetch, load, make_sums, read_sum, ring_fetch, store, sum};
 
 // Stores x at the pixel (i, j) and keeps its bank's sum.
@@ -28,7 +28,7 @@ pub extern "C" fn bankplan_store(
     ensures told { Tells no_row (of_result (store (plan a b d) w h (lent mem.old sums.old) (at i j) x).answer) answer.old answer.new result }
     ensures left { lent mem.new sums.new ≡ (store (plan a b d) w h (lent mem.old sums.old) (at i j) x).content }
 {
-    tell_outcome(store(plan_of(a, b, d), w, h, mem, sums, i, j, x), answer)
+    tell(store(plan_of(a, b, d), w, h, mem, sums, i, j, x), answer)
 }
 
 // The word at the pixel (i, j).
@@ -46,7 +46,7 @@ pub extern "C" fn bankplan_load(
 ) -> u64
     ensures { Tells number_row (of_result (load (plan a b d) w h mem.now (at i j))) answer.old answer.new result }
 {
-    tell_loaded(load(plan_of(a, b, d), w, h, mem, i, j), answer)
+    tell(load(plan_of(a, b, d), w, h, mem, i, j), answer)
 }
 
 // Clears bank k and its sum.
@@ -65,7 +65,7 @@ pub extern "C" fn bankplan_clear(
     ensures told { Tells no_row (of_result (clear (plan a b d) w h (lent mem.old sums.old) k).answer) answer.old answer.new result }
     ensures left { lent mem.new sums.new ≡ (clear (plan a b d) w h (lent mem.old sums.old) k).content }
 {
-    tell_outcome(clear(plan_of(a, b, d), w, h, mem, sums, k), answer)
+    tell(clear(plan_of(a, b, d), w, h, mem, sums, k), answer)
 }
 
 // The sum of bank k's words.
@@ -82,7 +82,7 @@ pub extern "C" fn bankplan_sum(
 ) -> u64
     ensures { Tells number_row (of_result (sum (plan a b d) w h mem.now k)) answer.old answer.new result }
 {
-    tell_counted(sum(plan_of(a, b, d), w, h, mem, k), answer)
+    tell(sum(plan_of(a, b, d), w, h, mem, k), answer)
 }
 
 // Makes the sums of all banks afresh from the memory.
@@ -100,7 +100,7 @@ pub extern "C" fn bankplan_make_sums(
     ensures told { Tells no_row (of_result (make_sums (plan a b d) w h (lent mem.now sums.old)).answer) answer.old answer.new result }
     ensures left { lent mem.now sums.new ≡ (make_sums (plan a b d) w h (lent mem.now sums.old)).content }
 {
-    tell_outcome(make_sums(plan_of(a, b, d), w, h, mem, sums), answer)
+    tell(make_sums(plan_of(a, b, d), w, h, mem, sums), answer)
 }
 
 // The sum that is kept of bank k.
@@ -115,7 +115,7 @@ pub extern "C" fn bankplan_read_sum(
 ) -> u64
     ensures { Tells number_row (of_result (read_sum (plan a b d) sums.now k)) answer.old answer.new result }
 {
-    tell_counted(read_sum(plan_of(a, b, d), sums, k), answer)
+    tell(read_sum(plan_of(a, b, d), sums, k), answer)
 }
 
 // Fetches pattern n of a record given as flat arrays, moved to (i, j), and tells how many words.

@@ -1,6 +1,6 @@
 -- A reply's twelve numbers: how the code makes them, that they are twelve, and that they tell the answer.
 -- Assumes nothing.
-use Rattle.std.specs.Prelude.{Result, Ok, Err}
+use Rattle.std.specs.Prelude.{Option as Optional, Some, None, Result, Ok, Err}
 use Rattle.std.proofs.Common.{◌≡◌, ℕ, suc, ◌≤◌, Bool, true, false, cond, eqb, List, [], ◌∷◌, length, get_or, take, drop, replicate, sym, refl, ap, ◌∙◌, arith, length-take, ne_eqb}
 use mathlib.Core.Option.{Option, none, some}
 use lib.Seq.{take-append_seam}
@@ -8,7 +8,7 @@ use Rattle.scope.specs.Cycles.{LongClash, lengthened}
 use Rattle.scope.specs.Numbers.{Answer, value, refusal, row_of, place_of, turned_down, with_positions, of_result, of_fetch}
 use Rattle.scope.specs.Calls as Calls
 use Rattle.scope.specs.Calls.{Lent, beside_clash, either_fetch}
-use Rattle.scope.specs.code.RefusalRows.{clash_if}
+use Rattle.scope.specs.code.RefusalRows.{row_clash}
 use Rattle.scope.specs.promises.Demand.{Call, write, read, load, fetch, sum, read_sum, Setting, read_reply, reply, write_result}
 use Rattle.scope.specs.declared.Clash.{Clash}
 use Rattle.scope.specs.declared.Refusal.{Refusal}
@@ -21,6 +21,10 @@ use Rattle.pictures.proofs.Positions.{told, told_most}
 -- a clash with these positions
 abbrev pub clash_at : Clash → List ℕ → LongClash
 clash_at k es = record { pattern = k.pattern; positions = es }
+
+-- c where the number is 10
+abbrev clash_if : ℕ → Clash → Option LongClash
+clash_if n c = cond (eqb n 10) (some (lengthened c)) none
 
 -- A refusal of number n at place i, which has a clash where n is 10.
 abbrev refused : {A : Type 0} → ℕ → ℕ → LongClash → Answer A
@@ -40,24 +44,30 @@ module _ {A : Type 0} {s : ℕ × ℕ × Option LongClash} {n i : ℕ} (k : Clas
       by_number true = refl
       by_number false = refl
 
--- Its numbers, whose clash the code has put or not.
-numbers_put :
-    {A : Type 0} (values : A → List ℕ) {n i : ℕ} (c : LongClash) {a : Answer A} {b : Bool} → a ≡ refused n i c → eqb n 10 ≡ b
-    → twelve (n ∷ i ∷ clash_numbers (cond b (some c) none)) ≡ twelve (answer_numbers values a)
-unfolding answer_numbers
-numbers_put values c e q = rw (← q) (sym (ap (λ t. twelve (answer_numbers values t)) e))
+-- The numbers that the code puts, by the clash of the refusal's row: with its positions, or with these.
+abbrev placed : List ℕ → Option LongClash → Option LongClash
+placed es none = none
+placed es (some c) = some (record { pattern = c.pattern; positions = es })
 
-module _ {A : Type 0} {s : ℕ × ℕ × Option LongClash} {n i : ℕ} (k : Clash) {b : Bool} (values : A → List ℕ) where
-  pub refusal_numbers :
-      s ≡ (n, i, clash_if n k) → eqb n 10 ≡ b
-      → twelve (n ∷ i ∷ clash_numbers (cond b (some (lengthened k)) none)) ≡ twelve (answer_numbers values (refusal s.0 s.1 s.2))
-  refusal_numbers row = numbers_put values (lengthened k) (row_refused k row)
+module _ {s : ℕ × ℕ × Option LongClash} {n i : ℕ} {o k : Optional Clash} (row : s ≡ (n, i, row_clash o)) (is : o ≡ k) where
+  pub refusal_numbers : twelve (n ∷ i ∷ clash_numbers (row_clash k)) ≡ twelve (s.0 ∷ s.1 ∷ clash_numbers s.2)
+  refusal_numbers = rw (← is) (sym (ap (λ t. twelve (t.0 ∷ t.1 ∷ clash_numbers t.2)) row))
 
   pub clash_numbers_lem :
-      (es : List ℕ) → s ≡ (n, i, clash_if n k) → eqb n 10 ≡ b
-      → twelve (n ∷ i ∷ clash_numbers (cond b (some (clash_at k es)) none))
+      {A : Type 0} (values : A → List ℕ) (es : List ℕ)
+      → twelve (n ∷ i ∷ clash_numbers (placed es (row_clash k)))
       ≡ twelve (answer_numbers values (with_positions es (refusal s.0 s.1 s.2)))
-  clash_numbers_lem es row = numbers_put values (clash_at k es) (row_refused_with k row es)
+  unfolding answer_numbers
+  clash_numbers_lem values es =
+      by_clash k
+      ∙ ap (λ o. twelve (answer_numbers values (with_positions es (refusal n i (row_clash o))))) (sym is)
+      ∙ sym (ap (λ t. twelve (answer_numbers values (with_positions es (refusal t.0 t.1 t.2)))) row)
+    where
+      by_clash :
+          (o : Optional Clash)
+          → twelve (n ∷ i ∷ clash_numbers (placed es (row_clash o))) ≡ twelve (answer_numbers values (with_positions es (refusal n i (row_clash o))))
+      by_clash None = refl
+      by_clash (Some c) = refl
 
 -- the numbers of the answer that it equals
 pub same_row :

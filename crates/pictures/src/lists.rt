@@ -10,7 +10,7 @@ ghost use Rattle.pictures.specs.Lists.{setting, coordinate_of, call_of, room_of,
 use crate::banks::{clear, sum};
 use crate::fetching::{fetch_rest, start_answer};
 use crate::places::picture_outcome;
-use crate::rows::{counted_row, fetched_row, loaded_row, outcome_row, put_row};
+use crate::rows::{answer_row, fetched_row, put_row};
 use crate::sums::{make_sums, read_sum};
 use crate::words::{load, store};
 use book::entry_number;
@@ -132,12 +132,12 @@ fn sums_call(p: Plan, w: u32, h: u32, mem: &[u16], sums: &mut [u64], kind: u64, 
     ensures { (book : Book) (r i j : ℕ) (out : List ℕ) → OneMade (setting book r p w h) (lent mem.now sums.old) (call_of kind i j n out) out result (lent mem.now sums.new) out }
 {
     if kind == 5 {
-        return outcome_row(make_sums(p, w, h, mem, sums));
+        return answer_row(make_sums(p, w, h, mem, sums));
     }
     if kind == 6 {
-        return counted_row(sum(p, w, h, mem, n));
+        return answer_row(sum(p, w, h, mem, n));
     }
-    counted_row(read_sum(p, sums, n))
+    answer_row(read_sum(p, sums, n))
 }
 
 // Makes the call of these numbers. Only a fetch uses the output, what it begins with and the record of its pattern.
@@ -160,7 +160,7 @@ fn make_call(
     ensures { (book : Book) → BegunAt book r p w h (length mem.old) n start → t ≡ entry_for book n → OneMade (setting book r p w h) (lent mem.old sums.old) (call_of kind i j n out.old) out.old result (lent mem.new sums.new) out.new }
 {
     if kind == 1 {
-        return outcome_row(clear(p, w, h, mem, sums, n));
+        return answer_row(clear(p, w, h, mem, sums, n));
     }
     if 4 < kind {
         return sums_call(p, w, h, mem, sums, kind, n);
@@ -168,10 +168,10 @@ fn make_call(
     let x = coordinate(i);
     let y = coordinate(j);
     if kind == 0 {
-        return outcome_row(store(p, w, h, mem, sums, x, y, (n % 65536) as u16));
+        return answer_row(store(p, w, h, mem, sums, x, y, (n % 65536) as u16));
     }
     if kind == 2 {
-        return loaded_row(load(p, w, h, mem, x, y));
+        return answer_row(load(p, w, h, mem, x, y));
     }
     let outcome = start.outcome;
     let positions = start.positions;

@@ -10,4 +10,4 @@ use Rattle.capi.proofs.bankplan_address.Goals as goal
 pub returns : goal.returns
 returns c =
     let f = c.ranges in
-    told_of of_result ((rw c.plan_of.ensures at c.address.ensures) ∙ ap (address _ _ _) (pixel_handed f.i f.j)) c.tell_counted.ensures
+    told_of of_result ((rw c.plan_of.ensures at c.address.ensures) ∙ ap (address _ _ _) (pixel_handed f.i f.j)) c.tell.ensures

@@ -1,16 +1,11 @@
 -- `capi::bankplan_check` meets its contract.
 -- Assumes nothing.
-use mathlib.Core.Path.{◌∙◌, ap, ap₂}
-use lib.ListN.{length}
+use mathlib.Core.Path.{◌∙◌, ap₂}
 use Rattle.scope.specs.Numbers.{of_check}
 use Rattle.scope.specs.Calls.{check}
 use Rattle.scope.proofs.PlanFacts.{pixel_handed}
-use Rattle.finder.proofs.CheckClashes.{check_nine}
 use Rattle.capi.proofs.Passed.{told_of, same_check}
 use Rattle.capi.proofs.bankplan_check.Goals as goal
-
-pub tell_check-requires : goal.tell_check-requires
-tell_check-requires c = ap length c.check.ensures.1 ∙ check_nine _ _ _ _
 
 pub returns : goal.returns
 returns c =

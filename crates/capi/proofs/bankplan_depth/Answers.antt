@@ -6,4 +6,4 @@ use Rattle.capi.proofs.bankplan_depth.Goals as goal
 
 pub returns : goal.returns
 returns c =
-    told_of of_result (rw c.plan_of.ensures at c.depth.ensures) c.tell_counted.ensures
+    told_of of_result (rw c.plan_of.ensures at c.depth.ensures) c.tell.ensures

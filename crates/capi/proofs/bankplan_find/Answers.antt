@@ -6,4 +6,4 @@ use Rattle.capi.proofs.bankplan_find.Goals as goal
 
 pub returns : goal.returns
 returns c =
-    told_of of_result (rw c.book_of.ensures at c.find.ensures) c.tell_planned.ensures
+    told_of of_result (rw c.book_of.ensures at c.find.ensures) c.tell.ensures

@@ -20,7 +20,7 @@ returns c =
     let e = c.read_book-reading.ensures in
     let done = rw e at c.in_default.is in
     record {
-      told = told_value (reading_done _ done) (rw e refl);
+      told = told_value (reading_done _ done) (refl, rw e refl);
       columns = (rw e at c.put_pixels.ensures.0) ∙ filled_read _ flat_columns _ done;
       rows = (rw e at c.put_pixels.ensures.1) ∙ filled_read _ flat_rows _ done;
       used = (rw e at c.put_used.ensures) ∙ filled_read _ flat_used _ done;

@@ -6,4 +6,4 @@ use Rattle.capi.proofs.bankplan_test_record.Goals as goal
 
 pub returns : goal.returns
 returns c =
-    told_of of_result (rw c.book_of.ensures at c.record_outcome.ensures) c.tell_outcome.ensures
+    told_of of_result (rw c.book_of.ensures at c.record_outcome.ensures) c.tell.ensures

@@ -7,4 +7,4 @@ use Rattle.capi.proofs.bankplan_write_book.Goals as goal
 pub returns : goal.returns
 returns c =
     let (answer, content) = rw c.book_of-record.ensures at c.write_book.ensures in
-    record { told = told_of of_result answer c.tell_counted.ensures; out = content }
+    record { told = told_of of_result answer c.tell.ensures; out = content }

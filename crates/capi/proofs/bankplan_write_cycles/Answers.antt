@@ -1,14 +1,8 @@
 -- `capi::bankplan_write_cycles` meets its contract.
 -- Assumes nothing.
-use mathlib.Core.Path.{◌∙◌, ap}
-use lib.ListN.{length}
 use Rattle.scope.specs.Numbers.{of_fetch}
-use Rattle.finder.proofs.OwnClashes.{cycles_nine}
 use Rattle.capi.proofs.Passed.{told_of, same_fetch}
 use Rattle.capi.proofs.bankplan_write_cycles.Goals as goal
-
-pub tell_fetch-requires : goal.tell_fetch-requires
-tell_fetch-requires c = ap length c.write_cycles.ensures.answer.1 ∙ cycles_nine _ _ _ _ _
 
 pub returns : goal.returns
 returns c =

@@ -10,4 +10,4 @@ use Rattle.capi.proofs.memory.bankplan_load.Goals as goal
 pub returns : goal.returns
 returns c =
     let f = c.ranges in
-    told_of of_result ((rw c.plan_of.ensures at c.load.ensures) ∙ ap (load _ _ _ _) (pixel_handed f.i f.j)) c.tell_loaded.ensures
+    told_of of_result ((rw c.plan_of.ensures at c.load.ensures) ∙ ap (load _ _ _ _) (pixel_handed f.i f.j)) c.tell.ensures

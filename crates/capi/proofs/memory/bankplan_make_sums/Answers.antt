@@ -7,4 +7,4 @@ use Rattle.capi.proofs.memory.bankplan_make_sums.Goals as goal
 pub returns : goal.returns
 returns c =
     let e = rw c.plan_of.ensures at c.make_sums.ensures in
-    record { told = told_of of_result e.answer c.tell_outcome.ensures; left = e.left }
+    record { told = told_of of_result e.answer c.tell.ensures; left = e.left }

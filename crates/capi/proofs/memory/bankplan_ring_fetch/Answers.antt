@@ -1,16 +1,10 @@
 -- `capi::memory::bankplan_ring_fetch` meets its contract.
 -- Assumes nothing.
-use mathlib.Core.Path.{◌∙◌, ap}
-use lib.ListN.{length}
 use Rattle.scope.specs.Numbers.{of_fetch}
 use Rattle.scope.specs.Calls.{ring_fetch}
 use Rattle.scope.proofs.PlanFacts.{pixel_handed}
-use Rattle.capi.proofs.Positions.{ring_nine}
 use Rattle.capi.proofs.Passed.{told_at, same_fetch}
 use Rattle.capi.proofs.memory.bankplan_ring_fetch.Goals as goal
-
-pub tell_fetch-requires : goal.tell_fetch-requires
-tell_fetch-requires c = ap length c.ring_fetch.ensures.answer.1 ∙ ring_nine _ _ _ _ _ _ _ _ _
 
 pub returns : goal.returns
 returns c =

@@ -10,5 +10,5 @@ pub returns : goal.returns
 returns c =
     let f = c.ranges in
     let e = rw c.plan_of.ensures at c.store.ensures in
-    let t = told_at of_result (store _ _ _ _) (pixel_handed f.i f.j) (e.answer, e.left) c.tell_outcome.ensures in
+    let t = told_at of_result (store _ _ _ _) (pixel_handed f.i f.j) (e.answer, e.left) c.tell.ensures in
     record { told = t.0; left = t.1 }

@@ -14,7 +14,7 @@ pub loop-e-init : goal.loop-e-init
 loop-e-init c = none_placed
 
 pub loop-e-preserved : goal.loop-e-preserved
-loop-e-preserved c = one_placed (omega (arith, c.requires)) c.loop-e.invariant
+loop-e-preserved c = one_placed (omega arith) c.loop-e.invariant
 
 -- the positions that stand are the first r + 1
 placed-all :
@@ -27,4 +27,4 @@ placed-all {positions} {before} {out} r e size is placed = by-r (dec_lt r 8)
     by-r (no h) = nine_placed size (omega arith) (omega arith) placed
 
 pub returns : goal.returns
-returns c = placed-all c.args.r c.loop-e.e c.requires (omega (arith, c.min-count.ensures)) c.loop-e.invariant
+returns c = placed-all c.args.r c.loop-e.e (omega arith) (omega (arith, c.min-count.ensures)) c.loop-e.invariant

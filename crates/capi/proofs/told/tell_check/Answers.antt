@@ -1,6 +1,6 @@
 -- `capi::told::tell_check` meets its contract.
 -- Assumes nothing.
-use mathlib.Core.Path.{refl, ◌∙◌, ap}
+use mathlib.Core.Path.{◌∙◌, ap}
 use mathlib.Core.List.{List}
 use Prim.Native.Nat.{ℕ, suc}
 use lib.ListN.{take}
@@ -17,7 +17,7 @@ told positions r v = with_positions (take (suc r) positions) (of_verdict v)
 
 pub returns-in-Suits : goal.returns-in-Suits
 returns-in-Suits c =
-    told_value (ap (told c.args.a.positions c.args.r) c.in-Suits.is) (rw c.put_plan.ensures refl)
+    told_value (ap (told c.args.a.positions c.args.r) c.in-Suits.is) c.tell_value.ensures
 
 pub returns-in-Clashes : goal.returns-in-Clashes
 returns-in-Clashes c =

@@ -2,7 +2,7 @@
 -- Assumes nothing.
 use Rattle.scope.specs.declared.Refusal.{Refusal}
 use Rattle.std.specs.Prelude.{Result}
-use mathlib.Core.Path.{refl, ◌∙◌, ap}
+use mathlib.Core.Path.{◌∙◌, ap}
 use mathlib.Core.List.{List}
 use Prim.Native.Nat.{ℕ, suc}
 use lib.ListN.{take}
@@ -16,7 +16,7 @@ told positions r c = with_positions (take (suc r) positions) (of_result c)
 
 pub returns-in-Ok : goal.returns-in-Ok
 returns-in-Ok c =
-    told_value (ap (told c.args.a.positions c.args.r) c.in-Ok.is) refl
+    told_value (ap (told c.args.a.positions c.args.r) c.in-Ok.is) c.tell_value.ensures
 
 pub returns-in-Err : goal.returns-in-Err
 returns-in-Err c =

@@ -18,7 +18,7 @@ pixel-is i j fx fy ex ey = entry_handed w16 _ _ fx fy ∙ ap₂ at ex ey
 pub returns-then-kind-eq1 : goal.returns-then-kind-eq1
 returns-then-kind-eq1 c =
     λ book start entry.
-    clear_made _ _ _ _ _ _ _ _ _ _ _ c.if-kind-eq1.true (c.clear.ensures.answer, c.clear.ensures.left) c.outcome_row.ensures
+    clear_made _ _ _ _ _ _ _ _ _ _ _ c.if-kind-eq1.true (c.clear.ensures.answer, c.clear.ensures.left) c.answer_row.ensures
 
 pub returns-then-kind-gt4 : goal.returns-then-kind-gt4
 returns-then-kind-gt4 c = λ book start entry. c.sums_call.ensures _ _ _ _ _
@@ -28,14 +28,14 @@ returns-then-kind-eq0 c =
     λ book start entry.
     store_made _ _ _ _ _ _ _ _ _ _ _
     (pixel-is _ _ c.coordinate-x.type_inv c.coordinate-y.type_inv c.coordinate-x.ensures c.coordinate-y.ensures) c.if-kind-eq0.true
-    (c.store.ensures.answer, c.store.ensures.left) c.outcome_row-then-kind-eq0.ensures
+    (c.store.ensures.answer, c.store.ensures.left) c.answer_row-then-kind-eq0.ensures
 
 pub returns-then-kind-eq2 : goal.returns-then-kind-eq2
 returns-then-kind-eq2 c =
     λ book start entry.
     load_made _ _ _ _ _ _ _ _ _ _ _
     (pixel-is _ _ c.coordinate-x.type_inv c.coordinate-y.type_inv c.coordinate-x.ensures c.coordinate-y.ensures) c.if-kind-eq2.true
-    c.load.ensures c.loaded_row.ensures
+    c.load.ensures c.answer_row-then-kind-eq2.ensures
 
 pub returns : goal.returns
 returns c =

@@ -1,6 +1,6 @@
 -- `pictures::rows::clash_row` meets its contract. The loop's invariant: the first e positions were put behind the pattern.
 -- Assumes nothing.
-use Rattle.std.proofs.Common.{◌≡◌, ℕ, suc, ◌+◌, ◌<◌, min, List, [], ◌∷◌, length, take, sym, refl, ap, ◌∙◌, arith, take_all, eq-eqb, ne_eqb}
+use Rattle.std.proofs.Common.{◌≡◌, ℕ, suc, ◌+◌, ◌<◌, min, List, [], ◌∷◌, length, take, sym, refl, ap, ◌∙◌, arith, take_all}
 use native.Mathlib.Decide.{dec_lt}
 use Rattle.scope.specs.Banks.{over_start}
 use Rattle.pictures.specs.Lists.{twelve}
@@ -14,8 +14,7 @@ loop-e-init c = record { same_length = refl; is = refl }
 
 pub loop-e-preserved : goal.loop-e-preserved
 loop-e-preserved c =
-    let size = c.requires in
-    entry_put (_ ∷ _ ∷ _ ∷ []) _ (3 + c.loop-e.e) c.loop-e.e refl (omega (arith, size)) (omega arith) c.loop-e.invariant
+    entry_put (_ ∷ _ ∷ _ ∷ []) _ (3 + c.loop-e.e) c.loop-e.e refl (omega arith) (omega arith) c.loop-e.invariant
 
 -- the positions that were put are the first r + 1
 taken-all : (r m : ℕ) (es : List ℕ) → length es ≡ 9 → m ≡ min r 8 + 1 → take m es ≡ take (suc r) es
@@ -29,14 +28,12 @@ pub returns-after-loop-e : goal.returns-after-loop-e
 unfolding twelve
 returns-after-loop-e c values =
     let l = c.loop-e in
-    let t = c.row_of-number in
-    let all = taken-all c.args.r l.e c.args.positions c.requires (omega arith) in
+    let t = c.row_of-told in
+    let all = taken-all c.args.r l.e c.args.positions (omega arith) (omega arith) in
     l.invariant.is
-    ∙ ap (λ (es : List ℕ). twelve (t.result.0 ∷ t.result.1 ∷ t.result.2.pattern ∷ es)) all
-    ∙ clash_numbers_lem t.result.2 values _ t.ensures (eq-eqb _ 10 c.if-number-eq10.true)
+    ∙ ap (λ (es : List ℕ). twelve (t.result.number ∷ t.result.place ∷ c.in-Some.c.pattern ∷ es)) all
+    ∙ clash_numbers_lem t.ensures c.in-Some.is values _
 
-pub returns-else-number-eq10 : goal.returns-else-number-eq10
+pub returns-in_default : goal.returns-in_default
 unfolding twelve
-returns-else-number-eq10 c values =
-    let t = c.row_of-number in
-    clash_numbers_lem t.result.2 values _ t.ensures (ne_eqb _ 10 c.if-number-eq10.false)
+returns-in_default c values = clash_numbers_lem c.row_of-told.ensures c.in_default.is values _

@@ -15,7 +15,7 @@ told r positions counted = with_positions (take (suc r) positions) (of_result co
 pub returns-in-Ok : goal.returns-in-Ok
 unfolding answer_numbers
 returns-in-Ok c =
-    c.value_row.ensures ∙ same_row (told c.args.r c.args.a.positions) (λ n. n ∷ []) c.in-Ok.is
+    c.row.ensures ∙ same_row (told c.args.r c.args.a.positions) (λ n. n ∷ []) c.in-Ok.is
 
 pub returns-in-Err : goal.returns-in-Err
 returns-in-Err c =
