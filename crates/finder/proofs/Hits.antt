@@ -22,7 +22,7 @@ use Rattle.scope.specs.declared.Plan.{Plan}
 use Rattle.checks.proofs.Searches.{fails_iff}
 use Rattle.finder.specs.Table.{row_marked, rows_marked}
 use Rattle.finder.proofs.RowTests.{Marked, row_start, row_marked_iff, rows_marked_iff}
-use Rattle.finder.proofs.Marks.{Cell, number, vector}
+use Rattle.finder.proofs.MarkedCells.{Cell, number, vector}
 
 -- s, s + a, .. are the numbers from s with the remainder of s
 module _ (a : ℕ) (a_least : 0 < a) where

@@ -20,7 +20,7 @@ pub mod OneCycleCalls  -- the calls at r = 1 are what they were without r
 pub mod KeptAtOne  -- what document 01 promises holds at r = 1
 pub mod Marking  -- the cell of a vector in the table
 pub mod RowTests  -- the tests of a row and of the rows
-pub mod Marks  -- a cell is marked exactly if its vector is a difference
+pub mod MarkedCells  -- a cell is marked exactly if its vector is a difference
 pub mod Hits  -- the marked cells of a plan's lattice
 pub mod Tables  -- a plan suits exactly if the table's searches find nothing
 pub mod PlanLoops  -- what a loop over plans answers, for any tests

@@ -4,10 +4,10 @@ use Prim.Native.Nat.{ℕ, ◌+◌, ◌*◌, ◌/◌, ◌%◌, ◌≤◌, ◌<◌
 use native.Mathlib.Omega.{arith}
 use native.Mathlib.Decide.{ℕ_discrete}
 use native.Mathlib.Nat.{div-add-mod', mod-lt, zero-div, zero-mod}
-use mathlib.Core.Path.{◌≡◌, sym, ◌∙◌, ap, subst}
+use mathlib.Core.Path.{◌≡◌, refl, sym, ◌∙◌, ap, subst}
 use mathlib.Core.Logic.{◌⊎◌, ⊎_elim}
 use mathlib.Core.List.{List}
-use lib.ListN.{length, get_or, set, length-set}
+use lib.ListN.{length, get_or, set, replicate, length-set, get_or-replicate}
 use lib.Seq.{get_or-set_same, get_or-set_other}
 use Rattle.integers.proofs.Digits.{upper_digit, lower_digit}
 use Rattle.finder.specs.Counting.{Shift, ShiftsOf}
@@ -102,3 +102,11 @@ module _ {a b d : ℕ} where
 
   pub all_put : {j k x : ℕ} {shifts : List ℕ} → 32 ≤ j → ShiftsPut a b d j k x shifts → ShiftsOf a b d shifts
   all_put h t = record { size = t.size; each = λ i l. t.each i (omega arith) }
+
+-- where b is 0 no row is moved
+pub none_moved : (a d : ℕ) → 1 ≤ a → ShiftsOf a 0 d (replicate 32 0)
+none_moved a d least =
+    record {
+      size = refl;
+      each = λ j h. rw (get_or-replicate {A = ℕ} 32 j 0 0 h) (record { below = least; times = 0; is = omega arith });
+    }

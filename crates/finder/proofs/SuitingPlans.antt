@@ -1,7 +1,8 @@
 -- Plans of which a test holds. A search makes its plans of a, b and d, so the test is asked of the plan that is made of these.
 -- Assumes nothing.
 use Prim.Native.Nat.{ℕ, ◌*◌, ◌≤◌, ◌<◌}
-use native.Mathlib.Nat.{one-le-mul}
+use native.Mathlib.Nat.{one-le-mul, mul-le-mul_left, mul-le-mul_right}
+use native.Mathlib.Omega.{arith}
 use mathlib.Core.Path.{◌≡◌, refl, sym, ◌∙◌}
 use mathlib.Core.Bool.{Bool, true}
 use mathlib.Core.List.{List}
@@ -32,6 +33,13 @@ pub made_is_plan : (a b d : ℕ) → 1 ≤ a → 1 ≤ d → b < a → a * d ≤
 unfolding plan banks
 made_is_plan a b d a_least d_least b_below most =
     record { a_least = a_least; d_least = d_least; b_below = b_below; most = most }
+
+-- and neither a nor d is above 1024
+pub a_most : (a d : ℕ) → 1 ≤ d → a * d ≤ 1024 → a ≤ 1024
+a_most a d d_least most = omega (arith, mul-le-mul_left a d_least)
+
+pub d_most : (a d : ℕ) → 1 ≤ a → a * d ≤ 1024 → d ≤ 1024
+d_most a d a_least most = omega (arith, mul-le-mul_right d a_least)
 
 -- The test goes by a, b and d, as the finder's tests do.
 abbrev ByNumbers : (Plan → Bool) → Type 0

@@ -23,7 +23,7 @@ use Rattle.checks.proofs.Patterns.{same_coordinates, pattern_in_range, mem_pixel
 use Rattle.lattice.proofs.Membership.{lattice_means, lattice_symmetric}
 use Rattle.lattice.proofs.Suits.{suits_means, suits_all_iff}
 use Rattle.finder.specs.Table.{mark_book, row_marked, rows_marked}
-use Rattle.finder.proofs.Marks.{Cell, number, vector, column_place, IsDifference, marked_iff}
+use Rattle.finder.proofs.MarkedCells.{Cell, number, vector, column_place, IsDifference, marked_iff}
 use Rattle.finder.proofs.Boxes.{range_difference}
 use Rattle.finder.proofs.Hits.{Hit, no_hit_iff}
 

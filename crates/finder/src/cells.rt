@@ -1,11 +1,18 @@
-// The pixels of a book as cells of the window, in a lent array.
-ghost use Rattle.std.specs.Prelude.{◌≡◌, ◌≤◌, ◌<◌, length, replicate};
+// The table for an r above 1: the pixels of a book as cells of the window. counting.rt tries plans on it.
+ghost use Rattle.std.specs.Prelude.{◌≡◌, ◌≤◌, ◌<◌};
 ghost use Rattle.std.proofs.Math.Option.{none};
 ghost use Rattle.scope.specs.Numbers.{record_test};
 ghost use Rattle.finder.specs.Counting.{pattern_entry, cells_of, EntriesPut};
 
 use book::cell;
 use scope::{Book, Pattern};
+
+// Its entries: 65 to a pattern, one pattern after the other.
+#[derive(Drop)]
+pub(crate) struct Cells {
+    pub(crate) entries: [u16; 1040],
+    pub(crate) r: u8,
+}
 
 // The entries of a pattern: its pixel count, then the cells of its pixels, then 0. What stands past its pixels is not looked at.
 fn entry_of(t: Pattern, k: usize) -> u16
@@ -24,24 +31,30 @@ fn entry_of(t: Pattern, k: usize) -> u16
     cell(i, j)
 }
 
-// Puts the entries of the pattern t, number n.
-fn put_entries(t: Pattern, n: usize, cells: &mut [u16])
-    requires { (t.used ≤ 64) × (n < 16) × (length cells.old ≡ 1040) }
-    ensures { EntriesPut t n 65 cells.old cells.new }
-{
-    for e in 0..65 {
-        cells[65 * n + e] = entry_of(t, e);
+impl Cells {
+    // Those of a legal book; the entries after its patterns stay 0.
+    pub(crate) fn of(book: Book, r: u8) -> Cells
+        requires { record_test book ≡ none }
+        ensures { (result.entries ≡ cells_of book) × (result.r ≡ r) }
+    {
+        let mut cells = Cells {
+            entries: [0; 1040],
+            r,
+        };
+        let count = book.count;
+        for n in 0..count {
+            cells.put_entries(book.patterns[n], n);
+        }
+        cells
     }
-}
 
-// Puts the entries of a book's patterns one after the other; the rest stays 0.
-pub(crate) fn put_cells(book: Book, cells: &mut [u16])
-    requires { (record_test book ≡ none) × (cells.old ≡ replicate 1040 0) }
-    ensures { cells.new ≡ cells_of book }
-{
-    let count = book.count;
-    for n in 0..count {
-        let t = book.patterns[n];
-        put_entries(t, n, cells);
+    // Puts the entries of the pattern t, number n.
+    fn put_entries(&mut self, t: Pattern, n: usize)
+        requires { (t.used ≤ 64) × (n < 16) }
+        ensures { EntriesPut t n 65 self.old.entries self.new.entries × (self.new.r ≡ self.old.r) }
+    {
+        for e in 0..65 {
+            self.entries[65 * n + e] = entry_of(t, e);
+        }
     }
 }

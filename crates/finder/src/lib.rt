@@ -9,6 +9,7 @@ mod clash;
 mod counting;
 mod cycles;
 mod finding;
+mod marks;
 
 pub use checking::check;
 pub use clash::{Suited, suits_answer};

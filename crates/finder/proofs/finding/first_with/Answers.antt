@@ -30,41 +30,39 @@ module _ {Tests : (Plan → Bool) → Type 0} (n d : ℕ) {best r : Result Plan 
   stays is = rw next at (best_stays n (d - 1) before searched is)
 
 pub loop-d-init : goal.loop-d-init
-loop-d-init c = (omega arith, none_best _)
+loop-d-init g c = (omega arith, none_best _)
 
-pub least_b_for-p-requires : goal.least_b_for-p-requires
-least_b_for-p-requires c = (
-  c.requires.0,
-  c.requires.1,
+pub least_b-p-requires : goal.least_b-p-requires
+least_b-p-requires g c = (
   (le-div_iff_mul-le {k = c.loop-d.d} (omega arith)).1 (omega arith),
   omega arith,
-  omega (arith, c.requires.2, div-add-mod' c.args.n c.loop-d.d),
+  omega (arith, div-add-mod' c.args.n c.loop-d.d),
 )
 
 pub loop-d-preserved : goal.loop-d-preserved
-loop-d-preserved c =
+loop-d-preserved g c =
     let n = c.args.n in
     let d = c.loop-d.d in
     let before = c.loop-d.invariant.1 in (
       omega arith,
       rw (add-sub_cancel d 1) (elim c.if-n-d-eq0.branch [
-        | then-n-d-eq0+in-Ok w ↦ rw (w.best-is, w.below-is) (replaced n d (omega arith) before (divisor_searched n d _ w.if-n-d-eq0.true w.least_b_for-p.ensures) w.in-Ok.is)
-        | then-n-d-eq0+in_default w ↦ rw (w.best-is, w.below-is) (stays n d (omega arith) before (divisor_searched n d _ w.if-n-d-eq0.true w.least_b_for-p.ensures) w.in_default.is)
+        | then-n-d-eq0+in-Ok w ↦ rw (w.best-is, w.below-is) (replaced n d (omega arith) before (divisor_searched n d _ w.if-n-d-eq0.true w.least_b-p.ensures) w.in-Ok.is)
+        | then-n-d-eq0+in_default w ↦ rw (w.best-is, w.below-is) (stays n d (omega arith) before (divisor_searched n d _ w.if-n-d-eq0.true w.least_b-p.ensures) w.in_default.is)
         | else-n-d-eq0 w ↦ rw (w.best-is, w.below-is) (stays n d (omega arith) before (no_divisor_none n d _ w.if-n-d-eq0.false) refl)
       ]),
     )
 
 -- the last d was looked at
 pub returns-after-n-d-eq0 : goal.returns-after-n-d-eq0
-returns-after-n-d-eq0 c =
+returns-after-n-d-eq0 g c =
     let n = c.args.n in
     let d = c.loop-d.d in
     let before = c.loop-d.invariant.1 in
     elim c.if-n-d-eq0.branch [
-      | then-n-d-eq0+in-Ok w ↦ rw w.best-is (best_at_end n (replaced n d (omega arith) before (divisor_searched n d _ w.if-n-d-eq0.true w.least_b_for-p.ensures) w.in-Ok.is) (omega arith))
-      | then-n-d-eq0+in_default w ↦ rw w.best-is (best_at_end n (stays n d (omega arith) before (divisor_searched n d _ w.if-n-d-eq0.true w.least_b_for-p.ensures) w.in_default.is) (omega arith))
+      | then-n-d-eq0+in-Ok w ↦ rw w.best-is (best_at_end n (replaced n d (omega arith) before (divisor_searched n d _ w.if-n-d-eq0.true w.least_b-p.ensures) w.in-Ok.is) (omega arith))
+      | then-n-d-eq0+in_default w ↦ rw w.best-is (best_at_end n (stays n d (omega arith) before (divisor_searched n d _ w.if-n-d-eq0.true w.least_b-p.ensures) w.in_default.is) (omega arith))
       | else-n-d-eq0 w ↦ rw w.best-is (best_at_end n (stays n d (omega arith) before (no_divisor_none n d _ w.if-n-d-eq0.false) refl) (omega arith))
     ]
 
 pub returns : goal.returns
-returns c = best_at_end _ c.loop-d.invariant.1 (omega arith)
+returns g c = best_at_end _ c.loop-d.invariant.1 (omega arith)

@@ -2,9 +2,8 @@
 -- the next one must have a smaller b.
 -- Assumes nothing.
 use Prim.Native.Nat.{◌+◌, ◌-◌, ◌≤◌}
-use Rattle.finder.specs.Counting.{TestFor}
 use Rattle.finder.proofs.PlanLoops.{BestIn}
 use Rattle.finder.proofs.finding.first_with.Given as goal
 
 abbrev pub invariant-loop-d : goal.invariant-loop-d
-invariant-loop-d l = (l.d ≤ l.n + 1) × BestIn (TestFor l.r l.marks l.cells) l.n (l.d - 1) l.best l.below
+invariant-loop-d g l = (l.d ≤ l.n + 1) × BestIn (g.T.Trial.tests l.trial) l.n (l.d - 1) l.best l.below

@@ -2,9 +2,8 @@
 -- Assumes nothing.
 use Prim.Native.Nat.{◌+◌, ◌≤◌}
 use Rattle.scope.specs.Finding.{first_with}
-use Rattle.finder.specs.Counting.{TestFor}
 use Rattle.finder.proofs.PlanLoops.{NoneFrom}
 use Rattle.finder.proofs.finding.least_plan.Given as goal
 
 abbrev pub invariant-loop-n : goal.invariant-loop-n
-invariant-loop-n l = (1 ≤ l.n) × (l.n ≤ l.limit + 1) × NoneFrom (TestFor l.r l.marks l.cells) first_with 1 l.n
+invariant-loop-n g l = (1 ≤ l.n) × (l.n ≤ l.limit + 1) × NoneFrom (g.T.Trial.tests l.trial) first_with 1 l.n

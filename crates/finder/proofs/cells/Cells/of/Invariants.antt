@@ -1,0 +1,11 @@
+-- `finder::cells::Cells::of` meets its contract. The loop's invariant: the entries of the patterns before n are put.
+-- Assumes nothing.
+use Prim.Native.Nat.{◌*◌}
+use mathlib.Core.Path.{◌≡◌}
+use lib.ListN.{replicate}
+use Rattle.checks.proofs.FilledArrays.{Filled}
+use Rattle.finder.proofs.BookCells.{entry_at}
+use Rattle.finder.proofs.cells.Cells.of.Given as goal
+
+abbrev pub invariant-loop-n : goal.invariant-loop-n
+invariant-loop-n l = Filled 0 (entry_at l.book) (65 * l.n) (replicate 1040 0) l.cells.entries × (l.cells.r ≡ l.r)

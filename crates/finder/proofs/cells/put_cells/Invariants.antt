@@ -1,9 +1,0 @@
--- `finder::cells::put_cells` meets its contract. The loop's invariant: the entries of the patterns before n are put.
--- Assumes nothing.
-use Prim.Native.Nat.{◌*◌}
-use Rattle.checks.proofs.FilledArrays.{Filled}
-use Rattle.finder.proofs.BookCells.{entry_at}
-use Rattle.finder.proofs.cells.put_cells.Given as goal
-
-abbrev pub invariant-loop-n : goal.invariant-loop-n
-invariant-loop-n l = Filled 0 (entry_at l.book) (65 * l.n) l.initial.cells l.cells

@@ -1,0 +1,11 @@
+-- `finder::marks::Marks::row_marked` meets its contract: before each turn the cells before x are passed.
+-- Assumes nothing.
+use Prim.Native.Nat.{◌-◌}
+use Rattle.finder.proofs.RowTests.{CellsPassed}
+use Rattle.finder.proofs.marks.Marks.row_marked.Given as goal
+
+abbrev pub invariant-loop-x : goal.invariant-loop-x
+invariant-loop-x l = CellsPassed l.self.cells l.a l.j l.s l.x
+
+abbrev pub decreases-loop-x : goal.decreases-loop-x
+decreases-loop-x l = 63 - l.x
