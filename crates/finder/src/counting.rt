@@ -15,8 +15,7 @@ impl Cells {
         requires { n < 16 }
         ensures { result ≡ min (get_or self.now.entries (65 * n) 0) 64 }
     {
-        let used = self.entries[65 * n] as usize;
-        if used < 64 { used } else { 64 }
+        (self.entries[65 * n] as usize).min(64)
     }
 
     // Whether a bank has more than r pixels of pattern n; `counts` has how many of the pixels before are in each bank.
@@ -50,7 +49,7 @@ impl Trial for Cells {
 
     fn least_b(&self, a: usize, d: usize, below: usize) -> Result<Plan, Refusal> {
         let mut tables = Tables::of(a, d);
-        let end = if below < a { below } else { a };
+        let end = below.min(a);
         for b in 0..end {
             tables.slant(b);
             if !self.book_crowded(&tables) {

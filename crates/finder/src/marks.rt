@@ -8,7 +8,6 @@ ghost use Rattle.finder.specs.Table.{table_cell, mark_from, mark_pattern, mark_b
 ghost use Rattle.finder.specs.Searching.{least_below, Searched};
 
 use crate::finding::Trial;
-use integers::raised8;
 use scope::{Book, Pattern, Plan, Refusal};
 
 // Its cells: 63 to a row, column -31 first; the last is that of every difference outside.
@@ -21,23 +20,15 @@ pub(crate) struct Marks {
 fn difference_cell(i: i8, j: i8, x: i8, y: i8) -> usize
     ensures { result ≡ table_cell (minus (at i j) (at x y)) }
 {
-    let right = raised8(i) + 31;
-    let left = raised8(x);
-    let upper = raised8(j);
-    let lower = raised8(y);
-    if right < left {
+    let column = i as i16 - x as i16;
+    let row = j as i16 - y as i16;
+    if column < -31 || 31 < column {
         return 2016;
     }
-    if 62 < right - left {
+    if row < 0 || 31 < row {
         return 2016;
     }
-    if upper < lower {
-        return 2016;
-    }
-    if 31 < upper - lower {
-        return 2016;
-    }
-    (63 * (upper - lower) + (right - left)) as usize
+    63 * row as usize + (column + 31) as usize
 }
 
 impl Marks {
@@ -120,7 +111,7 @@ impl Trial for Marks {
         if self.row_marked(a, 0, 31 + a) {
             return Err(Refusal::NoPlan);
         }
-        let end = if below < a { below } else { a };
+        let end = below.min(a);
         let mut s = 31 % a;
         for b in 0..end {
             if !self.rows_marked(a, b, d, s) {

@@ -11,7 +11,7 @@ use Rattle.scope.specs.promises.Meaning.{IsBook}
 use Rattle.checks.proofs.BookTests.{book_legal_iff}
 use Rattle.finder.proofs.Verdicts.{pattern_clash, clash_at_lem, clash_nowhere}
 use Rattle.finder.specs.Clashing.{met_at}
-use Rattle.std.specs.Prelude.{Option as Optional, Some, None}
+use Rattle.std.specs.Prelude.{Some}
 use Rattle.finder.proofs.MetAnswers.{at_clash, nowhere_clash}
 use Rattle.finder.proofs.checking.first_clash.Lts as lts
 use Rattle.finder.proofs.checking.first_clash.Tie as tie

@@ -1,6 +1,5 @@
 -- `finder::finding::least_count` meets its contract: the count is that of the finder's answer at limit 1024.
 -- Assumes nothing.
-use Rattle.scope.specs.declared.Plan.{Plan}
 use Rattle.std.specs.Prelude.{Ok}
 use mathlib.Core.Path.{sym, ◌∙◌, ap}
 use Rattle.finder.proofs.LeastCounts.{fewest_by_plan, fewest_by_refusal}

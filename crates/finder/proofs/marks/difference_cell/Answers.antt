@@ -1,102 +1,71 @@
--- `finder::marks::difference_cell` meets its contract: both coordinates of two pixels are raised by 128, so their differences
--- are those of the raised ones.
+-- `finder::marks::difference_cell` meets its contract.
 -- Assumes nothing.
-use Prim.Native.Nat.{ℕ, ◌+◌, ◌-◌, ◌*◌}
+use Prim.Native.Nat.{◌+◌, ◌*◌}
 use native.Mathlib.Omega.{arith}
-use mathlib.Core.Path.{◌≡◌, refl}
-use mathlib.Core.List.{[], ◌∷◌}
-use lib.IntN.{pos, negsuc, ◌+ℤ◌}
-use Rattle.integers.proofs.Raised.{raised_read}
-use Rattle.integers.proofs.Ring.{ring, linear, ◌·◌, reify}
-use Rattle.scope.specs.Plans.{Pixel, at, minus}
+use mathlib.Core.Path.{◌≡◌, sym, ap₂, ◌∙◌}
+use lib.IntN.{ℤ, pos, negsuc, nat_abs, ◌+ℤ◌, ◌-ℤ◌}
+use lib.Signed.{◌≤ℤ◌}
+use mir.Syntax.{w8, w16}
+use mir.Val.{SFits, to_z, of_z}
+use Rattle.std.proofs.lemmas.Int.{ints}
+use Rattle.scope.specs.Plans.{at, minus}
 use Rattle.finder.specs.Table.{table_cell}
-use Rattle.finder.proofs.Marking.{InBounds, raised_outside, raised_inside}
-use Rattle.finder.proofs.marks.difference_cell.Lts as lts
-use Rattle.finder.proofs.marks.difference_cell.Tie as tie
-use Rattle.finder.proofs.marks.difference_cell.Reads as reads
+use Rattle.finder.proofs.Marking.{column_far, row_far, both_near}
+use Rattle.finder.proofs.marks.difference_cell.Goals.{then-column-ltminus31-via-then-column-ltminus31, then-column-ltminus31-via-else-column-ltminus31+then-column-gt31}
+use Rattle.finder.proofs.marks.difference_cell.Goals.{then-row-lt0-via-then-row-lt0, then-row-lt0-via-else-row-lt0+then-row-gt31}
 use Rattle.finder.proofs.marks.difference_cell.Goals as goal
 
--- what is known at a step of the code
-abbrev After-raised8-lower : Type 0
-After-raised8-lower = lts.After-raised84 tie.the-claims reads.Pre reads.Post
+-- x - y, as the machine has it
+abbrev difference : ℤ → ℤ → ℤ
+difference x y =
+    to_z w16 (of_z w16 (to_z w16 (of_z w16 (to_z w8 (of_z w8 x))) -ℤ to_z w16 (of_z w16 (to_z w8 (of_z w8 y)))))
 
-abbrev After-raised8-right : Type 0
-After-raised8-right = lts.After-raised8 tie.the-claims reads.Pre reads.Post
+difference-is : (x y : ℤ) → SFits w8 x → SFits w8 y → difference x y ≡ x -ℤ y
+difference-is x y f g = omega (arith, ints, f.sfits, g.sfits)
 
-abbrev Else-right-left-gt62 : Type 0
-Else-right-left-gt62 = lts.Else2 tie.the-claims reads.Pre reads.Post
+raised-is : (x y : ℤ) → SFits w8 x → SFits w8 y → to_z w16 (of_z w16 (difference x y +ℤ pos 31)) ≡ x -ℤ y +ℤ pos 31
+raised-is x y f g = omega (arith, ints, f.sfits, g.sfits)
 
-abbrev Start : Type 0
-Start = lts.Start tie.the-claims reads.Pre reads.Post
-
--- where all four coordinates are raised
-module _ (c : After-raised8-lower) where
-  abbrev first : After-raised8-right
-  first = c.before.before.before
-
-  abbrev start : Start
-  start = first.before
-
-  -- (i, j) - (x, y)
-  abbrev difference : Pixel
-  difference = minus (at start.args.i start.args.j) (at start.args.x start.args.y)
-
-  abbrev right : ℕ
-  right = first.raised8-right.result + 31
-
-  abbrev left : ℕ
-  left = c.raised8-left.result
-
-  abbrev upper : ℕ
-  upper = c.raised8-upper.result
-
-  abbrev lower : ℕ
-  lower = c.raised8-lower.result
-
-  column : pos right ≡ difference.column +ℤ pos 31 +ℤ pos left
+-- the cell of (i, j) - (x, y)
+module _ (i j x y : ℤ) where
+  column-outside :
+      ((negsuc 30 ≤ℤ (i -ℤ x)) × ((i -ℤ x) ≤ℤ pos 31) → ⊥) → 2016 ≡ table_cell (minus (at i j) (at x y))
   unfolding minus at
-  column =
-      let h = raised_read 128 start.ranges.i first.raised8-right.ensures.0 in
-      let k = raised_read 128 start.ranges.x c.raised8-left.ensures.0 in
-      linear ((pos 1 · h) ∷ (negsuc 0 · k) ∷ [])
-      (ring (pos first.raised8-right.result ∷ pos left ∷ start.args.i ∷ start.args.x ∷ [])
-      (search reify depth 40 fits 9000) refl)
+  column-outside h = column_far (minus (at i j) (at x y)) h
 
-  row : pos upper ≡ difference.row +ℤ pos lower
+  row-outside :
+      ((pos 0 ≤ℤ (j -ℤ y)) × ((j -ℤ y) ≤ℤ pos 31) → ⊥) → 2016 ≡ table_cell (minus (at i j) (at x y))
   unfolding minus at
-  row =
-      let h = raised_read 128 start.ranges.j c.raised8-upper.ensures.0 in
-      let k = raised_read 128 start.ranges.y c.raised8-lower.ensures.0 in
-      linear ((pos 1 · h) ∷ (negsuc 0 · k) ∷ [])
-      (ring (pos upper ∷ pos lower ∷ start.args.j ∷ start.args.y ∷ []) (search reify depth 40 fits 9000) refl)
+  row-outside h = row_far (minus (at i j) (at x y)) h
 
-  outside : (InBounds right left upper lower → ⊥) → 2016 ≡ table_cell difference
-  outside = raised_outside difference right left upper lower column row
+  both-inside :
+      {m n : ℤ} → m ≡ j -ℤ y → n ≡ i -ℤ x +ℤ pos 31 → (negsuc 30 ≤ℤ (i -ℤ x)) × ((i -ℤ x) ≤ℤ pos 31)
+      → (pos 0 ≤ℤ (j -ℤ y)) × ((j -ℤ y) ≤ℤ pos 31) → 63 * nat_abs m + nat_abs n ≡ table_cell (minus (at i j) (at x y))
+  unfolding minus at
+  both-inside e f h k =
+      ap₂ (λ (m n : ℤ). 63 * nat_abs m + nat_abs n) e f ∙ sym (both_near (minus (at i j) (at x y)) h k)
 
-  inside : InBounds right left upper lower → 63 * (upper - lower) + (right - left) ≡ table_cell difference
-  inside = raised_inside difference right left upper lower column row
+pub returns-then-column-ltminus31 : goal.returns-then-column-ltminus31
+returns-then-column-ltminus31 c =
+    let a = c.args in
+    column-outside a.i a.j a.x a.y
+    (elim c.then-column-ltminus31.branch [
+      | then-column-ltminus31-via-then-column-ltminus31 w ↦ λ r. omega (arith, ints, w.if-column-ltminus31.true, r.0)
+      | then-column-ltminus31-via-else-column-ltminus31+then-column-gt31 w ↦ λ r. omega (arith, ints, w.if-column-gt31.true, r.1)
+    ])
 
--- from past the column's tests back to where all four are raised
-abbrev raised : Else-right-left-gt62 → After-raised8-lower
-raised c = c.before.before
+pub returns-then-row-lt0 : goal.returns-then-row-lt0
+returns-then-row-lt0 c =
+    let a = c.args in
+    row-outside a.i a.j a.x a.y
+    (elim c.then-row-lt0.branch [
+      | then-row-lt0-via-then-row-lt0 w ↦ λ r. omega (arith, ints, w.if-row-lt0.true, r.0)
+      | then-row-lt0-via-else-row-lt0+then-row-gt31 w ↦ λ r. omega (arith, ints, w.if-row-gt31.true, r.1)
+    ])
 
 pub returns : goal.returns
 returns c =
-    inside (raised c.before.before)
-    (record { column_least = omega arith; column_most = omega arith; row_least = omega arith; row_most = omega arith })
-
-pub returns-then-right-left : goal.returns-then-right-left
-returns-then-right-left c =
-    outside c.before (λ t. omega (arith, t))
-
-pub returns-then-right-left-gt62 : goal.returns-then-right-left-gt62
-returns-then-right-left-gt62 c =
-    outside c.before.before (λ t. omega (arith, t))
-
-pub returns-then-upper-lower : goal.returns-then-upper-lower
-returns-then-upper-lower c =
-    outside (raised c.before) (λ t. omega (arith, t))
-
-pub returns-then-upper-lower-gt31 : goal.returns-then-upper-lower-gt31
-returns-then-upper-lower-gt31 c =
-    outside (raised c.before.before) (λ t. omega (arith, t))
+    let a = c.args in
+    let f = c.ranges in
+    both-inside a.i a.j a.x a.y (difference-is a.j a.y f.j f.y) (raised-is a.i a.x f.i f.x) (omega (arith, ints), omega (arith, ints))
+    (omega (arith, ints), omega (arith, ints))

@@ -15,12 +15,11 @@ use Rattle.finder.specs.Searching.{least_below}
 use Rattle.finder.proofs.PlanLoops.{none_yet, one_more_none, found_at, found_nowhere, none_below}
 use Rattle.finder.proofs.CountedPlans.{crowded_none, uncrowded_found}
 use Rattle.finder.proofs.counting.CellsTrial.least_b.Goals as goal
-use Rattle.finder.proofs.counting.CellsTrial.least_b.Goals.{then-below-a, else-below-a}
 
 pub loop-b-init : goal.loop-b-init
 unfolding plan
 loop-b-init c = (
-  elim c.if-below-a.branch [ then-below-a w ↦ omega arith | else-below-a w ↦ omega arith ],
+  omega arith,
   omega arith,
   ap (λ (p : Plan). p.a) c.of-tables.ensures,
   ap (λ (p : Plan). p.d) c.of-tables.ensures,

@@ -13,7 +13,7 @@ use Rattle.finder.proofs.PlanLoops.{NoneFrom, none_yet, one_more_none, found_at,
 use Rattle.finder.proofs.SuitingPlans.{a_most, d_most}
 use Rattle.finder.proofs.TableSearch.{row_marked_none, rows_marked_none, unmarked_found}
 use Rattle.finder.proofs.marks.MarksTrial.least_b.Goals as goal
-use Rattle.finder.proofs.marks.MarksTrial.least_b.Goals.{Else-not-rows_marked, then-below-a, else-below-a, then-s-a, else-s-a}
+use Rattle.finder.proofs.marks.MarksTrial.least_b.Goals.{Else-not-rows_marked, then-s-a, else-s-a}
 
 -- A plan's first cell in row d is s. That of the next plan is one more, or 0 after the last.
 module _ (a b s : ℕ) (least : 1 ≤ a) (is : s ≡ (31 + b) % a) where
@@ -50,7 +50,7 @@ returns-then-row_marked c =
 
 pub loop-b-init : goal.loop-b-init
 loop-b-init c =
-    (elim c.if-below-a.branch [ then-below-a w ↦ omega arith | else-below-a w ↦ omega arith ], omega arith, refl, none_yet _ 0)
+    (omega arith, omega arith, refl, none_yet _ 0)
 
 pub rows_marked-requires : goal.rows_marked-requires
 rows_marked-requires c =
