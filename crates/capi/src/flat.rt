@@ -42,7 +42,7 @@ fn pattern_of(columns: &[i8; 1024], rows: &[i8; 1024], used: &[usize; 16], n: us
 fn entries_used(count: usize) -> usize
     ensures { result ≡ min count 16 }
 {
-    if count < 16 { count } else { 16 }
+    count.min(16)
 }
 
 // The record of the first `count` patterns of flat arrays, the others empty.

@@ -53,18 +53,13 @@ pub(crate) fn start_answer(
 }
 
 // Whether a ring fetch is allowed: a divides w, d divides h, and a divides b × (h/d), which has 32 bits.
+#[tactic(auto, unfolding(scope::specs::Numbers::is_ring))]
 fn is_ring(tested: Tested, w: u32, h: u32) -> bool
     requires { h ≤ 4096 }
     ensures { result ≡ is_ring tested.plan w h }
 {
     let p = tested.plan;
-    if w % p.a != 0 {
-        return false;
-    }
-    if h % p.d != 0 {
-        return false;
-    }
-    p.b * (h / p.d) % p.a == 0
+    w % p.a == 0 && h % p.d == 0 && p.b * (h / p.d) % p.a == 0
 }
 
 // The edge: 14 for a pattern moved to (i, j), or 18 for a ring fetch.

@@ -29,41 +29,23 @@ pub enum ListFault {
 fn coordinate(x: u64) -> i16
     ensures { result ≡ coordinate_of x }
 {
-    let y = x % 65536;
-    if y < 32768 {
-        y as i16
-    } else {
-        (y as i32 - 65536) as i16
-    }
+    ((x % 65536) as u16).cast_signed()
 }
 
 // The room of a call's output.
+#[tactic(auto, unfolding(crate::specs::Lists::room_of))]
 fn room_of(kind: u64, room: u64) -> u64
     ensures { result ≡ room_of kind room }
 {
-    if kind < 3 {
-        return 0;
-    }
-    if kind < 5 { room } else { 0 }
+    if 3 <= kind && kind <= 4 { room } else { 0 }
 }
 
 // Whether these are the numbers of a call.
+#[tactic(auto, unfolding(crate::specs::Lists::is_call))]
 fn is_call(kind: u64, i: u64, j: u64, n: u64) -> bool
     ensures { result ≡ is_call kind i j n }
 {
-    if 7 < kind {
-        return false;
-    }
-    if 65535 < i {
-        return false;
-    }
-    if 65535 < j {
-        return false;
-    }
-    if 0 < kind {
-        return true;
-    }
-    n < 65536
+    kind <= 7 && i < 65536 && j < 65536 && (1 <= kind || n < 65536)
 }
 
 // The first numbers that are no call's, or the first fetch whose room is not there.
@@ -123,7 +105,7 @@ fn starts_of(book: Book, r: u32, p: Plan, w: u32, h: u32, words: usize) -> [Suit
 fn start_number(n: u64) -> usize
     ensures { result ≡ min n 16 }
 {
-    if n < 16 { n as usize } else { 16 }
+    n.min(16) as usize
 }
 
 // Makes a call on the sums, of kind 5, 6 or 7: makes them afresh, walks bank n, or reads its sum.

@@ -9,18 +9,15 @@ ghost use Rattle.scope.specs.Calls.{picture_test, word_test, moved};
 ghost use Rattle.pictures.specs.Fetching.{words_at};
 
 use crate::places::word_place;
-use integers::{raised8, raised16, remainder};
+use integers::remainder;
 use scope::{Pattern, Plan};
 
 // Whether coordinate c moved by z is from 0 to side - 1.
 fn is_within(z: i16, c: i8, side: u32) -> bool
     ensures { result ≡ within (z +ℤ c) side }
 {
-    let x = raised16(z) + raised8(c);
-    if x < 32896 {
-        return false;
-    }
-    x - 32896 < side as u64
+    let x = z as i32 + c as i32;
+    0 <= x && (x as u32) < side
 }
 
 // Coordinate c moved by z, modulo side; the sum itself of a plain fetch, whose pixels are inside.

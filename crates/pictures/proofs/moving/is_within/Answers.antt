@@ -1,28 +1,28 @@
--- `pictures::moving::is_within` meets its contract: the two coordinates, raised by 2^15 and 2^7, are their sum raised by 32896.
+-- `pictures::moving::is_within` meets its contract: the sum fits 32 bits, and is compared as it is.
 -- Assumes nothing.
-use Rattle.std.proofs.Common.{◌≡◌, ◌+◌, pos, ◌+ℤ◌, sym}
-use Rattle.integers.proofs.Raised.{raised_read}
-use Rattle.scope.proofs.PlanFacts.{raised_outside, raised_within}
-use Rattle.pictures.proofs.Moved.{raised_sum}
-use Rattle.pictures.proofs.moving.is_within.Lts as lts
-use Rattle.pictures.proofs.moving.is_within.Tie as tie
-use Rattle.pictures.proofs.moving.is_within.Reads as reads
+use Rattle.std.proofs.Common.{◌≡◌, ltb, ℤ, nat_abs, ◌+ℤ◌, sym, ap, ◌∙◌, arith, w8, w16, w32, SFits, to_z, of_z}
+use Rattle.std.proofs.lemmas.Int.{ints}
+use Rattle.scope.proofs.PlanFacts.{fits_within, below_zero}
 use Rattle.pictures.proofs.moving.is_within.Goals as goal
 
--- what is known at a step of the code
-abbrev After-raised8 : Type 0
-After-raised8 = lts.After-raised8 tie.the-claims reads.Pre reads.Post
+-- z + c, as the machine has it
+abbrev sum : ℤ → ℤ → ℤ
+sum z c =
+    to_z w32 (of_z w32 (to_z w32 (of_z w32 (to_z w16 (of_z w16 z))) +ℤ to_z w32 (of_z w32 (to_z w8 (of_z w8 c)))))
 
--- the sum of the raised coordinates
-sum_is :
-    (c : After-raised8)
-    → pos (c.raised16.result + c.raised8.result) ≡ c.args.z +ℤ c.args.c +ℤ pos 32896
-sum_is c =
-    raised_sum 32768 128 c.args.z c.args.c (raised_read 32768 c.ranges.z c.raised16.ensures.0)
-    (raised_read 128 c.ranges.c c.raised8.ensures.0)
+sum-is : (z c : ℤ) → SFits w16 z → SFits w8 c → sum z c ≡ z +ℤ c
+sum-is z c f g = omega (arith, ints, f.sfits, g.sfits)
 
-pub returns-then-x-lt32896 : goal.returns-then-x-lt32896
-returns-then-x-lt32896 c = sym (raised_outside 32896 _ _ _ (sum_is c.before) c.if-x-lt32896.true)
+pub returns-then-x-ge0 : goal.returns-then-x-ge0
+returns-then-x-ge0 c =
+    let z = c.args.z in
+    let k = c.args.c in
+    let e = sum-is z k c.ranges.z c.ranges.c in
+    ap (λ (y : ℤ). ltb (nat_abs y) c.args.side) e ∙ sym (fits_within (z +ℤ k) c.args.side (omega (arith, ints, e)))
 
-pub returns : goal.returns
-returns c = sym (raised_within 32896 _ _ _ (sum_is c.before) c.if-x-lt32896.false)
+pub returns-else-x-ge0 : goal.returns-else-x-ge0
+returns-else-x-ge0 c =
+    let z = c.args.z in
+    let k = c.args.c in
+    let e = sum-is z k c.ranges.z c.ranges.c in
+    c.if-x-ge0.false ∙ sym (below_zero (z +ℤ k) c.args.side (omega (arith, ints, e)))
