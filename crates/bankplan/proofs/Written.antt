@@ -1,17 +1,12 @@
 -- What was read, and what is written.
 -- Assumes nothing.
-use Rattle.std.proofs.Common.{◌≡◌, ℕ, ◌+◌, ◌≤◌, ◌<◌, List, ◌++◌, length, take, drop, sym, ap, append_assoc, ◌∙◌}
-use Rattle.std.specs.Prelude.{Option, Some, None, IfSome}
-use Rattle.std.specs.Io.KnownBytes.{Appends, Consumes, IsAtEnd}
+use Rattle.std.proofs.Common.{◌≡◌, ℕ, ◌+◌, ◌≤◌, List, ◌++◌, length, take, drop, sym, ap, append_assoc, ◌∙◌}
+use Rattle.std.specs.Prelude.{Option, Some, None}
+use Rattle.std.specs.Io.KnownBytes.{Consumes}
 use Rattle.std.proofs.lemmas.List.{take-append-le}
-use Rattle.std.proofs.Math.Seq.{take-append_seam, take-append-add}
+use Rattle.std.proofs.Math.Seq.{take-append-add}
 use lib.Seq.{length-take-le}
 use borrow.Rule.Slice.PartMut.{put_mid}
-use Rattle.scope.specs.Banks.{over_start}
-use Rattle.scope.specs.Program.{program_text}
-use Rattle.text.specs.Texts.{text_of}
-use Rattle.text.specs.declared.Text.{Text}
-use Rattle.bankplan.specs.Input.{AnswersInput}
 
 -- two reads in turn
 consumes_both :
@@ -36,18 +31,3 @@ pub read_more :
     → Consumes old mid (take at buf) → Consumes mid new (take n part) → Consumes old new (take (at + n) (put_mid at k buf part))
 read_more old mid new at k n buf part within short h more =
     rw (take_read at k n buf part within short) (consumes_both old mid new (take at buf) (take n part) h more)
-
--- the bytes of a text
-text_bytes : (xs : List ℕ) (t : Text) → t ≡ text_of xs → take t.length t.bytes ≡ xs
-unfolding text_of over_start
-text_bytes xs t e = rw e (take-append_seam xs _)
-
--- the bytes of the text for what was read are those for the whole input
-pub answer_written :
-    (old new held wrote : Option (List ℕ)) (buf : List ℕ) (count : ℕ) (t : Text) → Consumes old new (take count buf)
-    → (count < length buf → IsAtEnd new) → AnswersInput buf count t → Appends held wrote (take t.length t.bytes)
-    → IfSome old (λ s. Appends held wrote (program_text s))
-answer_written None new held wrote buf count t h ends a written = tt
-answer_written (Some s) None held wrote buf count t h ends a written = absurd h
-answer_written (Some s) (Some rest) held wrote buf count t h ends a written =
-    let bytes = text_bytes (program_text (take count buf ++ rest)) t (a.is rest ends) in rw h (rw bytes at written)

@@ -26,7 +26,8 @@ impl fmt::Display for Failure {
     }
 }
 
-// Reads until the input ends, the buffer is full or a read fails, and tells how many bytes were read.
+// Reads until the input ends, the buffer is full or a read fails, and tells how many bytes were read. Each read says how far it
+// came, so this is no walk over a range.
 fn read_input<R: Read>(input: &mut R, buf: &mut [u8]) -> io::Result<usize>
     ensures count { IfOk result (λ n. n ≤ length buf.new) }
     ensures room { length buf.new ≡ length buf.old }
@@ -58,17 +59,9 @@ fn run<R: Read, W: Write>(input: &mut R, output: &mut W) -> Result<(), Failure>
     ensures failed { IfErr result (λ f. OnInput f (Keeps (W.contents output.old) (W.contents output.new))) }
 {
     let mut buf = [0u8; 2066];
-    let count = match read_input(input, &mut buf) {
-        Ok(count) => count,
-        Err(e) => return Err(Failure::Input(e)),
-    };
+    let count = read_input(input, &mut buf).map_err(Failure::Input)?;
     let text = answer(&buf, count);
-    let bytes = text.bytes;
-    let length = text.length;
-    match output.write_all(&bytes[..length]) {
-        Ok(()) => Ok(()),
-        Err(e) => Err(Failure::Output(e)),
-    }
+    output.write_all(text.as_bytes()).map_err(Failure::Output)
 }
 
 // Standard error tells what failed; the status is 0 all the same.

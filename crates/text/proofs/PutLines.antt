@@ -1,15 +1,13 @@
 -- How the bytes of a line are put at the start of an output, one part after the other, and where they end.
 -- Assumes nothing.
-use Prim.Native.Nat.{ℕ, ◌+◌, ◌-◌, ◌/◌, ◌≤◌, ◌<◌}
+use Prim.Native.Nat.{ℕ, ◌+◌, ◌-◌, ◌≤◌, ◌<◌}
 use native.Mathlib.Omega.{arith}
 use mathlib.Core.Path.{◌≡◌, refl, sym, ◌∙◌, ap}
 use mathlib.Core.List.{List, [], ◌∷◌, ◌++◌, foldr, append_assoc, append-nil}
 use lib.ListN.{length, take, drop, set, length-append, length-take, length-drop, take-append-drop}
 use lib.Seq.{drop-drop}
 use Rattle.scope.specs.Banks.{over_start}
-use Rattle.scope.specs.Program.{decimal}
 use Rattle.checks.proofs.Outputs.{Put, one_more_put, part_put, over_start_first, over_start_rest, over_start_length}
-use Rattle.text.proofs.DecimalDigits.{last_digit, decimal_of_digit, decimal_of_more}
 
 -- The bytes xs were put at the start of `before`, which is `out` now, and end at `at`.
 pub record PutTo (xs : List ℕ) (at : ℕ) (before out : List ℕ) : Type 0 where
@@ -167,16 +165,3 @@ module _ {whole before out : List ℕ} {b at : ℕ} (p : PutBut whole ((b ∷ []
 
   pub last_put : PutTo whole (at + 1) before (set out at b)
   last_put = rw p.is (byte_put p.put_to b p.room)
-
--- The digits of a number: the last is left.
-module _ (n : ℕ) (before : List ℕ) (room : length (decimal n) ≤ length before) where
-  abbrev ButLast : ℕ → List ℕ → Type 0
-  ButLast at out = PutBut (decimal n) ((last_digit n ∷ []) ∷ []) at before out
-
-  pub none_put : n ≤ 9 → ButLast 0 before
-  none_put h = none_stands record { is = decimal_of_digit n h; room = room }
-
-  pub front_put :
-      {at : ℕ} {out : List ℕ} → 9 < n → (at ≡ length (decimal (n / 10))) × (out ≡ over_start (decimal (n / 10)) before)
-      → ButLast at out
-  front_put h (e, come) = put_after {ys = decimal (n / 10)} (none_stands record { is = decimal_of_more n h; room = room }) (omega (arith, e), come)

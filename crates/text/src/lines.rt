@@ -1,88 +1,49 @@
-// The lines of an answer, put at the start of an output that is long enough.
-ghost use Rattle.std.specs.Prelude.{◌≡◌, ◌++◌, ◌+◌, ◌≤◌, length, take};
-ghost use Rattle.scope.specs.Banks.{over_start};
-ghost use Rattle.scope.specs.Numbers.{number_of};
-ghost use Rattle.scope.specs.Program.{decimal, plan_lines, refused_line, plan_text};
-ghost use Rattle.text.specs.Texts.{text_of};
+// The lines of an answer. The numbers go by `itoa`: `write!` does not say when it succeeds, and these functions cannot fail.
+ghost use Rattle.std.specs.Prelude.{◌≡◌, ◌++◌, ◌+◌, ◌≤◌, length};
+ghost use Rattle.arrayvec.specs.ArrayString.{array_string_len};
+ghost use Rattle.scope.specs.Program.{plan_lines, refused_line, plan_text};
 
 use crate::Text;
+use itoa::{Buffer, Integer};
 use scope::{Plan, Refusal, number_of};
 
-// Puts the bytes s.
-fn put_bytes(s: &[u8], out: &mut [u8]) -> usize
-    requires { length s.now ≤ length out.old }
-    ensures { (result ≡ length s.now) × (out.new ≡ over_start s.now out.old) }
+// Puts the text s and the decimal digits of n.
+fn put_number<I: Integer>(text: &mut Text, s: &str, n: I)
+    requires { array_string_len text.old + length s.now + I.MAX_STR_LEN ≤ 80 }
+    ensures bytes { text.new.bytes ≡ text.old.bytes ++ s.now ++ I.text n }
+    ensures room { array_string_len text.new ≤ array_string_len text.old + length s.now + I.MAX_STR_LEN }
 {
-    out[..s.len()].copy_from_slice(s);
-    s.len()
-}
-
-// Puts the decimal digits of n.
-fn put_decimal(n: u64, out: &mut [u8]) -> usize
-    requires { length (decimal n) ≤ length out.old }
-    ensures { (result ≡ length (decimal n)) × (out.new ≡ over_start (decimal n) out.old) }
-{
-    let mut at = 0;
-    if 9 < n {
-        at = put_decimal(n / 10, out);
-    }
-    out[at] = (48 + n % 10) as u8;
-    at + 1
-}
-
-// Puts the bytes s and the decimal digits of n after the first `at` bytes, and tells where they end.
-fn put_number(at: usize, s: &[u8], n: u64, out: &mut [u8]) -> usize
-    requires { at + length (s.now ++ decimal n) ≤ length out.old }
-    ensures { (result ≡ at + length (s.now ++ decimal n)) × (out.new ≡ over_start (take at out.old ++ (s.now ++ decimal n)) out.old) }
-{
-    let end = at + put_bytes(s, &mut out[at..]);
-    end + put_decimal(n, &mut out[end..])
-}
-
-// Puts the two lines of a plan.
-fn put_plan(p: Plan, out: &mut [u8]) -> usize
-    requires { length (plan_lines p) ≤ length out.old }
-    ensures { (result ≡ length (plan_lines p)) × (out.new ≡ over_start (plan_lines p) out.old) }
-{
-    let mut at = put_number(0, b"banks ", p.banks(), out);
-    at = put_number(at, b"\nplan ", p.a as u64, out);
-    at = put_number(at, b" ", p.b as u64, out);
-    at = put_number(at, b" ", p.d as u64, out);
-    out[at] = 10;
-    at + 1
-}
-
-// Puts the line of a refusal.
-fn put_refused(r: Refusal, out: &mut [u8]) -> usize
-    requires { length (refused_line r) ≤ length out.old }
-    ensures { (result ≡ length (refused_line r)) × (out.new ≡ over_start (refused_line r) out.old) }
-{
-    let at = put_number(0, b"refused ", number_of(r), out);
-    out[at] = 10;
-    at + 1
+    let mut digits = Buffer::new();
+    text.push_str(s);
+    text.push_str(digits.format(n));
 }
 
 // The lines of a plan.
 fn plan_text(p: Plan) -> Text
-    ensures { result ≡ text_of (plan_lines p) }
+    ensures { result.bytes ≡ plan_lines p }
 {
-    let mut bytes = [0u8; 80];
-    let length = put_plan(p, &mut bytes);
-    Text { bytes, length }
+    let mut text = Text::new();
+    put_number(&mut text, "banks ", p.banks());
+    put_number(&mut text, "\nplan ", p.a);
+    put_number(&mut text, " ", p.b);
+    put_number(&mut text, " ", p.d);
+    text.push_str("\n");
+    text
 }
 
 // The line of a refusal.
 pub fn refused_text(r: Refusal) -> Text
-    ensures { result ≡ text_of (refused_line r) }
+    ensures { result.bytes ≡ refused_line r }
 {
-    let mut bytes = [0u8; 80];
-    let length = put_refused(r, &mut bytes);
-    Text { bytes, length }
+    let mut text = Text::new();
+    put_number(&mut text, "refused ", number_of(r));
+    text.push_str("\n");
+    text
 }
 
 // What the program writes for the finder's answer.
 pub fn planned_text(p: Result<Plan, Refusal>) -> Text
-    ensures { result ≡ text_of (plan_text p) }
+    ensures { result.bytes ≡ plan_text p }
 {
     match p {
         Ok(q) => plan_text(q),

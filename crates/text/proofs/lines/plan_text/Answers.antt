@@ -1,12 +1,20 @@
--- `text::lines::plan_text` meets its contract: a plan's lines fit into 80 bytes.
+-- `text::lines::plan_text` meets its contract.
 -- Assumes nothing.
 use native.Mathlib.Omega.{arith}
-use Rattle.scope.specs.Program.{plan_lines}
-use Rattle.text.proofs.LineParts.{plan_lines_at_most, text_put}
+use Rattle.scope.specs.Program.{ascii}
+use Rattle.text.proofs.LineParts.{plan_lines_put}
 use Rattle.text.proofs.lines.plan_text.Goals as goal
 
-pub put_plan-length-requires : goal.put_plan-length-requires
-put_plan-length-requires c = omega (arith, plan_lines_at_most c.args.p (omega arith) (omega arith) (omega arith))
-
 pub returns : goal.returns
-returns c = text_put (plan_lines c.args.p) _ _ c.put_plan-length.ensures
+unfolding ascii
+returns c =
+    rw (
+      c.push_str.ensures.bytes,
+      c.put_number-4.ensures.bytes,
+      c.put_number-3.ensures.bytes,
+      c.put_number-2.ensures.bytes,
+      c.put_number.ensures.bytes,
+      c.new-text.ensures,
+      c.banks.ensures,
+    )
+    (plan_lines_put c.args.p (omega arith) (omega arith) (omega arith))

@@ -9,45 +9,38 @@ use Rattle.scope.specs.declared.Reading.{Reading}
 use Rattle.scope.specs.declared.Refusal.{Refusal}
 use Rattle.text.proofs.ProgramText.{text_of_read, text_of_refused}
 use Rattle.text.proofs.ProgramTexts.{also_of_longer}
-use Rattle.text.specs.Texts.{text_of}
-use Rattle.text.specs.declared.Text.{Text}
 use Rattle.text.proofs.program.program_text.Goals as goal
+use Rattle.text.proofs.program.program_text.Goals.{After-refused_text, After-planned_text}
 
 -- the text of a refusal by the reader, and that of the finder's answer for what was read
 module _ (s : List ℕ) (reading : Reading) (is_read : reading ≡ read_book s) where
   outcome_is : (o : Result Unit Refusal) → reading.outcome ≡ o → (read_book s).outcome ≡ o
   outcome_is o e = sym (ap (λ x. x.outcome) is_read) ∙ e
 
-  text_of_refusal :
-      (r : Refusal) (t : Text) → reading.outcome ≡ Err r → t ≡ text_of (refused_line r) → t ≡ text_of (program_text s)
-  text_of_refusal r t refused is = is ∙ ap text_of (text_of_refused s (outcome_is (Err r) refused))
+  text_of_refusal : (r : Refusal) → reading.outcome ≡ Err r → refused_line r ≡ program_text s
+  text_of_refusal r refused = text_of_refused s (outcome_is (Err r) refused)
 
   text_of_found :
-      (p : Result Plan Refusal) (t : Text) → reading.outcome ≡ Ok tt → p ≡ find reading.book 1 1024 → t ≡ text_of (plan_text p)
-      → t ≡ text_of (program_text s)
-  text_of_found p t done found is =
-      is ∙ ap (λ q. text_of (plan_text q)) (rw is_read at found) ∙ ap text_of (text_of_read s (outcome_is (Ok tt) done))
+      (p : Result Plan Refusal) → reading.outcome ≡ Ok tt → p ≡ find reading.book 1 1024 → plan_text p ≡ program_text s
+  text_of_found p done found = ap plan_text (rw is_read at found) ∙ text_of_read s (outcome_is (Ok tt) done)
+
+refused : (c : After-refused_text) → c.refused_text.result.bytes ≡ program_text c.args.s.now
+refused c =
+    c.refused_text.ensures ∙ text_of_refusal c.args.s.now c.read_book-reading.result c.read_book-reading.ensures c.in-Err.r c.in-Err.is
+
+planned : (c : After-planned_text) → c.planned_text.result.bytes ≡ program_text c.args.s.now
+planned c =
+    c.planned_text.ensures
+    ∙ text_of_found c.args.s.now c.read_book-reading.result c.read_book-reading.ensures c.find.result c.in_default.is c.find.ensures
 
 pub returns-in-Err-clause-text : goal.returns-in-Err-clause-text
-returns-in-Err-clause-text c =
-    text_of_refusal c.args.s.now c.read_book-reading.result c.read_book-reading.ensures c.in-Err.r _ c.in-Err.is
-    c.refused_text.ensures
+returns-in-Err-clause-text c = refused c
 
 pub returns-in-Err-clause-longer : goal.returns-in-Err-clause-longer
-returns-in-Err-clause-longer c =
-    let e =
-    text_of_refusal c.args.s.now c.read_book-reading.result c.read_book-reading.ensures c.in-Err.r c.refused_text.result
-    c.in-Err.is c.refused_text.ensures in
-    (also_of_longer _ _ e).1
+returns-in-Err-clause-longer c = also_of_longer _ _ (refused c)
 
 pub returns-clause-text : goal.returns-clause-text
-returns-clause-text c =
-    text_of_found c.args.s.now c.read_book-reading.result c.read_book-reading.ensures _ _ c.in_default.is c.find.ensures
-    c.planned_text.ensures
+returns-clause-text c = planned c
 
 pub returns-clause-longer : goal.returns-clause-longer
-returns-clause-longer c =
-    let e =
-    text_of_found c.args.s.now c.read_book-reading.result c.read_book-reading.ensures c.find.result c.planned_text.result
-    c.in_default.is c.find.ensures c.planned_text.ensures in
-    (also_of_longer _ _ e).1
+returns-clause-longer c = also_of_longer _ _ (planned c)
