@@ -122,20 +122,20 @@ abbrev reading : Book → Result Unit Refusal → Reading
 reading b o = record { book = b; outcome = o }
 
 is_done : (o : Result Unit Refusal) → of_result o ≡ value tt → o ≡ Ok tt
-is_done (Ok tt) e = refl
+is_done (Ok u) e = refl
 is_done (Err q) e = absurd (value_not_refusal (sym e))
 
 -- a refused reading tells its refusal, and leaves an array as it was
 refusal_told :
     (b : Book) (o : Result Unit Refusal) (n i : ℕ) (c : Option LongClash) → of_result o ≡ refusal n i c → of_reading (reading b o) ≡ refusal n i c
-refusal_told b (Ok tt) n i c e = absurd (value_not_refusal e)
+refusal_told b (Ok u) n i c e = absurd (value_not_refusal e)
 refusal_told b (Err q) n i c e = cc
 
 module _ {A : Type 0} (flat : Book → List A) where
   refusal_leaves :
       (b : Book) (o : Result Unit Refusal) (n i : ℕ) (c : Option LongClash) → of_result o ≡ refusal n i c → (out : List A)
       → when_read flat (reading b o) out ≡ out
-  refusal_leaves b (Ok tt) n i c e out = absurd (value_not_refusal e)
+  refusal_leaves b (Ok u) n i c e out = absurd (value_not_refusal e)
   refusal_leaves b (Err q) n i c e out = refl
 
 -- What was read is the record of a list of patterns, so it is the record of the arrays that are told.

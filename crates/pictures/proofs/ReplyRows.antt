@@ -128,7 +128,7 @@ module _ {A : Type 0} (values : A → List ℕ) where
 
 length_outcome : (o : Result Unit Refusal) → length (twelve (answer_numbers (λ x. []) (of_result o))) ≡ 12
 unfolding twelve answer_numbers
-length_outcome (Ok tt) = refl
+length_outcome (Ok u) = refl
 length_outcome (Err f) = length_turned_down {A = Unit} (λ x. []) f
 
 length_loaded : (l : Result ℕ Refusal) → length (twelve (answer_numbers (λ n. n ∷ []) (of_result l))) ≡ 12
@@ -198,7 +198,7 @@ module _ {A : Type 0} (from : ℕ → A) (m : ℕ) where
 
 outcome_read : (o : Result Unit Refusal) → answer_in (λ n. tt) 2 (twelve (answer_numbers (λ x. []) (of_result o))) ≡ of_result o
 unfolding answer_in twelve answer_numbers
-outcome_read (Ok tt) = refl
+outcome_read (Ok u) = refl
 outcome_read (Err f) = turned_down_read (λ n. tt) 2 (λ x. []) refl f
 
 loaded_read : (l : Result ℕ Refusal) → answer_in (λ n. n) 2 (twelve (answer_numbers (λ n. n ∷ []) (of_result l))) ≡ of_result l

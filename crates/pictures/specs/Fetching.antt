@@ -16,7 +16,7 @@ use Rattle.scope.specs.declared.Refusal.{Refusal}
 
 -- what an outcome says that the tests behind it found
 abbrev pub found_by : Result Unit Refusal → Option Refusal
-found_by (Ok tt) = none
+found_by (Ok u) = none
 found_by (Err r) = some r
 
 -- the record that stands for pattern n: its entry, the last one where there is none

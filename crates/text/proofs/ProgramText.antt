@@ -22,15 +22,15 @@ written_for_a_plan :
     (o : Result Unit Refusal) (answer : Result Plan Refusal) (p : Plan) → of_result o ≡ value tt → of_result answer ≡ value p
     → written o answer ≡ plan_lines p
 unfolding plan_text
-written_for_a_plan (Ok tt) (Ok q) p done e = ap plan_lines (value_injective e)
-written_for_a_plan (Ok tt) (Err r) p done e = absurd (value_not_refusal (sym e))
+written_for_a_plan (Ok u) (Ok q) p done e = ap plan_lines (value_injective e)
+written_for_a_plan (Ok u) (Err r) p done e = absurd (value_not_refusal (sym e))
 written_for_a_plan (Err r) answer p done e = absurd (value_not_refusal (sym done))
 
 written_for_a_refusal :
     (o : Result Unit Refusal) (answer : Result Plan Refusal) (n i : ℕ) (c : Option LongClash) → of_result o ≡ refusal n i c
     → written o answer ≡ ascii "refused " ++ decimal n ++ ascii "\n"
 unfolding refused_line
-written_for_a_refusal (Ok tt) answer n i c e = absurd (value_not_refusal e)
+written_for_a_refusal (Ok u) answer n i c e = absurd (value_not_refusal e)
 written_for_a_refusal (Err r) answer n i c e =
     ap (λ k. ascii "refused " ++ decimal k ++ ascii "\n") (refusal_number e)
 
