@@ -7,7 +7,7 @@ ghost use Rattle.finder.specs.Counting.{pattern_entry, cells_of, EntriesPut};
 use book::cell;
 use scope::{Book, Pattern};
 
-// Its entries: 65 to a pattern, one pattern after the other.
+// Its entries: 65 to a pattern, one pattern after the other, in one array, as Counting.cells_of is one list.
 #[derive(Drop)]
 pub(crate) struct Cells {
     pub(crate) entries: [u16; 1040],

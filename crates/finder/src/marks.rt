@@ -10,7 +10,8 @@ ghost use Rattle.finder.specs.Searching.{least_below, Searched};
 use crate::finding::Trial;
 use scope::{Book, Pattern, Plan, Refusal};
 
-// Its cells: 63 to a row, column -31 first; the last is that of every difference outside.
+// Its cells: 63 to a row, column -31 first; the last is that of every difference outside. They are one array of numbers, as
+// Table.mark_book is one list of numbers.
 #[derive(Drop)]
 pub(crate) struct Marks {
     pub(crate) cells: [u8; 2017],
