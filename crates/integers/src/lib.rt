@@ -16,7 +16,8 @@ pub fn gcd_of(a: u64, b: u64) -> u64
     gcd_of(b, a % b)
 }
 
-// z + 2^7, so that every 8-bit number is one from 0 to 2^8 - 1.
+// z + 2^7, so that every 8-bit number is one from 0 to 2^8 - 1. This and `raised16` are public functions that docs/API.md names, so they
+// stay; one function for both would take a trait that holds the 2^7 and the 2^15, and is no plainer than these two lines.
 pub fn raised8(z: i8) -> u64
     ensures { (pos result ≡ z +ℤ pos 128) × (result < 256) }
 {

@@ -1,4 +1,4 @@
--- A pattern's pixels moved to a position: a moved coordinate raised, its remainder by a side, and how a loop finds whether
+-- A pattern's pixels moved to a position: the remainder of a moved coordinate by a side, and how a loop finds whether
 -- all are inside.
 -- Assumes nothing.
 use Rattle.std.proofs.Common.{◌≡◌, ℕ, ◌+◌, ◌<◌, ◌≤◌, true, false, List, [], ◌∷◌, get_or, ℤ, pos, negsuc, ◌+ℤ◌, sym, refl, ap, ◌∙◌, subst, arith, w16, SFits, to_z, of_z}
@@ -7,7 +7,6 @@ use mathlib.Core.Bool.{and-false, and-eq-true_iff, false≢true}
 use mathlib.Core.List.{Memᴰ}
 use Rattle.integers.specs.Division.{floor_mod}
 use Rattle.integers.proofs.Comparisons.{ltb_iff}
-use Rattle.integers.proofs.Ring.{ring, linear, ◌·◌, reify}
 use Rattle.integers.proofs.Divisions.{remainder_below, remainder_of_small}
 use Rattle.integers.proofs.Sizes.{small_fits}
 use Rattle.scope.specs.Search.{every}
@@ -19,13 +18,6 @@ use Rattle.checks.proofs.Searches.{every_holds, holds_every, fails_every}
 use Rattle.checks.proofs.Lists.{mem-map, map-mem}
 use Rattle.checks.proofs.Patterns.{pixels_mem, mem_pixels}
 use Rattle.scope.specs.Calls.{moved}
-
--- the sum of two raised numbers is the sum, raised by both
-pub raised_sum :
-    (h k : ℕ) (y z : ℤ) {m n : ℕ} → pos m ≡ y +ℤ pos h → pos n ≡ z +ℤ pos k → pos (m + n) ≡ y +ℤ z +ℤ pos (h + k)
-raised_sum h k y z {m} {n} e f =
-    linear ((pos 1 · e) ∷ (pos 1 · f) ∷ [])
-    (ring (pos m ∷ pos n ∷ pos h ∷ pos k ∷ y ∷ z ∷ []) (search reify depth 40 fits 9000) refl)
 
 -- within a side it is its own remainder
 pub own_remainder : (z : ℤ) (side : ℕ) → within z side ≡ true → z ≡ pos (floor_mod z side)

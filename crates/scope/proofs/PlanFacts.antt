@@ -15,7 +15,7 @@ use mir.Val.{SFits, to_z, of_z, hbits}
 use mir.Facts.{to_z-of_z}
 use Rattle.std.proofs.lemmas.Int.{ints}
 use Rattle.integers.proofs.Comparisons.{leb_iff, ltb_iff, and_iff}
-use Rattle.integers.proofs.Raised.{lowered, number_handed}
+use Rattle.integers.proofs.Raised.{number_handed}
 use Rattle.scope.specs.Plans.{Pixel, at, is_plan, banks}
 use Rattle.scope.specs.Banks.{within, inside}
 use Rattle.scope.specs.Numbers.{is_side}
@@ -68,21 +68,7 @@ unfolding within
 within_iff (pos i) n = (λ e. (i, refl, (ltb_iff i n).0 e), λ t. (ltb_iff i n).1 (rw (ap nat_abs t.1) t.2))
 within_iff (negsuc i) n = (λ e. absurd (false≢true e), λ t. absurd (pos-ne-negsuc t.0 i (sym t.1)))
 
--- and of a coordinate z the code has n, z raised by h: below h it is outside, and from h on what n has more than h tells
-module _ (h n : ℕ) (z : ℤ) (side : ℕ) (raised : pos n ≡ z +ℤ pos h) where
-  pub raised_outside : n < h → within z side ≡ false
-  unfolding within
-  raised_outside k = by_sign z raised
-    where
-      by_sign : (y : ℤ) → pos n ≡ y +ℤ pos h → within y side ≡ false
-      by_sign (pos m) d = let s : n ≡ m + h = ap nat_abs d in absurd (omega arith)
-      by_sign (negsuc m) d = refl
-
-  pub raised_within : h ≤ n → within z side ≡ ltb (n - h) side
-  unfolding within
-  raised_within k = ap (λ (y : ℤ). within y side) (lowered h n z raised k)
-
--- and by two comparisons, the second of the number without its sign
+-- and so the code tests a coordinate: by two comparisons, the second of the number without its sign
 pub below_zero : (z : ℤ) (n : ℕ) → z <ℤ pos 0 → within z n ≡ false
 unfolding within
 below_zero (pos i) n h = absurd (omega (arith, ints))
