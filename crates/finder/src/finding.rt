@@ -95,9 +95,5 @@ pub fn find(book: Book, r: u32, limit: u32) -> Result<Plan, Refusal>
 pub fn least_count(book: Book, r: u32) -> Result<u64, Refusal>
     ensures { result ≡ fewest book r }
 {
-    let least = find(book, r, 1024);
-    match least {
-        Ok(p) => Ok(p.banks()),
-        Err(f) => Err(f),
-    }
+    Ok(find(book, r, 1024)?.banks())
 }

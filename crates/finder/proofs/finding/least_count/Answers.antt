@@ -2,13 +2,14 @@
 -- Assumes nothing.
 use Rattle.std.specs.Prelude.{Ok}
 use mathlib.Core.Path.{sym, ◌∙◌, ap}
+use Rattle.checks.proofs.Chains.{handed_on}
 use Rattle.finder.proofs.LeastCounts.{fewest_by_plan, fewest_by_refusal}
 use Rattle.finder.proofs.finding.least_count.Goals as goal
 
-pub returns-in-Ok : goal.returns-in-Ok
-returns-in-Ok c =
-    ap Ok c.banks.ensures ∙ sym (fewest_by_plan _ _ _ (sym c.find-least.ensures ∙ c.in-Ok.is))
+pub returns : goal.returns
+returns c =
+    ap Ok c.banks.ensures ∙ sym (fewest_by_plan _ _ _ (sym c.find.ensures ∙ c.in_ok-find.was))
 
-pub returns-in-Err : goal.returns-in-Err
-returns-in-Err c =
-    sym (fewest_by_refusal _ _ _ (sym c.find-least.ensures ∙ c.in-Err.is))
+pub returns-in_err-find : goal.returns-in_err-find
+returns-in_err-find c =
+    handed_on _ c.from_residual.ensures ∙ sym (fewest_by_refusal _ _ _ (sym c.find.ensures ∙ c.in_err-find.was))
