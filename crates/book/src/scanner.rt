@@ -1,4 +1,5 @@
-// The tests of a book's bytes, 1 to 5 and 19, left to right.
+// The tests of a book's bytes, 1 to 5 and 19, left to right. Those of a record (record.rt) have no 1 and 5 and no places, and take
+// their pixels from arrays: `pixel_outcome` is what both share, and one function over both would be no plainer.
 ghost use Rattle.std.specs.Prelude.{◌≡◌, ◌≤◌, length};
 ghost use Rattle.scope.specs.Search.{first};
 ghost use Rattle.scope.specs.Books.{signed};

@@ -1,4 +1,4 @@
-// Plans as numbers, and book records as flat arrays.
+// Plans as numbers, and book records as flat arrays: the form in which C hands them over (DECISIONS).
 ghost use Rattle.std.specs.Prelude.{◌≡◌, ◌<◌, min};
 ghost use Rattle.scope.specs.Plans.{plan};
 ghost use Rattle.capi.specs.Flat.{entries, flat_pattern, flat_book, flat_columns, flat_rows, flat_used};

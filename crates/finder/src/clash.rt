@@ -68,7 +68,7 @@ pub(crate) fn class_positions(p: Tested, t: Pattern, e: usize, r: u8) -> [usize;
     positions
 }
 
-// Whether a plan suits a pattern for r, and beside it the positions of the clash in nine places.
+// Whether a plan suits a pattern for r, and beside it the positions of the clash in nine places, the form of `FetchAnswer`.
 #[derive(Clone, Copy)]
 pub struct Suited {
     pub outcome: Result<(), Refusal>,

@@ -1,5 +1,5 @@
-// Fetch and ring fetch. Both are one function but for the edge: 14, or 18 and wrapping. What they begin with is found out
-// apart from the rest, so that a list of fetches need not find it out again.
+// Fetch and ring fetch. Both are one function but for the edge: 14, or 18 and wrapping; it has two names, since document 01 has two
+// calls. What they begin with is found out apart from the rest, so that a list of fetches need not find it out again.
 ghost use Rattle.std.specs.Prelude.{◌≡◌, ◌<◌, ◌≤◌, true, false, length};
 ghost use Rattle.std.proofs.Math.Option.{none};
 ghost use Rattle.scope.specs.Search.{every};

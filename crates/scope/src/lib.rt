@@ -9,7 +9,7 @@ mod refusals;
 pub use formulas::Tested;
 pub use refusals::{Row, number_of, row_of};
 
-// A pattern: the columns and rows of its pixels, of which the first `used` count.
+// A pattern: the columns and rows of its pixels, of which the first `used` count. Document 01 names this form, two arrays and a count.
 #[derive(Clone, Copy)]
 pub struct Pattern {
     pub columns: [i8; 64],
@@ -17,7 +17,7 @@ pub struct Pattern {
     pub used: usize,
 }
 
-// A book record: the patterns numbered from 0, of which the first `count` count.
+// A book record: the patterns numbered from 0, of which the first `count` count. Document 01 names this form, a fixed array.
 #[derive(Clone, Copy)]
 pub struct Book {
     pub patterns: [Pattern; 16],
@@ -83,7 +83,7 @@ pub struct Checked {
     pub surplus: u32,
 }
 
-// What the check says of a supplier's two vectors.
+// What the check says of a supplier's two vectors. Document 01 names this form, an enum of these three cases.
 #[derive(Clone, Copy)]
 pub enum Verdict {
     Suits(Checked),
@@ -98,21 +98,22 @@ pub struct Place {
     pub word: u64,
 }
 
-// The check's verdict for r, and beside it the r + 1 positions of its clash in nine places, then 0; without a clash all are 0.
+// The check's verdict for r, and beside it the r + 1 positions of its clash in nine places, then 0; without a clash all are 0. Document 01
+// names this form: "Card 4's longer clash is an array beside it".
 #[derive(Clone, Copy)]
 pub struct CheckAnswer {
     pub verdict: Verdict,
     pub positions: [usize; 9],
 }
 
-// What a fetch or the cycles count, and beside it the positions of the clash in the same way.
+// What a fetch or the cycles count, and beside it the positions of the clash in the same form.
 #[derive(Clone, Copy)]
 pub struct FetchAnswer {
     pub counted: Result<u64, Refusal>,
     pub positions: [usize; 9],
 }
 
-// The answer of the reader. The book stands beside the enum; on a refusal it is empty.
+// The answer of the reader. The book stands beside the outcome: on a refusal it is empty (`ReaderRefuses.record_of_none`).
 #[derive(Clone, Copy)]
 pub struct Reading {
     pub book: Book,
