@@ -12,8 +12,6 @@ use Rattle.scope.specs.declared.Verdict.{Verdict}
 use Rattle.scope.specs.declared.Clash.{Clash}
 use Rattle.scope.specs.declared.CheckAnswer.{CheckAnswer}
 use Rattle.scope.specs.declared.FetchAnswer.{FetchAnswer}
-use Rattle.pictures.specs.Lists.{Listed}
-use Rattle.claims.specs.Demanded.{FoundRun}
 use Rattle.capi.specs.Told.{number_told, row_in, plan_row, checked_row, number_row, pixel_row, no_row, put_from, of_listed, of_found_run}
 use Rattle.capi.specs.Flat.{flat_book, flat_columns, flat_rows, flat_used}
 

@@ -28,5 +28,8 @@ pub fn find_and_run(
     ensures demand { Demanded result book r w h numbers.now (buffers mem.old sums.old outs.old rows.old) (buffers mem.new sums.new outs.new rows.new) }
 {
     let plan = find(book, r, limit)?;
-    Ok((plan, run_list(book, r, plan, w, h, mem, sums, numbers, outs, rows)))
+    Ok((
+        plan,
+        run_list(book, r, plan, w, h, mem, sums, numbers, outs, rows),
+    ))
 }

@@ -1,7 +1,7 @@
 -- A pattern's pixels moved to a position: the remainder of a moved coordinate by a side, and how a loop finds whether
 -- all are inside.
 -- Assumes nothing.
-use Rattle.std.proofs.Common.{◌≡◌, ℕ, ◌+◌, ◌<◌, ◌≤◌, true, false, List, [], ◌∷◌, get_or, ℤ, pos, negsuc, ◌+ℤ◌, sym, refl, ap, ◌∙◌, subst, arith, w16, SFits, to_z, of_z}
+use Rattle.std.proofs.Common.{◌≡◌, ℕ, ◌+◌, ◌<◌, ◌≤◌, true, false, List, get_or, ℤ, pos, negsuc, ◌+ℤ◌, sym, refl, ap, ◌∙◌, subst, arith, w16, SFits, to_z, of_z}
 use native.Mathlib.Decide.{ℕ_discrete}
 use mathlib.Core.Bool.{and-false, and-eq-true_iff, false≢true}
 use mathlib.Core.List.{Memᴰ}

@@ -14,7 +14,14 @@ fn clear_words(words: &mut [u16])
 }
 
 // Clears bank k and its sum, or 11, 12, 13, 15 and the memory and the sums as they were.
-pub fn clear(p: Plan, w: u32, h: u32, mem: &mut [u16], sums: &mut [u64], k: u64) -> Result<(), Refusal>
+pub fn clear(
+    p: Plan,
+    w: u32,
+    h: u32,
+    mem: &mut [u16],
+    sums: &mut [u64],
+    k: u64,
+) -> Result<(), Refusal>
     ensures answer { result ≡ (clear p w h (lent mem.old sums.old) k).answer }
     ensures left { lent mem.new sums.new ≡ (clear p w h (lent mem.old sums.old) k).content }
 {

@@ -63,7 +63,15 @@ fn is_ring(tested: Tested, w: u32, h: u32) -> bool
 }
 
 // The edge: 14 for a pattern moved to (i, j), or 18 for a ring fetch.
-fn edge_outcome(ring: bool, t: Pattern, p: Tested, w: u32, h: u32, i: i16, j: i16) -> Result<(), Refusal>
+fn edge_outcome(
+    ring: bool,
+    t: Pattern,
+    p: Tested,
+    w: u32,
+    h: u32,
+    i: i16,
+    j: i16,
+) -> Result<(), Refusal>
     requires { (h ≤ 4096) × (t.used ≤ 64) }
     ensures { result ≡ outcome_of (edge_test ring p.plan w h (moved t (at i j))) }
 {

@@ -19,7 +19,13 @@ fn picture_depth(p: Plan, w: u32, h: u32, words: usize) -> Result<u64, Refusal>
 }
 
 // The same with so many entries for the sums: 11, 12, 13, also where they are too few.
-pub(crate) fn lent_depth(p: Plan, w: u32, h: u32, words: usize, entries: usize) -> Result<u64, Refusal>
+pub(crate) fn lent_depth(
+    p: Plan,
+    w: u32,
+    h: u32,
+    words: usize,
+    entries: usize,
+) -> Result<u64, Refusal>
     ensures { result ≡ lent_depth p w h (record { words = words; entries = entries }) }
 {
     let depth = picture_depth(p, w, h, words)?;
@@ -38,7 +44,14 @@ pub(crate) fn picture_outcome(p: Plan, w: u32, h: u32, words: usize) -> Result<(
 }
 
 // The place of the word of the pixel (i, j), or 11, 12, 13, 14.
-pub(crate) fn word_place(p: Plan, w: u32, h: u32, words: usize, i: i16, j: i16) -> Result<u64, Refusal>
+pub(crate) fn word_place(
+    p: Plan,
+    w: u32,
+    h: u32,
+    words: usize,
+    i: i16,
+    j: i16,
+) -> Result<u64, Refusal>
     ensures { result ≡ word_place p w h words (at i j) }
 {
     picture_outcome(p, w, h, words)?;

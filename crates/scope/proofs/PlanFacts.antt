@@ -1,6 +1,6 @@
 -- What the tests of a plan, of a picture's sides and of a pixel say in plain numbers, with the bounds that the code rests on.
 -- Assumes nothing.
-use Prim.Native.Nat.{ℕ, ◌+◌, ◌-◌, ◌*◌, ◌^◌, ◌≤◌, ◌<◌}
+use Prim.Native.Nat.{ℕ, ◌*◌, ◌^◌, ◌≤◌, ◌<◌}
 use native.Mathlib.Omega.{arith}
 use native.Mathlib.Nat.{le-mul_of_pos_right, mul_comm}
 use mathlib.Core.Path.{◌≡◌, refl, sym, ap, ap₂}
@@ -8,7 +8,7 @@ use mathlib.Core.Logic.Iff
 use mathlib.Core.Logic.{◌↔◌}
 use mathlib.Core.Bool.{true, false, ◌&&◌, false≢true}
 use lib.Dec.{ltb}
-use lib.IntN.{ℤ, pos, negsuc, nat_abs, ◌+ℤ◌, pos-ne-negsuc}
+use lib.IntN.{ℤ, pos, negsuc, nat_abs, pos-ne-negsuc}
 use lib.Signed.{mag, ◌≤ℤ◌, ◌<ℤ◌}
 use mir.Syntax.{Width, w16}
 use mir.Val.{SFits, to_z, of_z, hbits}

@@ -1,13 +1,9 @@
 -- `pictures::fetching::fetch_rest` meets its contract: the refusal of the first tests, that of the edge, or what is delivered.
 -- Assumes nothing.
 use mathlib.Core.Path.{◌∙◌}
-use Rattle.std.proofs.Common.{◌≡◌, ◌≤◌, length, ap}
-use mathlib.Core.Option.{none}
-use Rattle.scope.specs.Plans.{at}
-use Rattle.scope.specs.Calls.{picture_test, moved, edge_test}
+use Rattle.std.proofs.Common.{ap}
 use Rattle.scope.proofs.PlanFacts.{pixel_handed}
 use Rattle.scope.proofs.PlanFacts.{is_plan_iff}
-use Rattle.book.specs.Scan.{outcome_of}
 use Rattle.book.proofs.Outcomes.{refused_found, done_found_nothing}
 use Rattle.pictures.specs.Fetching.{found_by}
 use Rattle.checks.proofs.Chains.{handed_on}

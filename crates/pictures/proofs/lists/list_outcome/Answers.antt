@@ -1,6 +1,6 @@
 -- `pictures::lists::list_outcome` meets its contract.
 -- Assumes nothing.
-use Rattle.std.proofs.Common.{◌≡◌, sym, ◌∙◌, arith}
+use Rattle.std.proofs.Common.{sym, ◌∙◌, arith}
 use Rattle.checks.proofs.Chains.{handed_on}
 use Rattle.pictures.proofs.ListFaults.{listed_fault, listed_made, made_found, fault_found, fault_first, end_not_five, replies_short, list_right}
 use Rattle.pictures.proofs.lists.list_outcome.Goals as goal

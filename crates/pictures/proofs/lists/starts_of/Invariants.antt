@@ -1,7 +1,7 @@
 -- `pictures::lists::starts_of` meets its contract. The loop's invariant: the first n entries are filled.
 -- Assumes nothing.
 use Rattle.std.specs.Prelude.{Ok}
-use Rattle.std.proofs.Common.{ℕ, ◌-◌, ◌≤◌, replicate}
+use Rattle.std.proofs.Common.{ℕ, replicate}
 use Rattle.scope.specs.Plans.{pattern_at, pixels}
 use Rattle.scope.specs.Cycles.{clash_in_for}
 use Rattle.scope.specs.Calls.{clash_beside, fetch_first, fetch_start}

@@ -162,4 +162,3 @@ bounds-sums-n c = in-sums _ _ _ (lent c.args.mem.now c.args.sums.now) _ c.args.x
 
 pub bounds-sums-n-2 : goal.bounds-sums-n-2
 bounds-sums-n-2 c = in-sums _ _ _ (lent c.args.mem.now c.args.sums.now) _ c.args.x c.lent_depth.ensures c.in_ok-lent_depth.was (pixel_handed c.ranges.i c.ranges.j) c.place.ensures c.in_ok-at.was
-

@@ -1,6 +1,6 @@
 -- `scope::Plan::locate` meets its contract: 11, 12, then the pixel or 15.
 -- Assumes nothing.
-use Rattle.std.specs.Prelude.{Ok, Err}
+use Rattle.std.specs.Prelude.{Err}
 use Prim.Native.Nat.{ℕ}
 use mathlib.Core.Path.{◌∙◌, ◌≡◌}
 use mathlib.Core.Option.{some}
