@@ -7,7 +7,7 @@ use lib.ListN.{get_or-append}
 use lib.Seq.{drop-append_seam}
 use mathlib.Core.Option.{Option, none, some}
 use borrow.Author.Tests.{lt-leb, eqb-false}
-use Rattle.pictures.specs.Lists.{room_of, room_at, is_call, is_call_at, list_fault, list_test, listed_by}
+use Rattle.pictures.specs.Lists.{call_at, room_at, is_call_at, list_fault, list_test, listed_by}
 use Rattle.pictures.specs.Lists.{Listed}
 
 -- a list is answered as its test found
@@ -38,16 +38,6 @@ unfolding listed_by
 fault_found none e = let z : ◌≡◌ {A = ℕ} 0 1 = cc in absurd (omega arith)
 fault_found (some other) {fault} e = ap some (sym (ap (fault_or fault) e))
 
--- the call whose numbers begin at place k
-module _ (xs : List ℕ) (k : ℕ) where
-  pub call_at : is_call_at (drop k xs) ≡ is_call (get_or xs k 0) (get_or xs (k + 1) 0) (get_or xs (k + 2) 0) (get_or xs (k + 3) 0)
-  unfolding is_call_at
-  call_at = rw (get_or-drop, get_or-drop, get_or-drop, get_or-drop, add-zero k) refl
-
-  pub room_at_lem : room_at (drop k xs) ≡ room_of (get_or xs k 0) (get_or xs (k + 4) 0)
-  unfolding room_at
-  room_at_lem = rw (get_or-drop, get_or-drop, add-zero k) refl
-
 -- xs begins with the five numbers of a call
 pub record Begins (xs call others : List ℕ) : Type 0 where
   pub is : xs ≡ call ++ others
@@ -60,17 +50,17 @@ module _ {xs call others : List ℕ} (w : Begins xs call others) where
   first_at : (i : ℕ) → i < 5 → get_or xs i 0 ≡ get_or call i 0
   first_at i h = rw w.is (get_or-append call others 0 i (omega (arith, w.five)))
 
-  pub first_is_call : is_call_at xs ≡ is_call (get_or call 0 0) (get_or call 1 0) (get_or call 2 0) (get_or call 3 0)
+  pub first_is_call : is_call_at xs ≡ is_call_at call
   unfolding is_call_at
   first_is_call = rw (first_at 0 (omega arith), first_at 1 (omega arith), first_at 2 (omega arith), first_at 3 (omega arith)) refl
 
-  pub first_room : room_at xs ≡ room_of (get_or call 0 0) (get_or call 4 0)
+  pub first_call : (out : List ℕ) → call_at xs out ≡ call_at call out
+  unfolding call_at
+  first_call out = rw (first_at 0 (omega arith), first_at 1 (omega arith), first_at 2 (omega arith), first_at 3 (omega arith)) refl
+
+  pub first_room : room_at xs ≡ room_at call
   unfolding room_at
   first_room = rw (first_at 0 (omega arith), first_at 4 (omega arith)) refl
-
-  -- where they begin at place k of longer ones
-  pub first_in : (numbers : List ℕ) (k : ℕ) → xs ≡ drop k numbers → (i : ℕ) → i < 5 → get_or numbers (k + i) 0 ≡ get_or call i 0
-  first_in numbers k e i h = sym (get_or-drop k numbers i 0) ∙ ap (λ (ys : List ℕ). get_or ys i 0) (sym e) ∙ first_at i h
 
   pub after_first : drop 5 xs ≡ others
   after_first = ap (λ (n : ℕ). drop n xs) (sym w.five) ∙ rw w.is (drop-append_seam call others)
@@ -104,7 +94,15 @@ module _ (k : ℕ) (xs : List ℕ) (room : ℕ) where
       let last : suc n - 1 ≡ n = omega arith in
       rw (last, list_fault, e, le-leb (room_at xs) room fits) refl
 
--- Where nothing is wrong with n calls, the room of the first is there, and nothing is wrong with the others.
+-- Where nothing is wrong with n calls, the first is one,
+pub first_is_one : (n k : ℕ) (xs : List ℕ) (room : ℕ) → 0 < n → list_fault n k xs room ≡ none → is_call_at xs ≡ true
+first_is_one n k xs room h None-found = by_test (is_call_at xs) refl
+  where
+    by_test : (a : Bool) → is_call_at xs ≡ a → is_call_at xs ≡ true
+    by_test false e = absurd (no_fault (sym None-found ∙ first_no_call k xs room n h e))
+    by_test true e = e
+
+-- its room is there, and nothing is wrong with the others.
 pub fault_goes_on :
     (n k : ℕ) (xs : List ℕ) (room : ℕ) → 0 < n → list_fault n k xs room ≡ none
     → (room_at xs ≤ room) × (list_fault (n - 1) (k + 5) (drop 5 xs) (room - room_at xs) ≡ none)

@@ -3,7 +3,7 @@
 -- Assumes nothing.
 use Rattle.pictures.specs.declared.lists.ListFault.{ListFault}
 use Rattle.std.specs.Prelude.{Ok, Err}
-use Rattle.std.proofs.Common.{◌≡◌, ℕ, zero, suc, ◌+◌, ◌-◌, ◌*◌, ◌/◌, ◌<◌, ◌≤◌, min, List, [], ◌∷◌, ◌++◌, length, get_or, take, drop, sym, refl, ap, ◌∙◌, ap₂, append-nil, add-zero, arith, length-drop, drop_of_length-le, length-take-le, get_or-drop, take_all, drop-drop}
+use Rattle.std.proofs.Common.{◌≡◌, ℕ, zero, suc, ◌+◌, ◌-◌, ◌*◌, ◌/◌, ◌<◌, ◌≤◌, true, min, List, [], ◌∷◌, ◌++◌, length, get_or, take, drop, sym, refl, ap, ◌∙◌, ap₂, append-nil, arith, length-drop, drop_of_length-le, length-take-le, take_all, drop-drop}
 use native.Mathlib.Decide.{dec_lt}
 use mathlib.Core.Option.{Option, none, some}
 use mathlib.Core.List.{flat_map}
@@ -11,14 +11,14 @@ use Rattle.scope.specs.Search.{state_after, replies_of}
 use Rattle.scope.specs.Banks.{over_start}
 use Rattle.scope.specs.Calls.{Lent}
 use Rattle.scope.specs.promises.Demand.{Call, Setting, after, reply, run, replies}
-use Rattle.pictures.specs.Lists.{call_of, call_at, room_of, room_at, calls_from, calls_of, list_fault, list_test, listed_by, left_by, reply_numbers, output_of, Buffers, buffers, made_list, run_list, BegunAt, no_start, Begun, OneMade}
+use Rattle.pictures.specs.Lists.{call_of, call_at, room_of, room_at, calls_from, calls_of, list_fault, list_test, listed_by, left_by, reply_numbers, output_of, Buffers, buffers, made_list, run_list, BegunAt, no_start, Begun, OneMade, is_call_at}
 use Rattle.checks.proofs.Chains.{Gives}
 use Rattle.scope.specs.declared.Book.{Book}
 use Rattle.scope.specs.declared.Plan.{Plan}
 use Rattle.finder.specs.declared.clash.Suited.{Suited}
 use Rattle.pictures.proofs.Starts.{starts_alike}
 use Rattle.pictures.proofs.ReplyRows.{length_reply, row_long}
-use Rattle.pictures.proofs.ListFaults.{room_at_lem, fault_goes_on, Begins, first_long, first_in, after_first}
+use Rattle.pictures.proofs.ListFaults.{first_is_one, fault_goes_on, Begins, first_long, first_is_call, first_call, first_room, after_first}
 use Rattle.pictures.proofs.Stretches.{over_from, nothing_put, put_after, after_stretch, stretch_length}
 use Rattle.pictures.proofs.MadeCalls.{output_own}
 
@@ -35,13 +35,6 @@ calls_step (suc n) xs outs h =
 no_calls : (n : ℕ) (xs outs : List ℕ) → n ≡ 0 → calls_from n xs outs ≡ []
 unfolding calls_from
 no_calls n xs outs e = rw e refl
-
--- the call whose numbers begin at place k
-call_of_lem :
-    (xs : List ℕ) (k : ℕ) (out : List ℕ)
-    → call_at (drop k xs) out ≡ call_of (get_or xs k 0) (get_or xs (k + 1) 0) (get_or xs (k + 2) 0) (get_or xs (k + 3) 0) out
-unfolding call_at
-call_of_lem xs k out = rw (get_or-drop, get_or-drop, get_or-drop, get_or-drop, add-zero k) refl
 
 -- The calls `rest` are left of `calls`: memory, outputs from place `at` and replies from place q on.
 record Midway
@@ -195,14 +188,10 @@ module _ (g : Setting) (numbers : List ℕ) (l₀ : Lent) (outs₀ rows₀ : Lis
           rows_size : length (take q rows ++ (row ++ drop 12 (drop q rows))) ≡ length rows
           rows_size = stretch_length rows row q 12 row_fits (row_long made)
 
-      -- The same as the loop has it: the room and the call's numbers read from the list, the outputs lent on from `at` to the end
-      -- of the call's own, the replies lent on from q to their end.
-      module _ {own : ℕ} (own_is : own ≡ room_of (get_or numbers k 0) (get_or numbers (k + 4) 0)) where
+      -- The same as the loop has it: the outputs lent on from `at` to the end of the call's own, the replies lent on from q to their end.
+      module _ {own : ℕ} (own_room : own ≡ r) where
         abbrev part : List ℕ
         part = take (at + own - at) (drop at outs)
-
-        own_room : own ≡ r
-        own_room = own_is ∙ sym (room_at_lem numbers k)
 
         part_is : at + own - at ≡ r
         part_is = omega (arith, own_room)
@@ -215,16 +204,14 @@ module _ (g : Setting) (numbers : List ℕ) (l₀ : Lent) (outs₀ rows₀ : Lis
 
         pub going_on :
             {row end tail : List ℕ} {next : Lent} → length next.memory ≡ length l.memory → length next.sums ≡ length l.sums
-            → OneMade g l
-            (call_of (get_or numbers k 0) (get_or numbers (k + 1) 0) (get_or numbers (k + 2) 0) (get_or numbers (k + 3) 0) part)
-            part row next end
+            → OneMade g l (call_at xs part) part row next end
             → length end ≡ length part
             → tail ≡ over_start row (take (length rows - q) (drop q rows))
             → Goes (left - 1) (k + 5) (q + 12) (at + own) next (take at outs ++ (end ++ drop (at + own - at) (drop at outs)))
             (take q rows ++ (tail ++ drop (length rows - q) (drop q rows)))
         unfolding over_start
         going_on {row} {end} {tail} {next} mem_long sums_long made end-long tail-is =
-            let own_made : OneMade g l (call_at xs old) old row next end = rw (call_of_lem numbers k old) (rw part_is at made) in
+            let own_made : OneMade g l (call_at xs old) old row next end = rw part_is at made in
             let twelve_long : length row ≡ 12 = row_long own_made in
             let tail_row : tail ++ drop (length rows - q) (drop q rows) ≡ row ++ drop 12 (drop q rows) =
             ap₂ {C = List ℕ} ◌++◌ (tail-is ∙ ap₂ (λ (n : ℕ) (ys : List ℕ). row ++ drop n ys) twelve_long rows_part) no_rows_after
@@ -254,25 +241,24 @@ module _ (g : Setting) (numbers : List ℕ) (l₀ : Lent) (outs₀ rows₀ : Lis
       pub turn_left : 0 < length rest / 5
       turn_left = omega (arith, first_long b)
 
-      number : (i : ℕ) → i < 5 → get_or numbers (5 * count + i) 0 ≡ get_or call i 0
-      number = first_in b numbers (5 * count) w.rest_is
+      -- the numbers are a call's
+      pub turn_call : is_call_at call ≡ true
+      turn_call =
+          sym (first_is_call b) ∙ ap is_call_at w.rest_is ∙ first_is_one (length rest / 5) (5 * count) (drop (5 * count) numbers) (length outs - at) turn_left w.going.no_fault
 
-      first-number : get_or numbers (5 * count) 0 ≡ get_or call 0 0
-      first-number = ap (λ (k : ℕ). get_or numbers k 0) (sym (add-zero (5 * count))) ∙ number 0 (omega arith)
-
-      module _ {own : ℕ} (own_is : own ≡ room_of (get_or call 0 0) (get_or call 4 0)) where
-        own_in : own ≡ room_of (get_or numbers (5 * count) 0) (get_or numbers (5 * count + 4) 0)
-        own_in = rw (first-number, number 4 (omega arith)) own_is
+      module _ {own : ℕ} (own_is : own ≡ room_at call) where
+        own_in : own ≡ room_at (drop (5 * count) numbers)
+        own_in = own_is ∙ sym (first_room b) ∙ ap room_at w.rest_is
 
         -- the output of the call ends inside
         pub turn_room : at + own ≤ length outs
-        turn_room = omega (arith, own_in, room_at_lem numbers (5 * count), room_end g numbers l₀ outs₀ rows₀ w.going turn_left)
+        turn_room = omega (arith, own_in, room_end g numbers l₀ outs₀ rows₀ w.going turn_left)
 
         pub turns_on :
             {next : ℕ} {row end tail : List ℕ} {after : Lent} → next ≡ count + 1 → length after.memory ≡ length l.memory
             → length after.sums ≡ length l.sums
             → (let part : List ℕ = take (at + own - at) (drop at outs) in
-            OneMade g l (call_of (get_or call 0 0) (get_or call 1 0) (get_or call 2 0) (get_or call 3 0) part) part row after end)
+            OneMade g l (call_at call part) part row after end)
             → length end ≡ length (take (at + own - at) (drop at outs))
             → tail ≡ over_start row (take (length rows - 12 * count) (drop (12 * count) rows))
             → Turns g numbers l₀ outs₀ rows₀ next others (at + own) after (take at outs ++ (end ++ drop (at + own - at) (drop at outs)))
@@ -286,13 +272,13 @@ module _ (g : Setting) (numbers : List ℕ) (l₀ : Lent) (outs₀ rows₀ : Lis
               going =
                   rw (left, place, reply)
                   (going_on g numbers l₀ outs₀ rows₀ w.going turn_left own_in mem_long sums_long
-                  (rw (first-number, number 1 (omega arith), number 2 (omega arith), number 3 (omega arith)) made) end-long tail-is);
+                  (rw (← w.rest_is, first_call b) made) end-long tail-is);
             }
 
--- What was found out once holds on a memory of the same length, and tells what a fetch of any pattern number begins with.
-module _ (book : Book) (r : ℕ) (p : Plan) (W H : ℕ) {words memory : ℕ} (n : ℕ) (starts : List Suited) where
-  pub start_known : {s : ℕ} → memory ≡ words → Begun book r p W H words starts → s ≡ min n 16 → BegunAt book r p W H memory n (get_or starts s no_start)
-  start_known {s} long b e = rw long (by_number (dec_lt n 16))
+-- What was found out once tells what a fetch of any pattern number begins with.
+module _ (book : Book) (r : ℕ) (p : Plan) (W H : ℕ) {words : ℕ} (n : ℕ) (starts : List Suited) where
+  pub start_known : {s : ℕ} → Begun book r p W H words starts → s ≡ min n 16 → BegunAt book r p W H words n (get_or starts s no_start)
+  start_known {s} b e = by_number (dec_lt n 16)
     where
       by_number : Dec (n < 16) → BegunAt book r p W H words n (get_or starts s no_start)
       by_number (yes h) = let is : s ≡ n = omega arith in rw is (b.found n (omega arith))

@@ -2,10 +2,9 @@
 -- Assumes nothing.
 use Rattle.scope.specs.declared.Refusal.{Refusal}
 use Rattle.std.specs.Prelude.{Result}
-use Rattle.std.proofs.Common.{◌≡◌, ℕ, zero, suc, ◌%◌, ◌<◌, ◌≤◌, Bool, true, false, cond, ◌||◌, eqb, ltb, leb, ◌⊎◌, List, [], ◌∷◌, length, get_or, take, drop, sym, refl, ap, ◌∙◌, subst, ap₂, inl, inr, arith, ne_eqb, le-leb}
+use Rattle.std.proofs.Common.{◌≡◌, ℕ, zero, suc, ◌%◌, Bool, true, false, cond, ◌||◌, eqb, ltb, leb, ◌⊎◌, List, [], ◌∷◌, length, get_or, take, drop, sym, refl, ap, ◌∙◌, subst, ap₂, inl, inr, arith, ne_eqb, le-leb}
 use mathlib.Core.List.Memᴰ
 use mathlib.Core.List.{Memᴰ}
-use borrow.Author.Tests.{lt-leb}
 use Rattle.integers.proofs.Comparisons.{ltb_false_iff, or_false_iff}
 use Rattle.scope.specs.Plans.{Pixel, at}
 use Rattle.scope.specs.Numbers.{with_positions, of_result, of_fetch}
@@ -56,9 +55,9 @@ each_call P Q further first (suc n) xs outs q c m =
     by_place (inl e) r = subst P (sym e) (first xs outs q)
     by_place (inr t) r = r t
 
-module _ (book : Book) (r : ℕ) (p : Plan) (W H : ℕ) (l : Lent) (kind i j n : ℕ) (out : List ℕ) where
-  abbrev Makes : List ℕ → Lent → List ℕ → Type 0
-  Makes row next end = OneMade (setting book r p W H) l (call_of kind i j n out) out row next end
+module _ (book : Book) (r : ℕ) (p : Plan) (W H : ℕ) (l : Lent) (out : List ℕ) where
+  abbrev Makes : Call → List ℕ → Lent → List ℕ → Type 0
+  Makes call row next end = OneMade (setting book r p W H) l call out row next end
 
   abbrev told : Result Unit Refusal → List ℕ
   told o = twelve (answer_numbers (λ x. []) (of_result o))
@@ -67,76 +66,58 @@ module _ (book : Book) (r : ℕ) (p : Plan) (W H : ℕ) (l : Lent) (kind i j n :
   numbered c = twelve (answer_numbers (λ m. m ∷ []) (of_result c))
 
   pub clear_made :
-      {answer : Result Unit Refusal} {next : Lent} {row : List ℕ} → kind ≡ 1 → Gives (Calls.clear p W H l n) answer next → row ≡ told answer
-      → Makes row next out
-  unfolding call_of reply write_result after reply_numbers
-  clear_made is (answer, content) row_is = rw is (record { row_is = row_is ∙ ap told answer; picture_is = content; output_is = refl })
+      {answer : Result Unit Refusal} {next : Lent} {row : List ℕ} (bank : ℕ) → Gives (Calls.clear p W H l bank) answer next → row ≡ told answer
+      → Makes (write (clear bank)) row next out
+  unfolding reply write_result after reply_numbers
+  clear_made bank (answer, content) row_is = record { row_is = row_is ∙ ap told answer; picture_is = content; output_is = refl }
 
   -- the calls on the sums
   pub sums_made :
-      {answer : Result Unit Refusal} {next : Lent} {row : List ℕ} → kind ≡ 5 → Gives (Calls.make_sums p W H l) answer next → row ≡ told answer
-      → Makes row next out
-  unfolding call_of reply write_result after reply_numbers
-  sums_made is (answer, content) row_is = rw is (record { row_is = row_is ∙ ap told answer; picture_is = content; output_is = refl })
+      {answer : Result Unit Refusal} {next : Lent} {row : List ℕ} → Gives (Calls.make_sums p W H l) answer next → row ≡ told answer
+      → Makes (write make_sums) row next out
+  unfolding reply write_result after reply_numbers
+  sums_made (answer, content) row_is = record { row_is = row_is ∙ ap told answer; picture_is = content; output_is = refl }
 
   pub walk_made :
-      {answer : Result ℕ Refusal} {row : List ℕ} → kind ≡ 6 → answer ≡ Calls.sum p W H l.memory n → row ≡ numbered answer → Makes row l out
-  unfolding call_of reply read_reply after reply_numbers
-  walk_made is answer row_is = rw is (record { row_is = row_is ∙ ap numbered answer; picture_is = refl; output_is = refl })
+      {answer : Result ℕ Refusal} {row : List ℕ} (bank : ℕ) → answer ≡ Calls.sum p W H l.memory bank → row ≡ numbered answer
+      → Makes (read (sum bank)) row l out
+  unfolding reply read_reply after reply_numbers
+  walk_made bank answer row_is = record { row_is = row_is ∙ ap numbered answer; picture_is = refl; output_is = refl }
 
   pub read_made :
-      {answer : Result ℕ Refusal} {row : List ℕ} → 4 < kind → (kind ≡ 5 → ⊥) → (kind ≡ 6 → ⊥) → answer ≡ Calls.read_sum p l.sums n
-      → row ≡ numbered answer
-      → Makes row l out
-  unfolding call_of reply read_reply after reply_numbers
-  read_made above no-make no_Walk answer row_is =
-      rw (
-        ne_eqb kind 0 (λ e. omega arith),
-        ne_eqb kind 1 (λ e. omega arith),
-        ne_eqb kind 2 (λ e. omega arith),
-        lt-leb kind 4 above,
-        ne_eqb kind 5 no-make,
-        ne_eqb kind 6 no_Walk,
-      ) (record { row_is = row_is ∙ ap numbered answer; picture_is = refl; output_is = refl })
+      {answer : Result ℕ Refusal} {row : List ℕ} (bank : ℕ) → answer ≡ Calls.read_sum p l.sums bank → row ≡ numbered answer
+      → Makes (read (read_sum bank)) row l out
+  unfolding reply read_reply after reply_numbers
+  read_made bank answer row_is = record { row_is = row_is ∙ ap numbered answer; picture_is = refl; output_is = refl }
 
-  -- the pixel that was handed on is that of the numbers
-  module _ {v : Pixel} (handed : v ≡ at (coordinate_of i) (coordinate_of j)) where
+  -- v, the pixel that was handed on, is the call's
+  module _ {u v : Pixel} (handed : v ≡ u) where
     pub store_made :
-        {answer : Result Unit Refusal} {next : Lent} {row : List ℕ} → kind ≡ 0 → Gives (Calls.store p W H l v (n % 65536)) answer next
-        → row ≡ told answer
-        → Makes row next out
-    unfolding call_of reply write_result after reply_numbers
-    store_made is gives row_is =
-        let (answer, content) = same_gives (ap (λ (u : Pixel). Calls.store p W H l u (n % 65536)) handed) gives in
-        rw is (record { row_is = row_is ∙ ap told answer; picture_is = content; output_is = refl })
+        {answer : Result Unit Refusal} {next : Lent} {row : List ℕ} (x : ℕ) → Gives (Calls.store p W H l v x) answer next → row ≡ told answer
+        → Makes (write (store u x)) row next out
+    unfolding reply write_result after reply_numbers
+    store_made x gives row_is =
+        let (answer, content) = same_gives (ap (λ (w : Pixel). Calls.store p W H l w x) handed) gives in
+        record { row_is = row_is ∙ ap told answer; picture_is = content; output_is = refl }
 
     pub load_made :
-        {word : Result ℕ Refusal} {row : List ℕ} → kind ≡ 2 → word ≡ Calls.load p W H l.memory v
-        → row ≡ twelve (answer_numbers (λ m. m ∷ []) (of_result word))
-        → Makes row l out
-    unfolding call_of reply read_reply after reply_numbers
-    load_made is word row_is =
-        rw is (record {
-          row_is =
-              row_is
-              ∙ ap (λ (x : Result ℕ Refusal). twelve (answer_numbers (λ m. m ∷ []) (of_result x))) (word ∙ ap (Calls.load p W H l.memory) handed);
-          picture_is = refl;
-          output_is = refl;
-        })
+        {word : Result ℕ Refusal} {row : List ℕ} → word ≡ Calls.load p W H l.memory v → row ≡ numbered word
+        → Makes (read (load u)) row l out
+    unfolding reply read_reply after reply_numbers
+    load_made word row_is =
+        record { row_is = row_is ∙ ap numbered (word ∙ ap (Calls.load p W H l.memory) handed); picture_is = refl; output_is = refl }
 
     -- a fetch, with what it begins with and the record that stands for its pattern
     pub fetch_made :
-        {start : Suited} {t : Pattern} {counted : Result ℕ Refusal} {end row : List ℕ}
-        → (kind ≡ 0 → ⊥) → (kind ≡ 1 → ⊥) → (kind ≡ 2 → ⊥) → kind ≤ 4
+        {start : Suited} {t : Pattern} {counted : Result ℕ Refusal} {end row : List ℕ} (ring : Bool) (n : ℕ)
         → BegunAt book r p W H (length l.memory) n start → t ≡ entry_for book n
-        → Gives (fetch_rest (found_by start.outcome) (eqb kind 4) t p W H l.memory v out) counted end
+        → Gives (fetch_rest (found_by start.outcome) ring t p W H l.memory v out) counted end
         → row ≡ twelve (answer_numbers (λ m. m ∷ []) (of_fetch r (record { counted = counted; positions = start.positions })))
-        → Makes row l end
-    unfolding call_of reply read_reply after reply_numbers
-    fetch_made {start} {t} {counted} {end} {row} no_store no-clear no-load below begun entry gives row_is =
-        let ((number, positions), words) =
-        fetched_by_entry (eqb kind 4) book r p W H l.memory n (at (coordinate_of i) (coordinate_of j)) out begun entry handed gives in
-        rw (ne_eqb kind 0 no_store, ne_eqb kind 1 no-clear, ne_eqb kind 2 no-load, le-leb kind 4 below) (record {
+        → Makes (read (fetch ring n u out)) row l end
+    unfolding reply read_reply after reply_numbers
+    fetch_made {start} {t} {counted} {end} {row} ring n begun entry gives row_is =
+        let ((number, positions), words) = fetched_by_entry ring book r p W H l.memory n u out begun entry handed gives in
+        record {
           row_is =
               row_is
               ∙ ap₂ (λ (c : Result ℕ Refusal) (es : List ℕ). twelve (answer_numbers (λ m. m ∷ []) (with_positions (take (suc r) es) (of_result c))))
@@ -144,7 +125,7 @@ module _ (book : Book) (r : ℕ) (p : Plan) (W H : ℕ) (l : Lent) (kind i j n :
               positions;
           picture_is = refl;
           output_is = words;
-        })
+        }
 
 -- The output that a call leaves is its reply's own: only a fetch has room.
 abbrev OwnOutput : Setting → Lent → List ℕ → Call → Type 0

@@ -5,6 +5,8 @@
 -- number in two's complement; the number is below 65536, also of a call that has no use for it. The fourth number of a load and of kind 5,
 -- and the fifth of every call but a fetch, are not looked at. Each fetch has the next `room` words of the outputs as "an output of its own".
 -- Assumes nothing.
+use Rattle.pictures.specs.declared.lists.ListCall.{ListCall}
+use Rattle.pictures.specs.declared.lists.ListCall.TheVariants.{Store, Clear, Load, Fetch, MakeSums, Sum, ReadSum}
 use Rattle.pictures.specs.declared.lists.ListFault.{ListFault}
 use Rattle.std.specs.Prelude.{◌≡◌, ℕ, zero, suc, ◌+◌, ◌-◌, ◌*◌, ◌/◌, ◌%◌, ◌<◌, Bool, true, false, cond, not, ◌&&◌, ◌||◌, List, [], ◌∷◌, ◌++◌, length, take, drop, replicate, ℤ, pos, ◌-ℤ◌, ◌==◌, nat_le, nat_lt, slice_index, slice_index_or, Ok, Result, Err}
 use Rattle.std.proofs.Math.Option.{Option, none, some}
@@ -69,6 +71,32 @@ is_call kind i j n = nat_le kind 7 && nat_lt i 65536 && nat_lt j 65536 && (nat_l
 unfoldable pub is_call_at : List ℕ → Bool
 unfolding is_call
 is_call_at xs = is_call (slice_index xs 0) (slice_index xs 1) (slice_index xs 2) (slice_index xs 3)
+
+-- What the code reads of a call's five numbers: the call, with this output if it is a fetch, and its room
+unfoldable pub call_read : ListCall → List ℕ → Call
+unfolding at
+call_read (Store i j x) out = write (store (at i j) x)
+call_read (Clear bank) out = write (clear bank)
+call_read (Load i j) out = read (load (at i j))
+call_read (Fetch ring i j pattern room) out = read (fetch ring pattern (at i j) out)
+call_read MakeSums out = write make_sums
+call_read (Sum bank) out = read (sum bank)
+call_read (ReadSum bank) out = read (read_sum bank)
+
+unfoldable pub room_read : ListCall → ℕ
+room_read (Store i j x) = 0
+room_read (Clear bank) = 0
+room_read (Load i j) = 0
+room_read (Fetch ring i j pattern room) = room
+room_read MakeSums = 0
+room_read (Sum bank) = 0
+room_read (ReadSum bank) = 0
+
+-- The numbers are those of a call, and it was read.
+pub record IsRead (xs : List ℕ) (c : ListCall) : Type 0 where
+  pub numbers : is_call_at xs ≡ true
+  pub call : (out : List ℕ) → call_read c out ≡ call_at xs out
+  pub room : room_read c ≡ room_at xs
 
 -- What is wrong with n calls whose numbers begin at place k, with `room` words for their outputs: the first numbers that are no
 -- call's, or the first fetch whose room is not there

@@ -1,11 +1,9 @@
 // A list of calls in numbers, made one after the other. The book, and whether the plan suits each pattern, are
 // tested once.
-ghost use Rattle.std.specs.Prelude.{◌≡◌, ℕ, ◌*◌, ◌/◌, ◌<◌, ◌≤◌, min, List, length};
+ghost use Rattle.std.specs.Prelude.{◌≡◌, ◌*◌, ◌/◌, ◌≤◌, false, min, length, MatchOption};
 ghost use Rattle.std.proofs.Math.Option.{none};
-ghost use Rattle.scope.specs.declared.Book.{Book};
-ghost use Rattle.scope.specs.Calls.{lent, picture_test};
-ghost use Rattle.pictures.specs.Fetching.{found_by, entry_for};
-ghost use Rattle.pictures.specs.Lists.{setting, coordinate_of, call_of, room_of, is_call, list_fault, list_test, listed_by, buffers, made_list, run_list, SumsDemanded, BegunAt, Begun, OneMade};
+ghost use Rattle.scope.specs.Calls.{lent};
+ghost use Rattle.pictures.specs.Lists.{setting, coordinate_of, call_read, room_read, is_call_at, IsRead, list_fault, list_test, listed_by, buffers, made_list, run_list, SumsDemanded, Begun, OneMade};
 
 use crate::banks::{clear, sum};
 use crate::fetching::{fetch_rest, start_answer};
@@ -15,7 +13,7 @@ use crate::sums::{make_sums, read_sum};
 use crate::words::{load, store};
 use book::entry_number;
 use finder::{Suited, book_outcome};
-use scope::{Book, FetchAnswer, Pattern, Plan};
+use scope::{Book, FetchAnswer, Plan};
 
 // Why a list was not made, and nothing changed: the numbers from this place on are no call's, or the outputs or the replies are too
 // short.
@@ -32,20 +30,88 @@ fn coordinate(x: u64) -> i16
     ((x % 65536) as u16).cast_signed()
 }
 
-// The room of a call's output.
-#[tactic(auto, unfolding(crate::specs::Lists::room_of))]
-fn room_of(kind: u64, room: u64) -> u64
-    ensures { result ≡ room_of kind room }
-{
-    if 3 <= kind && kind <= 4 { room } else { 0 }
+// A call of a list. Only a fetch has room for an output.
+#[derive(Clone, Copy)]
+enum ListCall {
+    Store {
+        i: i16,
+        j: i16,
+        x: u16,
+    },
+    Clear {
+        bank: u64,
+    },
+    Load {
+        i: i16,
+        j: i16,
+    },
+    Fetch {
+        ring: bool,
+        i: i16,
+        j: i16,
+        pattern: u64,
+        room: u64,
+    },
+    MakeSums,
+    Sum {
+        bank: u64,
+    },
+    ReadSum {
+        bank: u64,
+    },
 }
 
-// Whether these are the numbers of a call.
-#[tactic(auto, unfolding(crate::specs::Lists::is_call))]
-fn is_call(kind: u64, i: u64, j: u64, n: u64) -> bool
-    ensures { result ≡ is_call kind i j n }
-{
-    kind <= 7 && i < 65536 && j < 65536 && (1 <= kind || n < 65536)
+impl ListCall {
+    // The call of five numbers, as C hands them in: its kind, its column and row, its word, bank or pattern, and its room. None where
+    // they are no call's.
+    fn read(numbers: &[u64]) -> Option<ListCall>
+        requires { length numbers.now ≡ 5 }
+        ensures { MatchOption result (is_call_at numbers.now ≡ false) (λ call. IsRead numbers.now call) }
+    {
+        let kind = numbers[0];
+        let column = numbers[1];
+        let row = numbers[2];
+        let n = numbers[3];
+        let room = numbers[4];
+        if 65535 < column {
+            return None;
+        }
+        if 65535 < row {
+            return None;
+        }
+        let i = coordinate(column);
+        let j = coordinate(row);
+        match kind {
+            0 => Some(ListCall::Store {
+                i,
+                j,
+                x: u16::try_from(n).ok()?,
+            }),
+            1 => Some(ListCall::Clear { bank: n }),
+            2 => Some(ListCall::Load { i, j }),
+            3 | 4 => Some(ListCall::Fetch {
+                ring: kind == 4,
+                i,
+                j,
+                pattern: n,
+                room,
+            }),
+            5 => Some(ListCall::MakeSums),
+            6 => Some(ListCall::Sum { bank: n }),
+            7 => Some(ListCall::ReadSum { bank: n }),
+            _ => None,
+        }
+    }
+
+    // The room of its output.
+    fn room(self) -> u64
+        ensures { result ≡ room_read self }
+    {
+        match self {
+            ListCall::Fetch { room, .. } => room,
+            _ => 0,
+        }
+    }
 }
 
 // The first numbers that are no call's, or the first fetch whose room is not there.
@@ -53,12 +119,11 @@ fn list_fault(numbers: &[u64], outs: usize) -> Result<(), ListFault>
     ensures { result ≡ listed_by (list_fault (length numbers.now / 5) 0 numbers.now outs) }
 {
     let mut room = outs;
-    for (n, call) in numbers.chunks_exact(5).enumerate() {
-        let kind = call[0];
-        if !is_call(kind, call[1], call[2], call[3]) {
+    for (n, five) in numbers.chunks_exact(5).enumerate() {
+        let Some(call) = ListCall::read(five) else {
             return Err(ListFault::NotCalls((5 * n) as u64));
-        }
-        let own = room_of(kind, call[4]);
+        };
+        let own = call.room();
         if (room as u64) < own {
             return Err(ListFault::Short);
         }
@@ -108,57 +173,45 @@ fn start_number(n: u64) -> usize
     n.min(16) as usize
 }
 
-// Makes a call on the sums, of kind 5, 6 or 7: makes them afresh, walks bank n, or reads its sum.
-fn sums_call(p: Plan, w: u32, h: u32, mem: &[u16], sums: &mut [u64], kind: u64, n: u64) -> [u64; 12]
-    requires { 4 < kind }
-    ensures { (book : Book) (r i j : ℕ) (out : List ℕ) → OneMade (setting book r p w h) (lent mem.now sums.old) (call_of kind i j n out) out result (lent mem.now sums.new) out }
-{
-    if kind == 5 {
-        return answer_row(make_sums(p, w, h, mem, sums));
-    }
-    if kind == 6 {
-        return answer_row(sum(p, w, h, mem, n));
-    }
-    answer_row(read_sum(p, sums, n))
-}
-
-// Makes the call of these numbers. Only a fetch uses the output, what it begins with and the record of its pattern.
+// Makes a call. Only a fetch uses the output, what it begins with and the record of its pattern.
 fn make_call(
-    start: Suited,
-    t: Pattern,
+    book: &Book,
+    starts: &[Suited; 17],
     r: u32,
     p: Plan,
     w: u32,
     h: u32,
     mem: &mut [u16],
     sums: &mut [u64],
-    kind: u64,
-    i: u64,
-    j: u64,
-    n: u64,
+    call: ListCall,
     out: &mut [u16],
 ) -> [u64; 12]
-    requires { (found_by start.outcome ≡ none → (picture_test p w h (length mem.old) ≡ none) × (t.used ≤ 64)) × (length start.positions ≡ 9) }
-    ensures { (book : Book) → BegunAt book r p w h (length mem.old) n start → t ≡ entry_for book n → OneMade (setting book r p w h) (lent mem.old sums.old) (call_of kind i j n out.old) out.old result (lent mem.new sums.new) out.new }
+    requires { Begun book.now r p w h (length mem.old) starts.now }
+    ensures { OneMade (setting book.now r p w h) (lent mem.old sums.old) (call_read call out.old) out.old result (lent mem.new sums.new) out.new }
 {
-    if kind == 1 {
-        return answer_row(clear(p, w, h, mem, sums, n));
+    match call {
+        ListCall::Store { i, j, x } => answer_row(store(p, w, h, mem, sums, i, j, x)),
+        ListCall::Clear { bank } => answer_row(clear(p, w, h, mem, sums, bank)),
+        ListCall::Load { i, j } => answer_row(load(p, w, h, mem, i, j)),
+        ListCall::Fetch {
+            ring,
+            i,
+            j,
+            pattern,
+            ..
+        } => {
+            let s = start_number(pattern);
+            let start = starts[s];
+            let e = entry_number(pattern as usize);
+            let t = book.patterns[e];
+            let positions = start.positions;
+            let counted = fetch_rest(start.outcome, ring, t, p, w, h, mem, i, j, out);
+            fetched_row(FetchAnswer { counted, positions }, r)
+        }
+        ListCall::MakeSums => answer_row(make_sums(p, w, h, mem, sums)),
+        ListCall::Sum { bank } => answer_row(sum(p, w, h, mem, bank)),
+        ListCall::ReadSum { bank } => answer_row(read_sum(p, sums, bank)),
     }
-    if 4 < kind {
-        return sums_call(p, w, h, mem, sums, kind, n);
-    }
-    let x = coordinate(i);
-    let y = coordinate(j);
-    if kind == 0 {
-        return answer_row(store(p, w, h, mem, sums, x, y, (n % 65536) as u16));
-    }
-    if kind == 2 {
-        return answer_row(load(p, w, h, mem, x, y));
-    }
-    let outcome = start.outcome;
-    let positions = start.positions;
-    let counted = fetch_rest(outcome, kind == 4, t, p, w, h, mem, x, y, out);
-    fetched_row(FetchAnswer { counted, positions }, r)
 }
 
 // Makes the calls of a list of numbers, five to a call, one after the other.
@@ -179,27 +232,21 @@ fn make_calls(
     ensures { buffers mem.new sums.new outs.new rows.new ≡ made_list (setting book r p w h) numbers.now (buffers mem.old sums.old outs.old rows.old) }
 {
     let mut at = 0;
-    for (c, call) in numbers.chunks_exact(5).enumerate() {
-        let kind = call[0];
-        let n = call[3];
-        let s = start_number(n);
-        let start = starts[s];
-        let e = entry_number(n as usize);
-        let t = book.patterns[e];
-        let end = at + room_of(kind, call[4]) as usize;
+    for (c, five) in numbers.chunks_exact(5).enumerate() {
+        let Some(call) = ListCall::read(five) else {
+            unreachable!();
+        };
+        let end = at + call.room() as usize;
         let row = make_call(
-            start,
-            t,
+            &book,
+            &starts,
             r,
             p,
             w,
             h,
             mem,
             sums,
-            kind,
-            call[1],
-            call[2],
-            n,
+            call,
             &mut outs[at..end],
         );
         put_row(row, &mut rows[12 * c..]);

@@ -1,49 +1,58 @@
--- `pictures::lists::make_call` meets its contract: each kind of call, and what the code does for it.
+-- `pictures::lists::make_call` meets its contract: each call, and what the code does for it.
 -- Assumes nothing.
-use Rattle.std.proofs.Common.{◌≡◌, ℕ, ◌^◌, ◌<◌, ℤ, ◌∙◌, ap₂, w16, to_z, of_z}
-use lib.Signed.{mag}
-use mir.Val.{hbits}
-use Rattle.scope.specs.Plans.{at}
+use Rattle.std.proofs.Common.{length, ap, ◌∙◌, sym, rules, w16}
+use Rattle.scope.specs.Plans.{pattern_at}
 use Rattle.scope.proofs.PlanFacts.{entry_handed}
-use Rattle.pictures.specs.Lists.{coordinate_of}
-use Rattle.pictures.proofs.MadeCalls.{clear_made, store_made, load_made, fetch_made}
+use Rattle.pictures.specs.Lists.{call_read}
+use Rattle.pictures.proofs.Starts.{found_by_lem, entry_is, started}
+use Rattle.pictures.proofs.Positions.{positions_long}
+use Rattle.pictures.proofs.MadeCalls.{clear_made, sums_made, walk_made, read_made, store_made, load_made, fetch_made}
+use Rattle.pictures.proofs.ListTurns.{start_known}
 use Rattle.pictures.proofs.lists.make_call.Goals as goal
 
--- the pixel of the numbers
-pixel-is :
-    {x y : ℤ} (i j : ℕ) → mag x < 2 ^ hbits w16 → mag y < 2 ^ hbits w16 → x ≡ coordinate_of i → y ≡ coordinate_of j
-    → at (to_z w16 (of_z w16 x)) (to_z w16 (of_z w16 y)) ≡ at (coordinate_of i) (coordinate_of j)
-pixel-is i j fx fy ex ey = entry_handed w16 _ _ fx fy ∙ ap₂ at ex ey
-
-pub returns-then-kind-eq1 : goal.returns-then-kind-eq1
-returns-then-kind-eq1 c =
-    λ book start entry.
-    clear_made _ _ _ _ _ _ _ _ _ _ _ c.if-kind-eq1.true (c.clear.ensures.answer, c.clear.ensures.left) c.answer_row.ensures
-
-pub returns-then-kind-gt4 : goal.returns-then-kind-gt4
-returns-then-kind-gt4 c = λ book start entry. c.sums_call.ensures _ _ _ _ _
-
-pub returns-then-kind-eq0 : goal.returns-then-kind-eq0
-returns-then-kind-eq0 c =
-    λ book start entry.
-    store_made _ _ _ _ _ _ _ _ _ _ _
-    (pixel-is _ _ c.coordinate-x.type_inv c.coordinate-y.type_inv c.coordinate-x.ensures c.coordinate-y.ensures) c.if-kind-eq0.true
-    (c.store.ensures.answer, c.store.ensures.left) c.answer_row-then-kind-eq0.ensures
-
-pub returns-then-kind-eq2 : goal.returns-then-kind-eq2
-returns-then-kind-eq2 c =
-    λ book start entry.
-    load_made _ _ _ _ _ _ _ _ _ _ _
-    (pixel-is _ _ c.coordinate-x.type_inv c.coordinate-y.type_inv c.coordinate-x.ensures c.coordinate-y.ensures) c.if-kind-eq2.true
-    c.load.ensures c.answer_row-then-kind-eq2.ensures
-
-pub returns : goal.returns
-returns c =
-    λ book start entry.
-    fetch_made _ _ _ _ _ _ _ _ _ _ _
-    (pixel-is _ _ c.coordinate-x.type_inv c.coordinate-y.type_inv c.coordinate-x.ensures c.coordinate-y.ensures) c.if-kind-eq0.false
-    c.if-kind-eq1.false c.if-kind-eq2.false c.if-kind-gt4.false start entry c.fetch_rest-counted.ensures c.fetched_row.ensures
-
 pub fetch_rest-counted-requires : goal.fetch_rest-counted-requires
+unfolding pattern_at
 fetch_rest-counted-requires c =
-    c.requires.0
+    let s = start_known _ _ _ _ _ _ _ c.requires c.start_number-s.ensures in
+    λ found.
+    let shown = started _ _ _ _ _ _ _ (sym (found_by_lem _ s.outcome_is) ∙ found) in
+    (shown.picture, rw (entry_is c.args.book.now c.in-Fetch.pattern c.entry_number-e.ensures) shown.most)
+
+pub returns-in-Store : goal.returns-in-Store
+unfolding call_read
+returns-in-Store c =
+    rw c.in-Store.is
+    (store_made _ _ _ _ _ _ _ (entry_handed w16 c.in-Store.i c.in-Store.j (search rules) (search rules)) _ (c.store.ensures.answer, c.store.ensures.left)
+    c.answer_row.ensures)
+
+pub returns-in-Clear : goal.returns-in-Clear
+unfolding call_read
+returns-in-Clear c =
+    rw c.in-Clear.is (clear_made _ _ _ _ _ _ _ _ (c.clear.ensures.answer, c.clear.ensures.left) c.answer_row-in-Clear.ensures)
+
+pub returns-in-Load : goal.returns-in-Load
+unfolding call_read
+returns-in-Load c =
+    rw c.in-Load.is
+    (load_made _ _ _ _ _ _ _ (entry_handed w16 c.in-Load.i c.in-Load.j (search rules) (search rules)) c.load.ensures c.answer_row-in-Load.ensures)
+
+pub returns-in-Fetch : goal.returns-in-Fetch
+unfolding call_read pattern_at
+returns-in-Fetch c =
+    rw c.in-Fetch.is
+    (fetch_made _ _ _ _ _ _ _ (entry_handed w16 c.in-Fetch.i c.in-Fetch.j (search rules) (search rules)) _ _
+    (start_known _ _ _ _ _ _ _ c.requires c.start_number-s.ensures)
+    (entry_is c.args.book.now c.in-Fetch.pattern c.entry_number-e.ensures) c.fetch_rest-counted.ensures c.fetched_row.ensures)
+
+pub returns-in-MakeSums : goal.returns-in-MakeSums
+unfolding call_read
+returns-in-MakeSums c =
+    rw c.in-MakeSums.is (sums_made _ _ _ _ _ _ _ (c.make_sums.ensures.answer, c.make_sums.ensures.left) c.answer_row-in-MakeSums.ensures)
+
+pub returns-in-Sum : goal.returns-in-Sum
+unfolding call_read
+returns-in-Sum c = rw c.in-Sum.is (walk_made _ _ _ _ _ _ _ _ c.sum.ensures c.answer_row-in-Sum.ensures)
+
+pub returns-in-ReadSum : goal.returns-in-ReadSum
+unfolding call_read
+returns-in-ReadSum c = rw c.in-ReadSum.is (read_made _ _ _ _ _ _ _ _ c.read_sum.ensures c.answer_row-in-ReadSum.ensures)
