@@ -11,7 +11,7 @@ use Rattle.scope.specs.Search.{state_after, replies_of}
 use Rattle.scope.specs.Banks.{over_start}
 use Rattle.scope.specs.Calls.{Lent}
 use Rattle.scope.specs.promises.Demand.{Call, Setting, after, reply, run, replies}
-use Rattle.pictures.specs.Lists.{call_of, call_at, room_of, room_at, calls_from, calls_of, list_fault, list_test, listed_by, left_by, reply_numbers, output_of, Buffers, buffers, made_list, run_list, BegunAt, no_start, Begun, OneMade, is_call_at}
+use Rattle.pictures.specs.Lists.{call_at, room_at, calls_from, calls_of, list_fault, list_test, listed_by, left_by, reply_numbers, output_of, Buffers, buffers, made_list, run_list, BegunAt, no_start, Begun, OneMade, is_call_at}
 use Rattle.checks.proofs.Chains.{Gives}
 use Rattle.scope.specs.declared.Book.{Book}
 use Rattle.scope.specs.declared.Plan.{Plan}

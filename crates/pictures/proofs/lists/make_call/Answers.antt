@@ -1,11 +1,10 @@
 -- `pictures::lists::make_call` meets its contract: each call, and what the code does for it.
 -- Assumes nothing.
-use Rattle.std.proofs.Common.{length, ap, ◌∙◌, sym, rules, w16}
+use Rattle.std.proofs.Common.{◌∙◌, sym, rules, w16}
 use Rattle.scope.specs.Plans.{pattern_at}
 use Rattle.scope.proofs.PlanFacts.{entry_handed}
 use Rattle.pictures.specs.Lists.{call_read}
 use Rattle.pictures.proofs.Starts.{found_by_lem, entry_is, started}
-use Rattle.pictures.proofs.Positions.{positions_long}
 use Rattle.pictures.proofs.MadeCalls.{clear_made, sums_made, walk_made, read_made, store_made, load_made, fetch_made}
 use Rattle.pictures.proofs.ListTurns.{start_known}
 use Rattle.pictures.proofs.lists.make_call.Goals as goal
