@@ -1,5 +1,5 @@
 // The table for an r above 1: the pixels of a book as cells of the window. counting.rt tries plans on it.
-ghost use Rattle.std.specs.Prelude.{◌≡◌, ◌≤◌, ◌<◌};
+ghost use Rattle.std.specs.Prelude.{◌≡◌, ◌≤◌, ◌<◌, replicate};
 ghost use Rattle.std.proofs.Math.Option.{none};
 ghost use Rattle.scope.specs.Numbers.{record_test};
 ghost use Rattle.finder.specs.Counting.{pattern_entry, cells_of, EntriesPut};
@@ -32,20 +32,15 @@ fn entry_of(t: Pattern, k: usize) -> u16
 }
 
 impl Cells {
-    // Those of a legal book; the entries after its patterns stay 0.
-    pub(crate) fn of(book: Book, r: u8) -> Cells
-        requires { record_test book ≡ none }
-        ensures { (result.entries ≡ cells_of book) × (result.r ≡ r) }
+    // Puts the entries of a legal book's patterns; the rest stays 0.
+    pub(crate) fn put_book(&mut self, book: &Book)
+        requires { (record_test book.now ≡ none) × (self.old.entries ≡ replicate 1040 0) }
+        ensures { (self.new.entries ≡ cells_of book.now) × (self.new.r ≡ self.old.r) }
     {
-        let mut cells = Cells {
-            entries: [0; 1040],
-            r,
-        };
         let count = book.count;
         for n in 0..count {
-            cells.put_entries(book.patterns[n], n);
+            self.put_entries(book.patterns[n], n);
         }
-        cells
     }
 
     // Puts the entries of the pattern t, number n.

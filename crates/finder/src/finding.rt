@@ -65,9 +65,16 @@ fn plan_for(book: Book, r: u8, limit: usize) -> Result<Plan, Refusal>
     ensures { result ≡ found (least_plan_for r (patterns book) limit) }
 {
     if r == 1 {
-        least_plan(&Marks::of(book), limit)
+        let mut marks = Marks { cells: [0; 2017] };
+        marks.mark_book(&book);
+        least_plan(&marks, limit)
     } else {
-        least_plan(&Cells::of(book, r), limit)
+        let mut cells = Cells {
+            entries: [0; 1040],
+            r,
+        };
+        cells.put_book(&book);
+        least_plan(&cells, limit)
     }
 }
 

@@ -1,6 +1,6 @@
 // The table for r = 1. It has the differences of a book's patterns in the upper half window, rows 0 to 31 and columns -31 to 31; a
 // plan suits if no cell of its lattice is marked, but for the origin's.
-ghost use Rattle.std.specs.Prelude.{◌≡◌, ◌+◌, ◌*◌, ◌%◌, ◌≤◌, ◌<◌};
+ghost use Rattle.std.specs.Prelude.{◌≡◌, ◌+◌, ◌*◌, ◌%◌, ◌≤◌, ◌<◌, replicate};
 ghost use Rattle.std.proofs.Math.Option.{none};
 ghost use Rattle.scope.specs.Plans.{at, minus};
 ghost use Rattle.scope.specs.Numbers.{record_test};
@@ -33,17 +33,16 @@ fn difference_cell(i: i8, j: i8, x: i8, y: i8) -> usize
 }
 
 impl Marks {
-    // Those of a legal book.
-    pub(crate) fn of(book: Book) -> Marks
-        requires { record_test book ≡ none }
-        ensures { result.cells ≡ mark_book book book.count }
+    // Marks the differences of a legal book's patterns in an empty table. The table stays where it is, as a result of this size
+    // would be copied.
+    pub(crate) fn mark_book(&mut self, book: &Book)
+        requires { (record_test book.now ≡ none) × (self.old.cells ≡ replicate 2017 0) }
+        ensures { self.new.cells ≡ mark_book book.now book.now.count }
     {
-        let mut marks = Marks { cells: [0; 2017] };
         let count = book.count;
         for n in 0..count {
-            marks.mark_pattern(book.patterns[n]);
+            self.mark_pattern(book.patterns[n]);
         }
-        marks
     }
 
     // Marks the differences of a pattern.

@@ -36,7 +36,7 @@ module _ (book : Book) (legal : record_test book ≡ none) (r limit : ℕ) {resu
       (record { book = book; legal = legal; entries = is.0; is = ap (λ (r : ℕ). suitable_for r (patterns book)) (sym is.1) })
 
 pub returns-then-r-eq1 : goal.returns-then-r-eq1
-returns-then-r-eq1 c = by_marks _ c.requires.0 _ _ _ c.least_plan.ensures c.of.ensures c.if-r-eq1.true
+returns-then-r-eq1 c = by_marks _ c.requires.0 _ _ _ c.least_plan.ensures c.mark_book.ensures c.if-r-eq1.true
 
 pub returns-else-r-eq1 : goal.returns-else-r-eq1
-returns-else-r-eq1 c = by_cells _ c.requires.0 _ _ _ _ c.least_plan-else-r-eq1.ensures c.of-else-r-eq1.ensures
+returns-else-r-eq1 c = by_cells _ c.requires.0 _ _ _ _ c.least_plan-else-r-eq1.ensures c.put_book.ensures
