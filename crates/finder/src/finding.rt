@@ -45,7 +45,9 @@ fn first_with<T: Trial>(trial: &T, n: usize) -> Result<Plan, Refusal>
     best
 }
 
-// Of the suiting plans with at most `limit` banks the one with the fewest, or 7.
+// Of the suiting plans with at most `limit` banks the one with the fewest, or 7. A call of its own, so that the caller's stack does
+// not hold both tables and what both searches need.
+#[inline(never)]
 fn least_plan<T: Trial>(trial: &T, limit: usize) -> Result<Plan, Refusal>
     requires { limit ≤ 1024 }
     ensures { Searched (T.tests trial.now) (λ test. least_of test limit) result }

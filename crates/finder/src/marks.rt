@@ -107,6 +107,8 @@ impl Marks {
 impl Trial for Marks {
     ghost tests = { λ marks. TestOf marks.cells };
 
+    // A call of its own: put where its a is seen to be a quotient, its loops come out slower.
+    #[inline(never)]
     fn least_b(&self, a: usize, d: usize, below: usize) -> Result<Plan, Refusal> {
         if self.row_marked(a, 0, 31 + a) {
             return Err(Refusal::NoPlan);
