@@ -21,6 +21,7 @@ pub mod Starts  -- the tests that both fetches begin with
 pub mod Wrapped  -- the words at wrapped pixels, put to an output
 pub mod ReplyRows  -- a reply's twelve numbers
 pub mod ListFaults  -- what is wrong with a list of numbers
+pub mod CallPlaces  -- a call of a list, by the numbers from a place on
 pub mod ListNumbers  -- every list of calls has numbers
 pub mod Stretches  -- something put into a list, stretch after stretch
 pub mod MadeCalls  -- one call of a list, made by the code

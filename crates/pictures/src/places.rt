@@ -44,6 +44,7 @@ pub(crate) fn picture_outcome(p: Plan, w: u32, h: u32, words: usize) -> Result<(
 }
 
 // The place of the word of the pixel (i, j), or 11, 12, 13, 14.
+#[inline(always)]
 pub(crate) fn word_place(
     p: Plan,
     w: u32,

@@ -32,6 +32,7 @@ pub fn store(
 }
 
 // The word at the pixel (i, j), or 11, 12, 13, 14.
+#[inline(always)]
 pub fn load(p: Plan, w: u32, h: u32, mem: &[u16], i: i16, j: i16) -> Result<u16, Refusal>
     ensures { result ≡ load p w h mem.now (at i j) }
 {

@@ -13,11 +13,12 @@ use Rattle.scope.specs.Numbers.{is_side, plan_test, sides_test, outside_test}
 use Rattle.scope.specs.Calls.{answered, address_test}
 use Rattle.scope.specs.declared.Plan.{Plan}
 use Rattle.scope.specs.declared.Refusal.{Refusal}
+use Rattle.std.specs.Prelude.{Result, Ok, Err}
 use Rattle.scope.specs.declared.formulas.Layout.{Layout}
 use Rattle.scope.specs.declared.formulas.Spot.{Spot}
 use Rattle.scope.specs.declared.Refusal.TheVariants.{NotPlan, Sides, Outside}
 use Rattle.scope.proofs.Chains.{whenever_none, none_whenever, some_whenever, chain_none_iff, chain_refuses, chain_goes_on, chain_of_one}
-use Rattle.scope.proofs.Chains.{tests_as_one, gives_value, gives_refusal}
+use Rattle.scope.proofs.Chains.{tests_as_one, gives_value, gives_refusal, done_found_nothing}
 
 -- the code asks `!r` for a test t whose value r a callee gave
 pub fails : {r t : Bool} → r ≡ t → not r ≡ true → t ≡ false
@@ -114,6 +115,19 @@ module _ (p : Plan) (W H : ℕ) (v : Pixel) where
 
     pub pixel_passes : inside W H v ≡ true → address_test p W H v ≡ none
     pixel_passes e = past_picture ∙ demand_met (inside W H v) Outside e
+
+  pub pixel_passed : address_test p W H v ≡ none → (is_plan p ≡ true) × (is_side W && is_side H ≡ true) × (inside W H v ≡ true)
+  pixel_passed e =
+      let (picture, pixel) = (chain_none_iff (picture_tests p W H) (outside_test W H (v ∷ []) ∷ [])).0 (sym as_two ∙ e) in
+      let (plan, sides) = both_passed p W H picture in
+      (plan, sides, demanded (inside W H v) Outside (sym one_left ∙ pixel))
+
+  abbrev pub pixel_outcome : Result Unit Refusal
+  pixel_outcome = answered (address_test p W H v) Err (Ok tt)
+
+  pub pixel_done : {o : Result Unit Refusal} → o ≡ pixel_outcome → o ≡ Ok tt
+      → (is_plan p ≡ true) × (is_side W && is_side H ≡ true) × (inside W H v ≡ true)
+  pixel_done is e = pixel_passed (done_found_nothing (address_test p W H v) is e)
 
 -- What a layout and a spot are: 11 and 12 are passed, and 14
 pub layout_passes : (l : Layout) → picture_tests l.tested.plan l.w l.h ≡ none
