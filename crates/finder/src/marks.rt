@@ -71,16 +71,19 @@ impl Marks {
         }
     }
 
-    // Whether a cell s, s + a, .. of row j is marked.
+    // Whether a cell s, s + a, .. of row j is marked. A range in steps of a would test twice for the row's end at each cell.
     fn row_marked(&self, a: usize, j: usize, s: usize) -> bool
         requires { (1 ≤ a) × (a ≤ 1024) × (j < 32) × (s < 2048) }
         ensures { result ≡ row_marked self.now.cells a j s }
     {
         let first = 63 * j;
-        for x in (s..63).step_by(a) {
-            if self.cells[first + x] == 1 {
+        let row = &self.cells[first..first + 63];
+        let mut x = s;
+        while let Some(cell) = row.get(x) {
+            if *cell == 1 {
                 return true;
             }
+            x += a;
         }
         false
     }
@@ -107,8 +110,6 @@ impl Marks {
 impl Trial for Marks {
     ghost tests = { λ marks. TestOf marks.cells };
 
-    // A call of its own: put where its a is seen to be a quotient, its loops come out slower.
-    #[inline(never)]
     fn least_b(&self, a: usize, d: usize, below: usize) -> Result<Plan, Refusal> {
         if self.row_marked(a, 0, 31 + a) {
             return Err(Refusal::NoPlan);

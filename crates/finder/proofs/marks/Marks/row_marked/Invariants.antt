@@ -4,8 +4,8 @@ use Prim.Native.Nat.{◌-◌}
 use Rattle.finder.proofs.RowTests.{CellsPassed}
 use Rattle.finder.proofs.marks.Marks.row_marked.Given as goal
 
-abbrev pub invariant-loop-x : goal.invariant-loop-x
-invariant-loop-x l = CellsPassed l.self.cells l.a l.j l.s l.x
+abbrev pub invariant-loop-cell : goal.invariant-loop-cell
+invariant-loop-cell l = CellsPassed l.self.cells l.a l.j l.s l.x
 
-abbrev pub decreases-loop-x : goal.decreases-loop-x
-decreases-loop-x l = 63 - l.x
+abbrev pub decreases-loop-cell : goal.decreases-loop-cell
+decreases-loop-cell l = 63 - l.x
