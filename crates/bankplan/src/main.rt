@@ -54,6 +54,7 @@ fn answer(buf: &[u8], count: usize) -> Text
 }
 
 // Writes the text of the input. One byte more than any book has is enough to tell that the input is too long.
+#[tactic(auto, using(crate::proofs::Written::answer_fits, crate::proofs::Written::answer_bytes))]
 fn run<R: Read, W: Write>(input: &mut R, output: &mut W) -> Result<(), Failure>
     ensures answers { OnOk result (IfSome (R.remaining input.old) (λ s. Appends (W.contents output.old) (W.contents output.new) (program_text s))) }
     ensures failed { IfErr result (λ f. OnInput f (Keeps (W.contents output.old) (W.contents output.new))) }
@@ -61,7 +62,9 @@ fn run<R: Read, W: Write>(input: &mut R, output: &mut W) -> Result<(), Failure>
     let mut buf = [0u8; 2066];
     let count = read_input(input, &mut buf).map_err(Failure::Input)?;
     let text = answer(&buf, count);
-    output.write_all(text.as_bytes()).map_err(Failure::Output)
+    output
+        .write_all(&text.bytes[..text.length])
+        .map_err(Failure::Output)
 }
 
 // Standard error tells what failed; the status is 0 all the same.

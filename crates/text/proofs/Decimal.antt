@@ -12,7 +12,7 @@ use Rattle.scope.specs.promises.BookPromises.{number_in, DecimalMeans}
 
 -- What holds of a number of one digit, and of a number if it holds of the number without its last digit in front of that
 -- digit, holds of all that `digits` writes, if the steps suffice.
-by_digits :
+pub by_digits :
     (P : ℕ → List ℕ → List ℕ → Type 0)
     → ((n : ℕ) (rest : List ℕ) → n / 10 ≡ 0 → P n rest ((48 + n % 10) ∷ rest))
     → ((n : ℕ) (rest text : List ℕ) → 0 < n / 10 → P (n / 10) ((48 + n % 10) ∷ rest) text → P n rest text)

@@ -4,9 +4,12 @@
 mod lines;
 mod program;
 
-use arrayvec::ArrayString;
 pub use lines::{planned_text, refused_text};
 pub use program::program_text;
 
-// A text of at most 80 bytes.
-pub type Text = ArrayString<80>;
+// A text of at most 80 bytes, of which the first `length` count; the others are 0.
+#[derive(Clone, Copy)]
+pub struct Text {
+    pub bytes: [u8; 80],
+    pub length: usize,
+}

@@ -1,49 +1,67 @@
 // The lines of an answer. The numbers go by `itoa`: `write!` does not say when it succeeds, and these functions cannot fail.
 ghost use Rattle.std.specs.Prelude.{◌≡◌, ◌++◌, ◌+◌, ◌≤◌, length};
+ghost use Rattle.std.specs.Fmt.{decimal};
 ghost use Rattle.arrayvec.specs.ArrayString.{array_string_len};
 ghost use Rattle.scope.specs.Program.{plan_lines, refused_line, plan_text};
+ghost use Rattle.text.specs.Texts.{text_of};
 
 use crate::Text;
-use itoa::{Buffer, Integer};
+use arrayvec::ArrayString;
+use itoa::Buffer;
 use scope::{Plan, Refusal, number_of};
 
-// Puts the text s and the decimal digits of n.
-fn put_number<I: Integer>(text: &mut Text, s: &str, n: I)
-    requires { array_string_len text.old + length s.now + I.MAX_STR_LEN ≤ 80 }
-    ensures bytes { text.new.bytes ≡ text.old.bytes ++ s.now ++ I.text n }
-    ensures room { array_string_len text.new ≤ array_string_len text.old + length s.now + I.MAX_STR_LEN }
+// The lines while they are put together.
+type Lines = ArrayString<80>;
+
+// Puts the text s and the decimal digits of n, of which there are at most 20.
+fn put_number(lines: &mut Lines, s: &str, n: u64)
+    requires { array_string_len lines.old + length s.now + 20 ≤ 80 }
+    ensures bytes { lines.new.bytes ≡ lines.old.bytes ++ s.now ++ decimal n }
+    ensures len { array_string_len lines.new ≡ array_string_len lines.old + length s.now + length (decimal n) }
 {
     let mut digits = Buffer::new();
-    text.push_str(s);
-    text.push_str(digits.format(n));
+    lines.push_str(s);
+    lines.push_str(digits.format(n));
+}
+
+// The lines as a text.
+fn finished(lines: Lines) -> Text
+    ensures { result ≡ text_of lines.bytes }
+{
+    let mut bytes = [0; 80];
+    let length = lines.len();
+    bytes[..length].copy_from_slice(lines.as_str().as_bytes());
+    Text { bytes, length }
 }
 
 // The lines of a plan.
+#[tactic(auto, using(crate::proofs::LineParts::printed_at_most, crate::proofs::LineParts::printed_at_most_10))]
 fn plan_text(p: Plan) -> Text
-    ensures { result.bytes ≡ plan_lines p }
+    ensures { result ≡ text_of (plan_lines p) }
 {
-    let mut text = Text::new();
-    put_number(&mut text, "banks ", p.banks());
-    put_number(&mut text, "\nplan ", p.a);
-    put_number(&mut text, " ", p.b);
-    put_number(&mut text, " ", p.d);
-    text.push_str("\n");
-    text
+    let mut lines = Lines::new();
+    put_number(&mut lines, "banks ", p.banks());
+    put_number(&mut lines, "\nplan ", p.a as u64);
+    put_number(&mut lines, " ", p.b as u64);
+    put_number(&mut lines, " ", p.d as u64);
+    lines.push_str("\n");
+    finished(lines)
 }
 
 // The line of a refusal.
+#[tactic(auto, using(crate::proofs::LineParts::printed_at_most))]
 pub fn refused_text(r: Refusal) -> Text
-    ensures { result.bytes ≡ refused_line r }
+    ensures { result ≡ text_of (refused_line r) }
 {
-    let mut text = Text::new();
-    put_number(&mut text, "refused ", number_of(r));
-    text.push_str("\n");
-    text
+    let mut lines = Lines::new();
+    put_number(&mut lines, "refused ", number_of(r));
+    lines.push_str("\n");
+    finished(lines)
 }
 
 // What the program writes for the finder's answer.
 pub fn planned_text(p: Result<Plan, Refusal>) -> Text
-    ensures { result.bytes ≡ plan_text p }
+    ensures { result ≡ text_of (plan_text p) }
 {
     match p {
         Ok(q) => plan_text(q),

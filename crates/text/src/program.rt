@@ -1,7 +1,7 @@
 // What the program writes for the bytes that it reads.
 ghost use Rattle.std.specs.Prelude.{◌≡◌};
 ghost use Rattle.scope.specs.Program.{program_text};
-ghost use Rattle.text.specs.Texts.{AlsoOfLonger};
+ghost use Rattle.text.specs.Texts.{text_of, AlsoOfLonger};
 
 use crate::Text;
 use crate::lines::{planned_text, refused_text};
@@ -10,7 +10,7 @@ use finder::find;
 
 // The text for a book's bytes. Of an input that is longer than any book its first 2,066 bytes are enough.
 pub fn program_text(s: &[u8]) -> Text
-    ensures text { result.bytes ≡ program_text s.now }
+    ensures text { result ≡ text_of (program_text s.now) }
     ensures longer { AlsoOfLonger s.now result }
 {
     let reading = read_book(s);

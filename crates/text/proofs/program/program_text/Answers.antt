@@ -9,6 +9,7 @@ use Rattle.scope.specs.declared.Reading.{Reading}
 use Rattle.scope.specs.declared.Refusal.{Refusal}
 use Rattle.text.proofs.ProgramText.{text_of_read, text_of_refused}
 use Rattle.text.proofs.ProgramTexts.{also_of_longer}
+use Rattle.text.specs.Texts.{text_of}
 use Rattle.text.proofs.program.program_text.Goals as goal
 use Rattle.text.proofs.program.program_text.Goals.{After-refused_text, After-planned_text}
 
@@ -24,14 +25,16 @@ module _ (s : List ℕ) (reading : Reading) (is_read : reading ≡ read_book s) 
       (p : Result Plan Refusal) → reading.outcome ≡ Ok tt → p ≡ find reading.book 1 1024 → plan_text p ≡ program_text s
   text_of_found p done found = ap plan_text (rw is_read at found) ∙ text_of_read s (outcome_is (Ok tt) done)
 
-refused : (c : After-refused_text) → c.refused_text.result.bytes ≡ program_text c.args.s.now
+refused : (c : After-refused_text) → c.refused_text.result ≡ text_of (program_text c.args.s.now)
 refused c =
-    c.refused_text.ensures ∙ text_of_refusal c.args.s.now c.read_book-reading.result c.read_book-reading.ensures c.in-Err.r c.in-Err.is
+    c.refused_text.ensures
+    ∙ ap text_of (text_of_refusal c.args.s.now c.read_book-reading.result c.read_book-reading.ensures c.in-Err.r c.in-Err.is)
 
-planned : (c : After-planned_text) → c.planned_text.result.bytes ≡ program_text c.args.s.now
+planned : (c : After-planned_text) → c.planned_text.result ≡ text_of (program_text c.args.s.now)
 planned c =
     c.planned_text.ensures
-    ∙ text_of_found c.args.s.now c.read_book-reading.result c.read_book-reading.ensures c.find.result c.in_default.is c.find.ensures
+    ∙ ap text_of
+    (text_of_found c.args.s.now c.read_book-reading.result c.read_book-reading.ensures c.find.result c.in_default.is c.find.ensures)
 
 pub returns-in-Err-clause-text : goal.returns-in-Err-clause-text
 returns-in-Err-clause-text c = refused c
